@@ -1,0 +1,5 @@
+pub mod Examples
+pub mod Test
+pub mod Product
+pub mod Published
+pub mod Setup

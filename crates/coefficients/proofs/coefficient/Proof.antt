@@ -1,0 +1,21 @@
+-- `coefficient` meets its contract: the table of the code is the list that `cfode`'s recurrences give, by computation.
+-- Assumes nothing.
+use mathlib.Core.Path.{refl}
+use borrow.Author.Needs.{needs}
+use lib.Ieee.{ofBits}
+use Rattle.coefficients.specs.Cfode.{cfodeOf}
+use Rattle.coefficients.proofs.coefficient.Statement.{statement}
+use Rattle.coefficients.proofs.coefficient.Tie as tie
+
+mul-result : tie.Need-mul-result
+mul-result c = search needs
+
+array-read-result : tie.Need-array-read-result
+array-read-result c = search needs
+
+returns : tie.Need-returns
+unfolding cfodeOf ofBits
+returns c = refl
+
+pub coefficient-spec : {M : Type 1} → statement M
+coefficient-spec = tie.close (tie.spec mul-result array-read-result returns)

@@ -1,0 +1,3 @@
+pub mod Cfode
+pub mod Table
+pub mod Published

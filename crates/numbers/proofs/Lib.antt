@@ -1,0 +1,4 @@
+pub mod Unique
+pub mod Sign
+pub mod Bits
+pub mod Literals

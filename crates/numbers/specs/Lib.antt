@@ -1,0 +1,3 @@
+pub mod Float
+pub mod Sign
+pub mod Order

@@ -1,0 +1,17 @@
+-- What the test of an order tells. Assumes nothing.
+use Prim.Native.Nat.{ℕ, _≤_}
+use mathlib.Core.Path.{_≡_, refl}
+use mathlib.Core.Bool.{Bool, true, false, _&&_}
+use lib.Dec.{leb}
+use borrow.Author.Tests.{leb-true}
+use Rattle.probe.specs.Probe.{isOrder}
+
+both : (a b : Bool) → (a && b) ≡ true → (a ≡ true) × (b ≡ true)
+both true b h = (refl, h)
+both false b h = (h, (cc))
+
+pub within : (order last : ℕ) → isOrder order last ≡ true → (1 ≤ order) × (order ≤ last)
+unfolding isOrder
+within order last h =
+    let p = both (leb 1 order) (leb order last) h in
+    (leb-true 1 order (p .0), leb-true order last (p .1))

@@ -1,0 +1,70 @@
+-- `probe_elco` meets its contract: each way returns what `elcoAt` says under the tests that led there.
+-- Assumes nothing.
+use mathlib.Core.Path.{sym, _∙_}
+use native.Mathlib.Omega.{arith}
+use borrow.Author.Needs.{needs}
+use borrow.Author.Tests.{le-leb, lt-leb}
+use Rattle.probe.specs.Probe.{elcoAt}
+use Rattle.probe.proofs.Order.{within}
+use Rattle.probe.proofs.probe_elco.Statement.{statement}
+use Rattle.probe.proofs.probe_elco.Tie as tie
+
+not-a-number-requires : tie.Need-not-a-number-requires
+not-a-number-requires c κs = search needs
+
+returns : tie.Need-returns
+unfolding elcoAt
+returns c = rw (c .not-a-number .ensures, lt-leb (c .before .before .args .table) 2 (omega arith))
+
+not-a-number-requires-2 : tie.Need-not-a-number-requires-2
+not-a-number-requires-2 c κs = search needs
+
+returns-2 : tie.Need-returns-2
+unfolding elcoAt
+returns-2 c =
+    let a = c .before .before .before .args in
+    rw (c .not-a-number2 .ensures, le-leb (a .table) 2 (omega arith), lt-leb (a .i) 12 (omega arith))
+
+is-order-requires : tie.Need-is-order-requires
+is-order-requires c κs = search needs
+
+elco-requires : tie.Need-elco-requires
+elco-requires c κs = omega (arith, within _ _ (sym (c .before .is-order .ensures) ∙ c .if3 .taken))
+
+returns-3 : tie.Need-returns-3
+unfolding elcoAt
+returns-3 c =
+    let w = c .before .before in
+    let a = w .before .before .before .args in
+    rw (le-leb (a .table) 2 (omega arith), le-leb (a .i) 12 (omega arith), ← w .is-order .ensures, c .before .if3 .taken)
+    (c .elco .ensures)
+
+not-a-number-requires-3 : tie.Need-not-a-number-requires-3
+not-a-number-requires-3 c κs = search needs
+
+returns-4 : tie.Need-returns-4
+unfolding elcoAt
+returns-4 c =
+    let w = c .before .before in
+    let a = w .before .before .before .args in
+    rw (
+      c .not-a-number3 .ensures,
+      le-leb (a .table) 2 (omega arith),
+      le-leb (a .i) 12 (omega arith),
+      ← w .is-order .ensures,
+      c .before .if3 .left,
+    )
+
+pub probe-elco-spec : {M : Type 1} → statement M
+probe-elco-spec =
+    tie.close
+    (tie.spec
+    not-a-number-requires
+    returns
+    not-a-number-requires-2
+    returns-2
+    is-order-requires
+    elco-requires
+    returns-3
+    not-a-number-requires-3
+    returns-4)

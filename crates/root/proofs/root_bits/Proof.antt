@@ -1,0 +1,44 @@
+-- `root_bits` meets its contract: the bits still to be tried, from the pattern so far, give the whole pattern.
+-- The pattern ends above the bit that is next, so the candidate stays below 2^63.
+use Prim.Native.Nat.{_+_, _-_, _*_, _≤_}
+use mathlib.Core.Path.{_≡_, refl, ap}
+use native.Mathlib.Omega.{arith}
+use Rattle.loops.specs.For.{for, again, ended}
+use Rattle.root.specs.Root.{Kept, turnOf, bitsOf}
+use Rattle.root.proofs.root_bits.Statement.{statement}
+use Rattle.root.proofs.root_bits.Tie as tie
+
+abbrev Inv-loop : tie.InvT-loop
+Inv-loop x k bits₀ bit₀ counter₀ bits bit counter =
+    (bits + 2 * bit ≤ 0x8000_0000_0000_0000)
+    × (for counter 63 (turnOf x k) (record { bits = bits; bit = bit })
+    ≡ for 0 63 (turnOf x k) (record { bits = 0; bit = 0x4000_0000_0000_0000 }))
+
+abbrev μ-loop : tie.MeasureT-loop
+μ-loop x k bits₀ bit₀ counter₀ bits bit counter = 63 - counter
+
+loop-holds : tie.Need-loop-holds Inv-loop μ-loop
+loop-holds c = (omega arith, refl)
+
+keep-requires : tie.Need-keep-requires Inv-loop μ-loop
+keep-requires c κs = omega arith
+
+add-counter : tie.Need-add-counter Inv-loop μ-loop
+add-counter c = omega arith
+
+loop-less : tie.Need-loop-less Inv-loop μ-loop
+loop-less c = omega arith
+
+loop-again : tie.Need-loop-again Inv-loop μ-loop
+loop-again c =
+    (omega arith, rw (c .keep .ensures .0) (again _ _ _ _ _ (omega arith) (c .before .before .loop .inv .1)))
+
+returns : tie.Need-returns Inv-loop μ-loop
+unfolding bitsOf
+returns c =
+    let l = c .before .loop in
+    ap (λ (s : Kept). s .bits) (ended _ (l .counter) 63 _ _ (omega arith) (l .inv .1))
+
+pub root-bits-spec : {M : Type 1} → statement M
+root-bits-spec =
+    tie.close (tie.spec Inv-loop μ-loop loop-holds keep-requires add-counter loop-less loop-again returns)

@@ -1,0 +1,9 @@
+pub mod Laws
+pub mod Fractions
+pub mod Pattern
+pub mod Turns
+pub mod Cases
+pub mod Halves
+pub mod Value
+pub mod Rounded
+pub mod Sums
