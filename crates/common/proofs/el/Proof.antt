@@ -1,0 +1,23 @@
+-- `el` meets its contract: the order in force is from 1 to 12, since nqnyh is from n to 12·n.
+-- Assumes nothing.
+use mathlib.Core.Path.{_∙_}
+use borrow.Author.Needs.{needs}
+use Rattle.common.proofs.Laws.{order-from, order-to}
+use Rattle.common.proofs.el.Statement.{statement}
+use Rattle.common.proofs.el.Tie as tie
+
+order-in-force-requires : tie.Need-order-in-force-requires
+order-in-force-requires c κs = search needs
+
+elco-requires : tie.Need-elco-requires
+elco-requires c κs =
+    let a = c .before in
+    let n = a .args .s .n in
+    let k = a .args .c .nqnyh in
+    rw (c .order-in-force .ensures) (a .pre .1, order-from n k (a .pre .0) (a .pre .2), order-to n k (a .pre .0) (a .pre .3), a .pre .4)
+
+returns : tie.Need-returns
+returns c = rw (← c .before .order-in-force .ensures) (c .elco .ensures)
+
+pub el-spec : {M : Type 1} → statement M
+el-spec = tie.close (tie.spec order-in-force-requires elco-requires returns)

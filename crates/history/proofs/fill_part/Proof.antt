@@ -1,0 +1,61 @@
+-- `fill_part` meets its contract. The invariant: the numbers that are left give the whole part.
+-- Assumes nothing.
+use Prim.Native.Nat.{_-_}
+use mathlib.Core.Path.{_≡_, refl}
+use native.Mathlib.Omega.{arith}
+use lib.ListN.{length, length-set}
+use Rattle.loops.specs.For.{for, again, ended}
+use Rattle.history.specs.Columns.{fillAt, fillOf}
+use Rattle.history.proofs.fill_part.Statement.{statement}
+use Rattle.history.proofs.fill_part.Tie as tie
+
+abbrev Inv-loop : tie.InvT-loop
+Inv-loop work₀ n at x i₀ work i = (length work ≡ length work₀) × (for i n (fillAt at x) work ≡ fillOf n at x work₀)
+
+abbrev μ-loop : tie.MeasureT-loop
+μ-loop work₀ n at x i₀ work i = n - i
+
+loop-holds : tie.Need-loop-holds Inv-loop μ-loop
+unfolding fillOf
+loop-holds c = (refl, refl)
+
+add-work : tie.Need-add-work Inv-loop μ-loop
+add-work c = omega arith
+
+mul-work : tie.Need-mul-work Inv-loop μ-loop
+mul-work c = omega arith
+
+slice-write-work : tie.Need-slice-write-work Inv-loop μ-loop
+slice-write-work c = omega arith
+
+add-i : tie.Need-add-i Inv-loop μ-loop
+add-i c = omega arith
+
+loop-less : tie.Need-loop-less Inv-loop μ-loop
+loop-less c = omega arith
+
+loop-again : tie.Need-loop-again Inv-loop μ-loop
+loop-again c =
+    (simp length-set (omega arith), again _ _ _ _ _ (omega arith) (c .before .loop .inv .1))
+
+same-length : tie.Need-same-length Inv-loop μ-loop
+same-length c = omega arith
+
+returns : tie.Need-returns Inv-loop μ-loop
+returns c = ended _ _ _ _ _ (omega arith) (c .before .loop .inv .1)
+
+pub fill-part-spec : {M : Type 1} → statement M
+fill-part-spec =
+    tie.close
+    (tie.spec
+    Inv-loop
+    μ-loop
+    loop-holds
+    add-work
+    mul-work
+    slice-write-work
+    add-i
+    loop-less
+    loop-again
+    same-length
+    returns)

@@ -1,0 +1,89 @@
+-- `limited` meets its contract: each way returns what `limitedOf` picks under the tests that led there.
+-- Assumes nothing.
+use mathlib.Core.Path.{sym, _∙_}
+use borrow.Author.Needs.{needs}
+use Rattle.history.specs.Steps.{limitedOf}
+use Rattle.history.proofs.limited.Statement.{statement}
+use Rattle.history.proofs.limited.Tie as tie
+
+min-requires : tie.Need-min-requires
+min-requires c κs = search needs
+
+abs-requires : tie.Need-abs-requires
+abs-requires c κs = search needs
+
+max-requires : tie.Need-max-requires
+max-requires c κs = search needs
+
+is-bdf-requires : tie.Need-is-bdf-requires
+is-bdf-requires c κs = search needs
+
+returns : tie.Need-returns
+unfolding limitedOf
+returns c =
+    let x = c .before .before in
+    let a = x .before .before in
+    let bdf = sym (c .before .is-bdf .ensures) ∙ c .if1 .taken in
+    rw (← a .before .min .ensures, ← a .abs .ensures, ← x .max .ensures, bdf)
+
+abs-requires-2 : tie.Need-abs-requires-2
+abs-requires-2 c κs = search needs
+
+max-requires-2 : tie.Need-max-requires-2
+max-requires-2 c κs = search needs
+
+sm1-requires : tie.Need-sm1-requires
+sm1-requires c κs = search needs
+
+returns-2 : tie.Need-returns-2
+unfolding limitedOf
+returns-2 c =
+    let p = c .before .before in
+    let b = p .before .before .before in
+    let x = b .before .before in
+    let a = x .before .before in
+    let same = p .before .before .abs2 .ensures ∙ sym (a .abs .ensures) in
+    let pdh = rw same at (p .max2 .ensures) in
+    rw (
+      ← a .before .min .ensures,
+      ← a .abs .ensures,
+      ← x .max .ensures,
+      ← pdh,
+      ← c .before .sm1 .ensures,
+      sym (b .before .is-bdf .ensures) ∙ b .if1 .left,
+      c .if2 .taken,
+    )
+
+returns-3 : tie.Need-returns-3
+unfolding limitedOf
+returns-3 c =
+    let p = c .before .before in
+    let b = p .before .before .before in
+    let x = b .before .before in
+    let a = x .before .before in
+    let same = p .before .before .abs2 .ensures ∙ sym (a .abs .ensures) in
+    let pdh = rw same at (p .max2 .ensures) in
+    rw (
+      ← a .before .min .ensures,
+      ← a .abs .ensures,
+      ← x .max .ensures,
+      ← pdh,
+      ← c .before .sm1 .ensures,
+      sym (b .before .is-bdf .ensures) ∙ b .if1 .left,
+      c .if2 .left,
+    )
+
+pub limited-spec : {M : Type 1} → statement M
+limited-spec =
+    tie.close
+    (tie.spec
+    min-requires
+    abs-requires
+    max-requires
+    is-bdf-requires
+    returns
+    abs-requires-2
+    max-requires-2
+    sm1-requires
+    returns-2
+    returns-3)

@@ -1,0 +1,74 @@
+-- `predict_columns` meets its contract. The invariant: the passes that are left give the whole.
+-- Pass k begins k + 1 columns before nqnyh, and there are nq of them. Assumes nothing.
+use Prim.Native.Nat.{_-_}
+use mathlib.Core.Path.{_≡_, refl, _∙_}
+use native.Mathlib.Omega.{arith}
+use lib.ListN.{length}
+use Rattle.loops.specs.For.{for, again, ended, within}
+use Rattle.history.specs.Columns.{predictPass, predictColumnsOf}
+use Rattle.history.proofs.predict_columns.Statement.{statement}
+use Rattle.history.proofs.predict_columns.Tie as tie
+
+abbrev Inv-loop : tie.InvT-loop
+Inv-loop yh₀ n nq nqnyh k₀ yh k =
+    (length yh ≡ length yh₀) × (for k nq (predictPass n nqnyh) yh ≡ predictColumnsOf n nq nqnyh yh₀)
+
+abbrev μ-loop : tie.MeasureT-loop
+μ-loop yh₀ n nq nqnyh k₀ yh k = nq - k
+
+loop-holds : tie.Need-loop-holds Inv-loop μ-loop
+unfolding predictColumnsOf
+loop-holds c = (refl, refl)
+
+add-add-next : tie.Need-add-add-next Inv-loop μ-loop
+add-add-next c = omega arith
+
+mul-add-next : tie.Need-mul-add-next Inv-loop μ-loop
+mul-add-next c =
+    let l = c .before .before in
+    let a = l .before .before .args in
+    omega (arith, within (a .n) (a .nq) (l .loop .k) (omega arith))
+
+sub-add-next : tie.Need-sub-add-next Inv-loop μ-loop
+sub-add-next c =
+    let l = c .before .before in
+    let a = l .before .before .args in
+    omega (arith, within (a .n) (a .nq) (l .loop .k) (omega arith))
+
+add-next-requires : tie.Need-add-next-requires Inv-loop μ-loop
+add-next-requires c κs = omega arith
+
+add-k : tie.Need-add-k Inv-loop μ-loop
+add-k c = omega arith
+
+loop-less : tie.Need-loop-less Inv-loop μ-loop
+loop-less c = omega arith
+
+loop-again : tie.Need-loop-again Inv-loop μ-loop
+loop-again c =
+    let l = c .before .before .before .before .before .loop in
+    let last = c .before .before .add-next in
+    (last .kept .0 ∙ l .inv .0, rw (last .ensures) (again _ _ _ _ _ (omega arith) (l .inv .1)))
+
+same-length : tie.Need-same-length Inv-loop μ-loop
+same-length c = omega arith
+
+returns : tie.Need-returns Inv-loop μ-loop
+returns c = ended _ _ _ _ _ (omega arith) (c .before .loop .inv .1)
+
+pub predict-columns-spec : {M : Type 1} → statement M
+predict-columns-spec =
+    tie.close
+    (tie.spec
+    Inv-loop
+    μ-loop
+    loop-holds
+    add-add-next
+    mul-add-next
+    sub-add-next
+    add-next-requires
+    add-k
+    loop-less
+    loop-again
+    same-length
+    returns)

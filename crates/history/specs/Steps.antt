@@ -1,0 +1,49 @@
+-- `stoda_adjust_step_size` and `stoda_get_predicted_values` on the record: what they read of it and what they leave.
+-- The Rust's l is nq + 1. Its miter is 0 in the Adams family alone, so `ipup = miter` makes a Jacobian due in the BDF
+-- family and drops it in Adams. Its irflag is not kept: nothing reads it.
+use mathlib.Core.Bool.{Bool, cond, _||_}
+use mathlib.Core.List.{List}
+use Prim.Native.Nat.{_+_, _*_, _^_, _≤_, _<_}
+use lib.Dec.{leb}
+use lib.Ieee as Ieee
+use lib.Ieee.{Float}
+use Rattle.numbers.specs.Float.{_⊕_, _⊖_, _⊗_, _⊘_, oneF, d0·3, d1e-6, d1·00001}
+use Rattle.numbers.specs.Sign.{absOf}
+use Rattle.numbers.specs.Order.{maxOf, minOf}
+use Rattle.coefficients.specs.Table.{sm1Of}
+use Rattle.common.specs.declared.Settings.{Settings}
+use Rattle.common.specs.declared.Common.{Common}
+use Rattle.common.specs.Record.{isBdf, with-h, with-rc, with-ialth, with-due, with-tn}
+use Rattle.common.specs.Limits.{msbpOf}
+use Rattle.history.specs.Columns.{predictColumnsOf}
+
+-- what a step's functions ask of the record: the ranges of its indices
+pub record InRange (s : Settings) (c : Common) : Type 0 where
+  pub n : (1 ≤ s .n) × (s .n ≤ 64)
+  pub order : (1 ≤ c .nq) × (c .nq ≤ 12)
+  pub table : c .table ≤ 2
+  pub used : (c .nq * s .n ≤ c .nqnyh) × (c .nqnyh ≤ 12 * s .n)
+  pub steps : (c .nslp < 2 ^ 62) × (s .msbp ≤ 1000000)
+
+-- the factor of a rescale: at most rmax, within the largest step, and in the Adams family within the stability limit
+unfoldable pub limitedOf : Settings → Common → Float → Float
+limitedOf s c rh =
+    let rh1 = minOf rh (c .rmax) in
+    let rh2 = rh1 ⊘ maxOf oneF (absOf (c .h) ⊗ s .hmxi ⊗ rh1) in
+    let pdh = maxOf (absOf (c .h) ⊗ c .pdlast) d1e-6 in
+    cond (isBdf (c .meth)) rh2 (cond (Ieee.le (sm1Of (c .nq)) (rh2 ⊗ pdh ⊗ d1·00001)) (sm1Of (c .nq) ⊘ pdh) rh2)
+
+unfoldable pub adjustOf : Settings → Common → Float → Common
+adjustOf s c rh =
+    let r = limitedOf s c rh in
+    with-h (c .h ⊗ r) (with-rc (c .rc ⊗ r) (with-ialth (c .nq + 1) c))
+
+-- |rc - 1| > 0.3, or msbp steps since the last Jacobian
+unfoldable pub staleOf : Settings → Common → Bool
+staleOf s c = Ieee.lt d0·3 (absOf (c .rc ⊖ oneF)) || leb (c .nslp + msbpOf s) (c .nst)
+
+unfoldable pub predictedOf : Settings → Common → Common
+predictedOf s c = with-due (cond (staleOf s c) (isBdf (c .meth)) (c .due)) (with-tn (c .tn ⊕ c .h) c)
+
+abbrev pub predictedWorkOf : Settings → Common → List Float → List Float
+predictedWorkOf s c work = predictColumnsOf (s .n) (c .nq) (c .nqnyh) work

@@ -1,0 +1,217 @@
+// The history's columns: predict, retract, rescale, the correction added, and copies between parts of the work slice.
+// Column j is the n numbers at j·n. Snapshot and interpolation are in crate interpolation.
+ghost use mathlib.Core.Path.{_≡_};
+ghost use Prim.Native.Nat.{_+_, _*_, _≤_, _<_};
+ghost use lib.ListN.{length};
+ghost use Rattle.history.specs.Columns.{addRange, subRange, predictColumnsOf, retractColumnsOf, scaleColumnOf};
+ghost use Rattle.history.specs.Columns.{rescaleColumnsOf, addScaledOf, correctColumnsOf};
+ghost use Rattle.history.specs.Columns.{copyOf, slopeOf, fillOf, scalePartOf};
+ghost use Rattle.history.specs.Steps.{InRange, limitedOf, adjustOf, staleOf, predictedOf, predictedWorkOf};
+ghost use Rattle.loops.specs.Part.{putPart};
+use common::Common;
+use common::Settings;
+
+// Adds to each number from a to e the one that stands n further on.
+fn add_next(yh: &mut [f64], n: usize, a: usize, e: usize)
+    requires { ⌜ e + n ≤ length (now yh) ⌝ }
+    ensures { λ _. ⌜ now (yh .exit) ≡ addRange n a e (now (yh .entry)) ⌝ }
+{
+    for i in a..e {
+        yh[i] += yh[i + n];
+    }
+}
+
+// Subtracts from each number from a to e the one that stands n further on.
+fn sub_next(yh: &mut [f64], n: usize, a: usize, e: usize)
+    requires { ⌜ e + n ≤ length (now yh) ⌝ }
+    ensures { λ _. ⌜ now (yh .exit) ≡ subRange n a e (now (yh .entry)) ⌝ }
+{
+    for i in a..e {
+        yh[i] -= yh[i + n];
+    }
+}
+
+// nq passes: each begins one column further to the left and runs to nqnyh.
+pub fn predict_columns(yh: &mut [f64], n: usize, nq: usize, nqnyh: usize)
+    requires { ⌜ (nq * n ≤ nqnyh) × (nqnyh + n ≤ length (now yh)) ⌝ }
+    ensures { λ _. ⌜ now (yh .exit) ≡ predictColumnsOf n nq nqnyh (now (yh .entry)) ⌝ }
+{
+    for k in 0..nq {
+        add_next(yh, n, nqnyh - (k + 1) * n, nqnyh);
+    }
+}
+
+// The same passes, subtracting: predict's order, so floats need not return.
+pub fn retract_columns(yh: &mut [f64], n: usize, nq: usize, nqnyh: usize)
+    requires { ⌜ (nq * n ≤ nqnyh) × (nqnyh + n ≤ length (now yh)) ⌝ }
+    ensures { λ _. ⌜ now (yh .exit) ≡ retractColumnsOf n nq nqnyh (now (yh .entry)) ⌝ }
+{
+    for k in 0..nq {
+        sub_next(yh, n, nqnyh - (k + 1) * n, nqnyh);
+    }
+}
+
+// Column j times r.
+fn scale_column(yh: &mut [f64], n: usize, j: usize, r: f64)
+    requires { ⌜ j * n + n ≤ length (now yh) ⌝ }
+    ensures { λ _. ⌜ now (yh .exit) ≡ scaleColumnOf n j r (now (yh .entry)) ⌝ }
+{
+    for i in 0..n {
+        yh[j * n + i] *= r;
+    }
+}
+
+// Column j times rh to the j-th, for the columns 1 to l - 1.
+pub fn rescale_columns(yh: &mut [f64], n: usize, l: usize, rh: f64)
+    requires { ⌜ l * n ≤ length (now yh) ⌝ }
+    ensures { λ _. ⌜ now (yh .exit) ≡ rescaleColumnsOf n l rh (now (yh .entry)) ⌝ }
+{
+    let mut r = 1.0;
+    for j in 1..l {
+        r = r * rh;
+        scale_column(yh, n, j, r);
+    }
+}
+
+// Column j plus e times the vector at `at`.
+fn add_scaled(work: &mut [f64], n: usize, j: usize, e: f64, at: usize)
+    requires { ⌜ (j * n + n ≤ length (now work)) × (at + n ≤ length (now work)) ⌝ }
+    ensures { λ _. ⌜ now (work .exit) ≡ addScaledOf n j e at (now (work .entry)) ⌝ }
+{
+    for i in 0..n {
+        work[i + j * n] += e * work[at + i];
+    }
+}
+
+// The correction acor added to the columns 0 to nq, each with its coefficient.
+pub fn correct_columns(s: Settings, c: Common, work: &mut [f64])
+    requires { ⌜ InRange s c ⌝ }
+    requires { ⌜ 19 * s .n ≤ length (now work) ⌝ }
+    ensures { λ _. ⌜ now (work .exit) ≡ correctColumnsOf s c (now (work .entry)) ⌝ }
+{
+    let n = s.n;
+    for j in 0..c.nq + 1 {
+        add_scaled(work, n, j, common::el(s, c, j), 16 * n);
+    }
+}
+
+// The n numbers at `to` become those at `from`.
+pub fn copy_part(work: &mut [f64], n: usize, to: usize, from: usize)
+    requires { ⌜ (to + n ≤ length (now work)) × (from + n ≤ length (now work)) ⌝ }
+    ensures { λ _. ⌜ now (work .exit) ≡ copyOf n to from (now (work .entry)) ⌝ }
+{
+    for i in 0..n {
+        work[to + i] = work[from + i];
+    }
+}
+
+// Column 1 becomes h times the derivative savf.
+pub fn set_slope(work: &mut [f64], n: usize, h: f64)
+    requires { ⌜ 19 * n ≤ length (now work) ⌝ }
+    ensures { λ _. ⌜ now (work .exit) ≡ slopeOf n h (now (work .entry)) ⌝ }
+{
+    for i in 0..n {
+        work[n + i] = h * work[14 * n + i];
+    }
+}
+
+// The n numbers at `at` become x.
+pub fn fill_part(work: &mut [f64], n: usize, at: usize, x: f64)
+    requires { ⌜ at + n ≤ length (now work) ⌝ }
+    ensures { λ _. ⌜ now (work .exit) ≡ fillOf n at x (now (work .entry)) ⌝ }
+{
+    for i in 0..n {
+        work[at + i] = x;
+    }
+}
+
+// The n numbers at `at`, each times r.
+pub fn scale_part(work: &mut [f64], n: usize, at: usize, r: f64)
+    requires { ⌜ at + n ≤ length (now work) ⌝ }
+    ensures { λ _. ⌜ now (work .exit) ≡ scalePartOf n at r (now (work .entry)) ⌝ }
+{
+    for i in 0..n {
+        work[at + i] *= r;
+    }
+}
+
+// A vector becomes another of its length.
+fn copy_from(to: &mut [f64], from: &[f64])
+    requires { ⌜ length (now to) ≡ length (now from) ⌝ }
+    ensures { λ _. ⌜ now (to .exit) ≡ now (from .entry) ⌝ }
+{
+    for i in 0..to.len() {
+        to[i] = from[i];
+    }
+}
+
+// The numbers at `at` become those of a vector.
+pub fn store(work: &mut [f64], at: usize, from: &[f64])
+    requires { ⌜ at + length (now from) ≤ length (now work) ⌝ }
+    ensures { λ _. ⌜ now (work .exit)
+        ≡ putPart at (length (now (from .entry))) (now (work .entry)) (now (from .entry)) ⌝ }
+{
+    let e = at + from.len();
+    copy_from(&mut work[at..e], from);
+}
+
+// The factor of a rescale within its limits: rmax, the largest step, and in the Adams family the stability limit SM1.
+pub fn limited(s: Settings, c: Common, rh: f64) -> f64
+    requires { ⌜ (1 ≤ c .nq) × (c .nq ≤ 12) ⌝ }
+    ensures { λ r. ⌜ r ≡ limitedOf s c rh ⌝ }
+{
+    let rh1 = numbers::min(rh, c.rmax);
+    let rh2 = rh1 / numbers::max(1.0, numbers::abs(c.h) * s.hmxi * rh1);
+    let meth = c.meth;
+    if common::is_bdf(meth) {
+        return rh2;
+    }
+    let pdh = numbers::max(numbers::abs(c.h) * c.pdlast, 1.0e-6);
+    let sm1 = coefficients::sm1(c.nq);
+    if rh2 * pdh * 1.00001 >= sm1 {
+        return sm1 / pdh;
+    }
+    rh2
+}
+
+pub fn stoda_adjust_step_size(s: Settings, c: Common, rh: f64, work: &mut [f64]) -> Common
+    requires { ⌜ InRange s c ⌝ }
+    requires { ⌜ 19 * s .n ≤ length (now work) ⌝ }
+    ensures { λ r. ⌜ (r ≡ adjustOf s c rh)
+        × (now (work .exit) ≡ rescaleColumnsOf (s .n) (c .nq + 1) (limitedOf s c rh) (now (work .entry))) ⌝ }
+{
+    let r = limited(s, c, rh);
+    rescale_columns(work, s.n, c.nq + 1, r);
+    let mut d = c;
+    d.h = c.h * r;
+    d.rc = c.rc * r;
+    d.ialth = c.nq + 1;
+    d
+}
+
+// Whether a prediction asks for a Jacobian anew: rc has moved, or msbp steps have passed.
+fn is_stale(s: Settings, c: Common) -> bool
+    requires { ⌜ InRange s c ⌝ }
+    ensures { λ r. ⌜ r ≡ staleOf s c ⌝ }
+{
+    if numbers::abs(c.rc - 1.0) > 0.3 {
+        return true;
+    }
+    c.nslp + common::msbp(s) <= c.nst
+}
+
+pub fn stoda_get_predicted_values(s: Settings, c: Common, work: &mut [f64]) -> Common
+    requires { ⌜ InRange s c ⌝ }
+    requires { ⌜ 19 * s .n ≤ length (now work) ⌝ }
+    ensures { λ r. ⌜ (r ≡ predictedOf s c) × (now (work .exit) ≡ predictedWorkOf s c (now (work .entry))) ⌝ }
+{
+    predict_columns(work, s.n, c.nq, c.nqnyh);
+    let meth = c.meth;
+    let mut d = c;
+    d.tn = c.tn + c.h;
+    if is_stale(s, c) {
+        d.due = common::is_bdf(meth);
+        return d;
+    }
+    d
+}

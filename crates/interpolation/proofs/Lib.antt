@@ -1,0 +1,5 @@
+pub mod Laws
+pub mod Counts
+pub mod Published
+pub mod Roundtrip
+pub mod Examples

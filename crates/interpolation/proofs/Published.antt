@@ -1,0 +1,116 @@
+-- Interpolation against the published formula:
+--     evaluated       each number that `evaluateOf` gives is Horner's rule, in floats, on its state's columns
+--     interpolated    the same of `interpolateOf`, where none of the refusals applies
+--     horner-is       in exact arithmetic Horner's rule is the polynomial
+-- Assumes nothing.
+use mathlib.Core.Path.{_≡_, refl, sym, ap, _∙_}
+use mathlib.Core.Bool.{false}
+use mathlib.Core.List.{List, [], _∷_}
+use Prim.Native.Nat.{ℕ, zero, suc, _+_, _-_, _*_, _≤_, _<_}
+use native.Mathlib.Nat.{mul-comm, mul-assoc, mul-one, add-mul}
+use native.Mathlib.Omega.{arith}
+use lib.ListN.{length, getD}
+use lib.Ieee as Ieee
+use lib.Ieee.{Float, nan}
+use borrow.Author.Tests.{eq-eqb, ne-eqb, le-ltb}
+use Rattle.loops.specs.For.{for}
+use Rattle.numbers.specs.Float.{_⊕_, _⊖_, _⊗_, _⊘_, zeroF}
+use Rattle.interpolation.specs.declared.Sizes.{Sizes}
+use Rattle.interpolation.specs.Header.{Reads}
+use Rattle.interpolation.specs.Evaluate.{lastColumnOf, hornerOf, turnOf, evaluateOf}
+use Rattle.interpolation.specs.Evaluate.{left, sizedOf, interpolateOf}
+use Rattle.interpolation.specs.Published.{horner, power, polynomial, Exact, entry, entries}
+use Rattle.interpolation.proofs.Laws.{reaches, Each, each, last-each}
+use Rattle.interpolation.proofs.Counts.{reads-header}
+
+horner-each : (cont : List Float) (at : ℕ) (s : Float) (yi : List Float)
+    → Each (λ i x. getD cont (at + i) nan ⊕ s ⊗ x) yi (hornerOf cont at s yi)
+unfolding hornerOf
+horner-each cont at s yi = each (λ i x. getD cont (at + i) nan ⊕ s ⊗ x) yi
+
+module _ (cont yi : List Float) (n nq i : ℕ) (s : Float) (h : i < length yi) where
+  -- Horner's rule on the columns from m to m + k
+  abbrev from : ℕ → ℕ → Float
+  from m k = horner _⊕_ _⊗_ s (entry cont n i m) (entries cont n i (m + 1) k)
+
+  -- before turn jb the last jb columns are done
+  record Done (jb : ℕ) (l : List Float) : Type 0 where
+    begun : 1 ≤ jb
+    long : length l ≡ length yi
+    value : (m k : ℕ) → k + 1 ≡ jb → m + k ≡ nq → getD l i nan ≡ from m k
+
+  next : (jb : ℕ) (l : List Float) → jb < nq + 1 → Done jb l → (m k : ℕ) → k + 1 ≡ jb + 1 → m + k ≡ nq
+      → entry cont n i (nq - jb) ⊕ s ⊗ getD l i nan ≡ from m k
+  unfolding horner entries
+  next jb l b p m zero e f = absurd (omega (arith, p .begun))
+  next jb l b p m (suc k) e f =
+      let q : nq - jb ≡ m = omega arith in
+      rw (q, p .value (m + 1) k (omega arith) (omega arith))
+
+  turn : (jb : ℕ) (l : List Float) → jb < nq + 1 → Done jb l → Done (jb + 1) (turnOf cont n nq s jb l)
+  turn jb l b p =
+      let t = horner-each cont (6 + (nq - jb) * n) s l in
+      record {
+        begun = omega arith;
+        long = t .long ∙ p .long;
+        value = λ m k e f. t .here i (rw (p .long) h) ∙ next jb l b p m k e f;
+      }
+
+  begin : Done 1 (lastColumnOf cont (6 + nq * n) yi)
+  unfolding horner entries
+  begin =
+      let t = last-each cont (6 + nq * n) yi in
+      record {
+        begun = omega arith;
+        long = t .long;
+        value = λ m k e f.
+            let z : k ≡ 0 = omega arith in
+            let q : m ≡ nq = omega arith in
+            rw (z, q) (t .here i h);
+      }
+
+  all-turns : getD (for 1 (nq + 1) (turnOf cont n nq s) (lastColumnOf cont (6 + nq * n) yi)) i nan ≡ from 0 nq
+  all-turns =
+      reaches Done (turnOf cont n nq s) (nq + 1) turn 1 (lastColumnOf cont (6 + nq * n) yi) (omega arith) begin
+      .value 0 nq refl (omega arith)
+
+pub evaluated : (xi : Float) (cont : List Float) (z : Sizes) (yi : List Float) (i : ℕ) → i < length yi
+    → getD (evaluateOf xi cont z yi) i nan
+    ≡ horner _⊕_ _⊗_ ((xi ⊖ z .tn) ⊘ z .h) (entry cont (z .n) i 0) (entries cont (z .n) i 1 (z .nq))
+unfolding evaluateOf
+evaluated xi cont z yi i h = all-turns cont yi (z .n) (z .nq) i ((xi ⊖ z .tn) ⊘ z .h) h
+
+-- the header is read, so that 15 does not apply, nor do the copy, 16 and 17
+pub interpolated : (xi : Float) (cont yi : List Float) (z : Sizes) → Reads cont z → (length cont ≡ length yi → ⊥)
+    → length yi ≡ z .n → (z .nq + 1) * z .n ≤ length cont - 6 → Ieee.eq (z .h) zeroF ≡ false
+    → (interpolateOf xi cont yi .number ≡ 0)
+    × ((i : ℕ) → i < z .n → getD (interpolateOf xi cont yi .output) i nan
+    ≡ horner _⊕_ _⊗_ ((xi ⊖ z .tn) ⊘ z .h) (entry cont (z .n) i 0) (entries cont (z .n) i 1 (z .nq)))
+unfolding interpolateOf sizedOf
+interpolated xi cont yi z r other states columns step =
+    let a = ne-eqb (length cont) (length yi) other in
+    let b = eq-eqb (length yi) (z .n) states in
+    let c = le-ltb (length cont - 6) ((z .nq + 1) * z .n) columns in
+    let read = reads-header cont z r in
+    let whole : interpolateOf xi cont yi ≡ left 0 (evaluateOf xi cont z yi) = rw (a, read, b, c, step) in
+    rw whole (refl, (λ i h. evaluated xi cont z yi i (omega arith)))
+
+module _ {A : Type 0} (add mul : A → A → A) (one : A) (exact : Exact add mul one) (s : A) where
+  -- times s^j
+  horner-times : (rest : List A) (j : ℕ) (a : A)
+      → mul (horner add mul s a rest) (power add mul one s j) ≡ polynomial add mul one s j a rest
+  unfolding horner power polynomial
+  horner-times [] j a = refl
+  horner-times (b ∷ rest) j a =
+      let v = horner add mul s b rest in
+      let p = power add mul one s j in
+      let turned = ap (λ x. mul x p) (exact .commutes s v) ∙ exact .associates v s p in
+      exact .distributes a (mul s v) p ∙ ap (add (mul a p)) (turned ∙ horner-times rest (suc j) b)
+
+  pub horner-is : (a : A) (rest : List A) → horner add mul s a rest ≡ polynomial add mul one s 0 a rest
+  unfolding power
+  horner-is a rest = sym (exact .unit (horner add mul s a rest)) ∙ horner-times rest 0 a
+
+-- the whole numbers are exact
+pub naturals : Exact _+_ _*_ 1
+naturals = record { commutes = mul-comm; associates = mul-assoc; distributes = add-mul; unit = mul-one }

@@ -1,0 +1,79 @@
+-- `horner` meets its contract. The invariant: the numbers that are left give the whole column. Assumes nothing.
+use Prim.Native.Nat.{_-_}
+use mathlib.Core.Path.{_≡_, refl}
+use native.Mathlib.Omega.{arith}
+use lib.ListN.{length, length-set}
+use Rattle.loops.specs.For.{for, again, ended}
+use Rattle.interpolation.specs.Evaluate.{hornerAt, hornerOf}
+use Rattle.interpolation.proofs.horner.Statement.{statement}
+use Rattle.interpolation.proofs.horner.Tie as tie
+
+abbrev Inv-loop : tie.InvT-loop
+Inv-loop yi₀ cont at s i₀ i-end yi i =
+    (i-end ≡ length yi₀) × (length yi ≡ length yi₀)
+    × (for i (length yi₀) (hornerAt cont at s) yi ≡ hornerOf cont at s yi₀)
+
+abbrev μ-loop : tie.MeasureT-loop
+μ-loop yi₀ cont at s i₀ i-end yi i = i-end - i
+
+loop-holds : tie.Need-loop-holds Inv-loop μ-loop
+unfolding hornerOf
+loop-holds c = (refl, refl, refl)
+
+add-yi : tie.Need-add-yi Inv-loop μ-loop
+add-yi c = omega arith
+
+mul-yi : tie.Need-mul-yi Inv-loop μ-loop
+mul-yi c = omega arith
+
+shared-slice-read-yi : tie.Need-shared-slice-read-yi Inv-loop μ-loop
+shared-slice-read-yi c = omega arith
+
+mul-yi-2 : tie.Need-mul-yi-2 Inv-loop μ-loop
+mul-yi-2 c = omega arith
+
+slice-read-yi : tie.Need-slice-read-yi Inv-loop μ-loop
+slice-read-yi c = omega arith
+
+mul-yi-3 : tie.Need-mul-yi-3 Inv-loop μ-loop
+mul-yi-3 c = omega arith
+
+slice-write-yi : tie.Need-slice-write-yi Inv-loop μ-loop
+slice-write-yi c = omega arith
+
+add-i : tie.Need-add-i Inv-loop μ-loop
+add-i c = omega arith
+
+loop-less : tie.Need-loop-less Inv-loop μ-loop
+loop-less c = omega arith
+
+loop-again : tie.Need-loop-again Inv-loop μ-loop
+loop-again c =
+    let l = c .before .before .before in
+    (omega arith, simp length-set (omega arith), again _ _ _ _ _ (omega arith) (l .loop .inv .2))
+
+same-length : tie.Need-same-length Inv-loop μ-loop
+same-length c = omega arith
+
+returns : tie.Need-returns Inv-loop μ-loop
+returns c = ended _ _ _ _ _ (omega arith) (c .before .loop .inv .2)
+
+pub horner-spec : {M : Type 1} → statement M
+horner-spec =
+    tie.close
+    (tie.spec
+    Inv-loop
+    μ-loop
+    loop-holds
+    add-yi
+    mul-yi
+    shared-slice-read-yi
+    mul-yi-2
+    slice-read-yi
+    mul-yi-3
+    slice-write-yi
+    add-i
+    loop-less
+    loop-again
+    same-length
+    returns)

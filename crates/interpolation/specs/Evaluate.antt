@@ -1,0 +1,61 @@
+-- `interpolate`: a copy where snapshot and output have equal length; otherwise 15 (Header.antt), 16 and 17, in this
+-- order and with the output as it was; otherwise Horner's rule on the columns at s = (xi - tn) / h.
+--     16 the output's length is not n    17 the history is shorter than (nq + 1)·n, or h is zero
+use mathlib.Core.Bool.{cond}
+use mathlib.Core.List.{List}
+use Prim.Native.Nat.{ℕ, _+_, _-_, _*_}
+use lib.Dec.{eqb, ltb}
+use lib.ListN.{length, getD, set}
+use lib.Ieee as Ieee
+use lib.Ieee.{Float, nan}
+use Rattle.loops.specs.For.{for}
+use Rattle.numbers.specs.Float.{_⊕_, _⊖_, _⊗_, _⊘_, zeroF}
+use Rattle.interpolation.specs.declared.Sizes.{Sizes}
+use Rattle.interpolation.specs.declared.Header.{Header}
+use Rattle.interpolation.specs.declared.Header.the-variants.{Read, Refused}
+use Rattle.interpolation.specs.Header.{readHeaderOf}
+
+abbrev pub lastAt : List Float → ℕ → ℕ → List Float → List Float
+lastAt cont at i yi = set yi i (getD cont (at + i) nan)
+
+unfoldable pub lastColumnOf : List Float → ℕ → List Float → List Float
+lastColumnOf cont at yi = for 0 (length yi) (lastAt cont at) yi
+
+-- the column at `at` plus s times what stands
+abbrev pub hornerAt : List Float → ℕ → Float → ℕ → List Float → List Float
+hornerAt cont at s i yi = set yi i (getD cont (at + i) nan ⊕ s ⊗ getD yi i nan)
+
+unfoldable pub hornerOf : List Float → ℕ → Float → List Float → List Float
+hornerOf cont at s yi = for 0 (length yi) (hornerAt cont at s) yi
+
+-- from column nq - jb: the columns stand from 6 on
+abbrev pub turnOf : List Float → ℕ → ℕ → Float → ℕ → List Float → List Float
+turnOf cont n nq s jb yi = hornerOf cont (6 + (nq - jb) * n) s yi
+
+unfoldable pub evaluateOf : Float → List Float → Sizes → List Float → List Float
+evaluateOf xi cont z yi =
+    for 1 (z .nq + 1) (turnOf cont (z .n) (z .nq) ((xi ⊖ z .tn) ⊘ z .h)) (lastColumnOf cont (6 + z .nq * z .n) yi)
+
+-- the number returned, and the output
+pub record Interpolated : Type 0 where
+  pub number : ℕ
+  pub output : List Float
+
+abbrev pub left : ℕ → List Float → Interpolated
+left k yi = record { number = k; output = yi }
+
+unfoldable pub sizedOf : Float → List Float → Sizes → List Float → Interpolated
+sizedOf xi cont z yi =
+    cond (eqb (length yi) (z .n))
+    (cond (ltb (length cont - 6) ((z .nq + 1) * z .n)) (left 17 yi)
+    (cond (Ieee.eq (z .h) zeroF) (left 17 yi)
+    (left 0 (evaluateOf xi cont z yi))))
+    (left 16 yi)
+
+abbrev pub headedOf : Float → List Float → Header → List Float → Interpolated
+headedOf xi cont Refused yi = left 15 yi
+headedOf xi cont (Read z) yi = sizedOf xi cont z yi
+
+unfoldable pub interpolateOf : Float → List Float → List Float → Interpolated
+interpolateOf xi cont yi =
+    cond (eqb (length cont) (length yi)) (left 0 (lastColumnOf cont 0 yi)) (headedOf xi cont (readHeaderOf cont) yi)

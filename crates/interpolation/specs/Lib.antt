@@ -1,0 +1,4 @@
+pub mod Snapshot
+pub mod Header
+pub mod Evaluate
+pub mod Published

@@ -1,0 +1,113 @@
+-- `invert_weights` meets its contract. The invariant: the weights that are left give the whole inversion; after one
+-- that was refused, no later one changes anything. Assumes nothing.
+use Prim.Native.Nat.{ℕ, _+_, _-_}
+use mathlib.Core.Path.{_≡_, refl, sym, ap, _∙_}
+use mathlib.Core.List.{List}
+use mathlib.Core.Bool.{true, false}
+use native.Mathlib.Omega.{arith}
+use lib.ListN.{length, getD, set, length-set}
+use lib.Ieee as Ieee
+use lib.Ieee.{Float, nan}
+use Rattle.loops.specs.For.{for, onward, ended, stays}
+use Rattle.numbers.specs.Float.{_⊘_, zeroF, oneF}
+use Rattle.vectors.specs.Weights.{Inversion, invertAt, invertOf, outcomeOf}
+use Rattle.vectors.proofs.invert_weights.Statement.{statement}
+use Rattle.vectors.proofs.invert_weights.Tie as tie
+
+-- the contract's two equations, from the one of the whole state
+parts : {s t : Inversion} → s ≡ t → (s .ewt ≡ t .ewt) × (outcomeOf s ≡ outcomeOf t)
+parts e = (ap (λ (s : Inversion). s .ewt) e, ap outcomeOf e)
+
+abbrev going : List Float → Inversion
+going ewt = record { ewt = ewt; refused = false; index = 0 }
+
+-- one turn, by the test that the code makes
+refuses : (i : ℕ) (ewt : List Float) → Ieee.le (getD ewt i nan) zeroF ≡ true
+    → invertAt i (going ewt) ≡ record { ewt = ewt; refused = true; index = i }
+refuses i ewt h = rw h
+
+inverts : (i : ℕ) (ewt : List Float) → Ieee.le (getD ewt i nan) zeroF ≡ false
+    → invertAt i (going ewt) ≡ going (set ewt i (oneF ⊘ getD ewt i nan))
+inverts i ewt h = rw h
+
+abbrev Inv-loop : tie.InvT-loop
+Inv-loop ewt₀ i₀ i-end ewt i =
+    (i-end ≡ length ewt₀) × (length ewt ≡ length ewt₀) ×
+    (for i (length ewt₀) invertAt (going ewt) ≡ invertOf ewt₀)
+
+abbrev μ-loop : tie.MeasureT-loop
+μ-loop ewt₀ i₀ i-end ewt i = i-end - i
+
+loop-holds : tie.Need-loop-holds Inv-loop μ-loop
+unfolding invertOf
+loop-holds c = (refl, refl, refl)
+
+mul-if1 : tie.Need-mul-if1 Inv-loop μ-loop
+mul-if1 c = omega arith
+
+slice-read-if1 : tie.Need-slice-read-if1 Inv-loop μ-loop
+slice-read-if1 c = omega arith
+
+same-length : tie.Need-same-length Inv-loop μ-loop
+same-length c = omega arith
+
+returns : tie.Need-returns Inv-loop μ-loop
+returns c =
+    let l = c .before .before .before in
+    let one = refuses (l .loop .i) (l .loop .ewt) (c .if1 .taken) in
+    let whole =
+    sym (stays invertAt (l .loop .i + 1) (length (l .before .args .ewt .now)) _ (λ k. refl))
+    ∙ onward _ _ _ _ _ _ (omega arith) one (l .loop .inv .2)
+    in
+    parts whole
+
+mul-ewt : tie.Need-mul-ewt Inv-loop μ-loop
+mul-ewt c = omega arith
+
+slice-read-ewt : tie.Need-slice-read-ewt Inv-loop μ-loop
+slice-read-ewt c = omega arith
+
+mul-ewt-2 : tie.Need-mul-ewt-2 Inv-loop μ-loop
+mul-ewt-2 c = omega arith
+
+slice-write-ewt : tie.Need-slice-write-ewt Inv-loop μ-loop
+slice-write-ewt c = omega arith
+
+add-i : tie.Need-add-i Inv-loop μ-loop
+add-i c = omega arith
+
+loop-less : tie.Need-loop-less Inv-loop μ-loop
+loop-less c = omega arith
+
+loop-again : tie.Need-loop-again Inv-loop μ-loop
+loop-again c =
+    let l = c .before .before .before .before in
+    let one = inverts (l .loop .i) (l .loop .ewt) (c .before .if1 .left) in
+    (l .loop .inv .0, simp length-set (l .loop .inv .1), onward _ _ _ _ _ _ (omega arith) one (l .loop .inv .2))
+
+same-length-2 : tie.Need-same-length-2 Inv-loop μ-loop
+same-length-2 c = omega arith
+
+returns-2 : tie.Need-returns-2 Inv-loop μ-loop
+returns-2 c = parts (ended _ _ _ _ _ (omega arith) (c .before .loop .inv .2))
+
+pub invert-weights-spec : {M : Type 1} → statement M
+invert-weights-spec =
+    tie.close
+    (tie.spec
+    Inv-loop
+    μ-loop
+    loop-holds
+    mul-if1
+    slice-read-if1
+    same-length
+    returns
+    mul-ewt
+    slice-read-ewt
+    mul-ewt-2
+    slice-write-ewt
+    add-i
+    loop-less
+    loop-again
+    same-length-2
+    returns-2)

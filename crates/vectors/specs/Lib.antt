@@ -1,0 +1,4 @@
+pub mod Tolerance
+pub mod Norm
+pub mod Weights
+pub mod FirstStep
