@@ -1,0 +1,116 @@
+-- `no_convergence` meets its contract: each way returns what `noConvergenceOf` picks under the tests that led there.
+-- Assumes nothing.
+use mathlib.Core.Path.{_≡_, refl, sym, ap, _∙_}
+use borrow.Author.Needs.{needs}
+use borrow.Author.Tests.{eq-eqb, ne-eqb}
+use Rattle.history.proofs.Laws.{same-range}
+use Rattle.attempt.specs.Attempt.{moved, unconvergedOf, quarteredOf, noConvergenceAt, noConvergenceOf}
+use Rattle.attempt.specs.declared.Next.the-variants.{Pass}
+use Rattle.attempt.proofs.Ranges.{same-rejected, in-range-unconverged}
+use Rattle.attempt.proofs.no_convergence.Statement.{statement}
+use Rattle.attempt.proofs.no_convergence.Tie as tie
+
+retract-requires : tie.Need-retract-requires
+retract-requires c κs = search needs
+
+add-d : tie.Need-add-d
+add-d c = search needs
+
+is-tiny-requires : tie.Need-is-tiny-requires
+is-tiny-requires c κs = search needs
+
+same-length : tie.Need-same-length
+same-length c = search needs
+
+returns : tie.Need-returns
+unfolding noConvergenceOf noConvergenceAt unconvergedOf
+returns c =
+    let r = c .before .before .before .before .before .retract .ensures in
+    rw (← r .0, ← r .1, sym (c .before .is-tiny .ensures) ∙ c .if1 .taken)
+
+mxncf-requires : tie.Need-mxncf-requires
+mxncf-requires c κs = search needs
+
+same-length-2 : tie.Need-same-length-2
+same-length-2 c = search needs
+
+returns-2 : tie.Need-returns-2
+unfolding noConvergenceOf noConvergenceAt unconvergedOf
+returns-2 c =
+    let m = c .before .before in
+    let t = m .before in
+    let r = t .before .before .before .before .before .retract .ensures in
+    rw (
+      ← r .0,
+      ← r .1,
+      sym (t .before .is-tiny .ensures) ∙ t .if1 .left,
+      ← m .mxncf .ensures,
+      eq-eqb _ _ (c .if2 .taken),
+    )
+
+is-bdf-requires : tie.Need-is-bdf-requires
+is-bdf-requires c κs = search needs
+
+add-d-2 : tie.Need-add-d-2
+add-d-2 c = search needs
+
+least-requires : tie.Need-least-requires
+least-requires c κs = search needs
+
+max-requires : tie.Need-max-requires
+max-requires c κs = search needs
+
+repredict-requires : tie.Need-repredict-requires
+unfolding unconvergedOf
+repredict-requires c κs =
+    let t = c .before .before .before .before .before .before .before .before .before in
+    let r = t .before .before .before .before in
+    let a = r .before .before .before in
+    let p = in-range-unconverged (a .args .s) (a .args .c) (a .pre .0) in
+    (rw (r .retract .ensures .0) (same-range _ refl refl refl refl p), search needs)
+
+same-length-3 : tie.Need-same-length-3
+same-length-3 c = search needs
+
+returns-3 : tie.Need-returns-3
+unfolding noConvergenceOf noConvergenceAt unconvergedOf quarteredOf
+returns-3 c =
+    let x = c .before .before .before .before in
+    let b = x .before .before .before in
+    let i = b .before in
+    let m = i .before .before in
+    let t = m .before in
+    let r = t .before .before .before .before .before in
+    let a = r .before .before .before .args .c in
+    let e = r .retract .ensures in
+    let same : r .retract .result .rejected ≡ a .rejected = rw (e .0) (same-rejected a) in
+    rw (
+      ← e .0,
+      ← e .1,
+      sym (t .before .is-tiny .ensures) ∙ t .if1 .left,
+      ← m .mxncf .ensures,
+      ne-eqb _ _ (i .if2 .left),
+    )
+    (ap (moved Pass)
+    (c .before .before .repredict .ensures
+    ∙ rw (x .max .ensures, x .before .least .ensures, b .is-bdf .ensures, same)))
+
+pub no-convergence-spec : {M : Type 1} → statement M
+no-convergence-spec =
+    tie.close
+    (tie.spec
+    retract-requires
+    add-d
+    is-tiny-requires
+    same-length
+    returns
+    mxncf-requires
+    same-length-2
+    returns-2
+    is-bdf-requires
+    add-d-2
+    least-requires
+    max-requires
+    repredict-requires
+    same-length-3
+    returns-3)

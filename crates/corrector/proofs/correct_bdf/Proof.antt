@@ -1,0 +1,97 @@
+-- `correct_bdf` meets its contract: the callees in turn, and the outcome tells the flag. Assumes nothing.
+use Prim.Native.Nat.{_*_}
+use mathlib.Core.Path.{sym, _∙_}
+use native.Mathlib.Omega.{arith}
+use borrow.Author.Needs.{needs}
+use Rattle.dense.specs.Solve.{solveOf}
+use Rattle.corrector.specs.Iterate.{bdfOf}
+use Rattle.corrector.proofs.Shared.{order-used, ok-done, ok-singular}
+use Rattle.corrector.proofs.correct_bdf.Statement.{statement}
+use Rattle.corrector.proofs.correct_bdf.Tie as tie
+
+bdf-residual-requires : tie.Need-bdf-residual-requires
+bdf-residual-requires c κs = search needs
+
+mul-dense-lu-solve : tie.Need-mul-dense-lu-solve
+mul-dense-lu-solve c = search needs
+
+mul-dense-lu-solve-2 : tie.Need-mul-dense-lu-solve-2
+mul-dense-lu-solve-2 c = search needs
+
+dense-lu-solve-requires : tie.Need-dense-lu-solve-requires
+dense-lu-solve-requires c κs = search needs
+
+enum-told : tie.Need-enum-told
+enum-told c = search needs
+
+enum-told-2 : tie.Need-enum-told-2
+enum-told-2 c = search needs
+
+norm-of-y-requires : tie.Need-norm-of-y-requires
+norm-of-y-requires c κs = search needs
+
+el-requires : tie.Need-el-requires
+el-requires c κs =
+    let r = c .before .before .before .before .before .before .before .before in
+    let p = r .before .before .before .before .before .before .before .pre .0 in
+    (p .n .0, p .table, order-used p, p .used .1, omega arith)
+
+bdf-update-requires : tie.Need-bdf-update-requires
+bdf-update-requires c κs = search needs
+
+same-length : tie.Need-same-length
+same-length c = search needs
+
+returns : tie.Need-returns
+unfolding bdfOf
+returns c =
+    let x = c .before .before .before .before in
+    let r = x .before .before .before .before in
+    let a = r .before .before .before .before .args in
+    let n = a .s .n in
+    let sol = solveOf n (19 * n) (a .ipiv .now) (17 * n) (r .bdf-residual .last .0) in
+    let no = ok-singular (sol .ok) (sym (x .dense-lu-solve .ensures .1) ∙ c .enum-told .given .1) in
+    rw (← r .bdf-residual .ensures, no, x .dense-lu-solve .ensures .0)
+
+same-length-2 : tie.Need-same-length-2
+same-length-2 c = search needs
+
+returns-2 : tie.Need-returns-2
+unfolding bdfOf
+returns-2 c =
+    let u = c .before .before in
+    let e = u .before in
+    let v = e .before .before in
+    let t = v .before .before in
+    let x = t .before .before .before .before in
+    let r = x .before .before .before .before in
+    let a = r .before .before .before .before .args in
+    let n = a .s .n in
+    let sol = solveOf n (19 * n) (a .ipiv .now) (17 * n) (r .bdf-residual .last .0) in
+    let yes = ok-done (sol .ok) (sym (x .dense-lu-solve .ensures .1) ∙ t .enum-told2 .given .1) in
+    rw (
+      ← r .bdf-residual .ensures,
+      yes,
+      u .bdf-update .ensures,
+      e .el .ensures,
+      v .norm-of-y .ensures,
+      x .dense-lu-solve .ensures .0,
+    )
+
+pub correct-bdf-spec : {M : Type 1} → statement M
+correct-bdf-spec =
+    tie.close
+    (tie.spec
+    bdf-residual-requires
+    mul-dense-lu-solve
+    mul-dense-lu-solve-2
+    dense-lu-solve-requires
+    enum-told
+    enum-told-2
+    norm-of-y-requires
+    el-requires
+    bdf-update-requires
+    same-length
+    returns
+    same-length-2
+    returns-2)

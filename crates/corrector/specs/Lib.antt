@@ -1,0 +1,3 @@
+pub mod Jacobian
+pub mod Iterate
+pub mod Verdict
