@@ -1,0 +1,24 @@
+-- `sizes` meets its contract. Assumes nothing.
+use Prim.Native.Nat.{_-_}
+use borrow.Author.Tests.{lt-ltb, le-ltb}
+use borrow.Author.Needs.{needs}
+use Rattle.refusals.specs.Start.{sizesOf}
+use Rattle.refusals.proofs.sizes.Statement.{statement}
+use Rattle.refusals.proofs.sizes.Tie as tie
+
+plain-requires : tie.Need-plain-requires
+plain-requires c κs = search needs
+
+returns : tie.Need-returns
+unfolding sizesOf
+returns c = rw (lt-ltb _ _ (c .before .if1 .taken)) (c .plain .ensures)
+
+lists-requires : tie.Need-lists-requires
+lists-requires c κs = search needs
+
+returns-2 : tie.Need-returns-2
+unfolding sizesOf
+returns-2 c = rw (le-ltb _ _ (c .before .if1 .left)) (c .lists .ensures)
+
+pub sizes-spec : {M : Type 1} → statement M
+sizes-spec = tie.close (tie.spec plain-requires returns lists-requires returns-2)

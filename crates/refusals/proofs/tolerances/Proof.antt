@@ -1,0 +1,51 @@
+-- `tolerances` meets its contract. Assumes nothing.
+use Prim.Native.Nat.{_-_}
+use mathlib.Core.Path.{_≡_}
+use native.Mathlib.Omega.{arith}
+use borrow.Author.Needs.{needs}
+use Rattle.loops.specs.For.{for, again, ended}
+use Rattle.refusals.specs.Start.{toleranceAt, tolerancesOf}
+use Rattle.refusals.proofs.tolerances.Statement.{statement}
+use Rattle.refusals.proofs.tolerances.Tie as tie
+
+abbrev Inv-loop : tie.InvT-loop
+Inv-loop n rtol atol r₀ i₀ r i = for i n (toleranceAt rtol atol) r ≡ tolerancesOf n rtol atol
+
+abbrev μ-loop : tie.MeasureT-loop
+μ-loop n rtol atol r₀ i₀ r i = n - i
+
+none-requires : tie.Need-none-requires Inv-loop μ-loop
+none-requires c κs = search needs
+
+loop-holds : tie.Need-loop-holds Inv-loop μ-loop
+unfolding tolerancesOf
+loop-holds c = rw (c .none .ensures)
+
+tolerance-requires : tie.Need-tolerance-requires Inv-loop μ-loop
+tolerance-requires c κs = search needs
+
+add-i : tie.Need-add-i Inv-loop μ-loop
+add-i c = omega arith
+
+loop-less : tie.Need-loop-less Inv-loop μ-loop
+loop-less c = omega arith
+
+loop-again : tie.Need-loop-again Inv-loop μ-loop
+loop-again c = rw (c .tolerance .ensures) (again _ _ _ _ _ (omega arith) (c .before .before .loop .inv))
+
+returns : tie.Need-returns Inv-loop μ-loop
+returns c = ended _ _ _ _ _ (omega arith) (c .before .loop .inv)
+
+pub tolerances-spec : {M : Type 1} → statement M
+tolerances-spec =
+    tie.close
+    (tie.spec
+    Inv-loop
+    μ-loop
+    none-requires
+    loop-holds
+    tolerance-requires
+    add-i
+    loop-less
+    loop-again
+    returns)
