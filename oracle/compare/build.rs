@@ -1,4 +1,4 @@
-//! Links our functions for comparisons, from the static library that `rt staticlib probe` writes.
+//! Links our functions for comparisons, from the static libraries that `rt staticlib` writes.
 
 use std::path::{Path, PathBuf};
 
@@ -6,13 +6,16 @@ fn main() {
     let here = PathBuf::from(std::env::var("CARGO_MANIFEST_DIR").unwrap());
     let repository = here.parent().and_then(Path::parent).expect("oracle/compare stands in a repository");
     let folder = repository.join("target/staticlib");
-    let archive = folder.join("libprobe.a");
     println!("cargo:rerun-if-changed=build.rs");
-    println!("cargo:rerun-if-changed={}", archive.display());
-    if !archive.exists() {
-        eprintln!("oracle: {} is not there: `bash oracle/run` makes it, or `rt staticlib probe`", archive.display());
-        std::process::exit(1);
-    }
     println!("cargo:rustc-link-search=native={}", folder.display());
-    println!("cargo:rustc-link-lib=static=probe");
+    for library in ["probe", "probe_history"] {
+        let archive = folder.join(format!("lib{library}.a"));
+        println!("cargo:rerun-if-changed={}", archive.display());
+        if !archive.exists() {
+            let told = archive.display();
+            eprintln!("oracle: {told} is not there: `bash oracle/run` makes it, or `rt staticlib {library}`");
+            std::process::exit(1);
+        }
+        println!("cargo:rustc-link-lib=static={library}");
+    }
 }

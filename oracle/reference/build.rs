@@ -54,14 +54,25 @@ fn main() {
     link(repository, "raimsklo");
 }
 
+/// The loop of `stoda` that adds the correction to the history's columns, which is no function there, and what follows it.
+const CORRECTION: [&str; 2] = [
+    "for j in 0..state.l {\n            for i in 0..state.n {\n                work.yh[i + j * state.n] +=",
+    "\n\n        state.icount -= 1;\n",
+];
+
 /// The solver: each `powf` is served by our root, and the comparisons reach its private functions through `reach`.
+/// The lines that add the correction stand a second time, as a function.
 fn lsoda(published: &Path, here: &Path) -> String {
     let mut source = read(published, "methods/lsoda.rs");
     source.must_have("powf", POWERS);
     source.replace(".powf(", ".power_by_root(", POWERS);
     source.must_have("mod reach", 0);
+    source.must_have("correct_columns", 0);
+    let correction = source.from_to(CORRECTION[0], CORRECTION[1]).to_string();
     source.text.push_str(&format!(
-        "\nuse crate::root::PowerByRoot as _;\n\n#[path = {:?}]\npub mod reach;\n",
+        "\nuse crate::root::PowerByRoot as _;\n\n\
+        fn correct_columns(state: &Common, work: &mut Work) {{\n        {correction}\n}}\n\n\
+        #[path = {:?}]\npub mod reach;\n",
         here.join("src/reach.rs")
     ));
     println!("cargo:rerun-if-changed=src/reach.rs");
@@ -112,13 +123,23 @@ impl Source {
         self.text.find(what).unwrap()
     }
 
-    /// What stands from one marker up to the next, which stays, is replaced. Each occurs once.
-    fn replace_from_to(&mut self, from: &str, to: &str, new: &str) {
+    /// Where what stands from one marker up to the next begins and ends. Each occurs once.
+    fn range(&self, from: &str, to: &str) -> std::ops::Range<usize> {
         let (start, end) = (self.only(from), self.only(to));
         if end < start {
             stop(&format!("{}: {to:?} stands before {from:?}", self.name));
         }
-        self.text.replace_range(start..end, new);
+        start..end
+    }
+
+    fn from_to(&self, from: &str, to: &str) -> &str {
+        &self.text[self.range(from, to)]
+    }
+
+    /// What stands from one marker up to the next, which stays, is replaced.
+    fn replace_from_to(&mut self, from: &str, to: &str, new: &str) {
+        let range = self.range(from, to);
+        self.text.replace_range(range, new);
     }
 }
 

@@ -30,7 +30,7 @@ also-at r true true k p h q = absurd (omega arith)
 also-at r true false k p h q = (q, refl)
 also-at r false b k p h q = absurd (eqb-false _ _ p q)
 
-also-none : (r : Refusal) (b : Bool) (k : ℕ) → 1 ≤ k → alsoOf r b k .number ≡ 0 → (r .number ≡ 0) × (b ≡ false)
+pub also-none : (r : Refusal) (b : Bool) (k : ℕ) → 1 ≤ k → alsoOf r b k .number ≡ 0 → (r .number ≡ 0) × (b ≡ false)
 unfolding alsoOf
 also-none r b k h q = also-at r (eqb (r .number) 0) b k refl h q
 
@@ -38,15 +38,15 @@ else-at : (a b : Refusal) (e : Bool) → eqb (a .number) 0 ≡ e → cond e b a 
 else-at a b true p q = (eqb-true _ _ p, q)
 else-at a b false p q = absurd (eqb-false _ _ p q)
 
-else-none : (a b : Refusal) → orElse a b .number ≡ 0 → (a .number ≡ 0) × (b .number ≡ 0)
+pub else-none : (a b : Refusal) → orElse a b .number ≡ 0 → (a .number ≡ 0) × (b .number ≡ 0)
 unfolding orElse
 else-none a b q = else-at a b (eqb (a .number) 0) refl q
 
-not-false : (b : Bool) → not b ≡ false → b ≡ true
+pub not-false : (b : Bool) → not b ≡ false → b ≡ true
 not-false true p = refl
 not-false false p = differs p
 
-same : (a b : ℕ) → not (eqb a b) ≡ false → a ≡ b
+pub same : (a b : ℕ) → not (eqb a b) ≡ false → a ≡ b
 same a b p = eqb-true a b (not-false (eqb a b) p)
 
 list-at : (len n : ℕ) (e : Bool) → eqb len 1 ≡ e → not (e || eqb len n) ≡ false → (len ≡ 1) ⊎ (len ≡ n)

@@ -40,6 +40,74 @@ impl Random {
     }
 }
 
+/// How the numbers of one case are drawn.
+#[derive(Clone, Copy)]
+pub enum Kind {
+    /// Of everyday size, with both signs.
+    Plain,
+    /// Whole and small: zeros of both signs, and many that are equal.
+    Whole,
+    /// Plain ones, and every sixth one of the ends of the ranges or a subnormal.
+    Mixed,
+    /// Any pattern.
+    Any,
+}
+
+impl Random {
+    pub fn kind(&mut self) -> Kind {
+        [Kind::Plain, Kind::Plain, Kind::Whole, Kind::Mixed, Kind::Mixed, Kind::Any][self.below(6) as usize]
+    }
+
+    pub fn draw(&mut self, kind: Kind) -> f64 {
+        let word = self.word();
+        match kind {
+            Kind::Plain => f64::from_bits(word & 1 << 63 | (1023 - 8 + self.below(16)) << 52 | word >> 12),
+            Kind::Whole => [0.0, -0.0, 1.0, -1.0, 2.0, -2.0, 3.0, 0.5][self.below(8) as usize],
+            Kind::Mixed => match self.below(12) {
+                0 => ENDS[self.below(ENDS.len() as u64) as usize],
+                1 => self.subnormal() * if word & 1 == 0 { 1.0 } else { -1.0 },
+                _ => self.draw(Kind::Plain),
+            },
+            Kind::Any => f64::from_bits(word),
+        }
+    }
+
+    pub fn list(&mut self, kind: Kind, length: usize) -> Vec<f64> {
+        (0..length).map(|_| self.draw(kind)).collect()
+    }
+
+    /// How many states: 1 to 64, mostly few.
+    pub fn states(&mut self) -> usize {
+        let most = [4, 4, 4, 4, 4, 12, 12, 64][self.below(8) as usize];
+        1 + self.below(most) as usize
+    }
+
+    /// From low to high, both included.
+    pub fn within(&mut self, low: usize, high: usize) -> usize {
+        low + self.below((high - low + 1) as u64) as usize
+    }
+
+    pub fn one_of(&mut self, list: &[f64]) -> f64 {
+        list[self.below(list.len() as u64) as usize]
+    }
+}
+
+/// What `Kind::Mixed` has among the plain numbers.
+const ENDS: [f64; 12] = [
+    0.0,
+    -0.0,
+    f64::NAN,
+    f64::INFINITY,
+    f64::NEG_INFINITY,
+    f64::MAX,
+    f64::MIN,
+    f64::MIN_POSITIVE,
+    -f64::MIN_POSITIVE,
+    1.0e300,
+    -1.0e-300,
+    1.0,
+];
+
 /// NaNs of each kind, infinities, zeros, the ends of the ranges, each with both signs.
 pub fn ends() -> Vec<f64> {
     let magnitudes = [

@@ -1,18 +1,24 @@
 //! compare [COMPARISON..] [--whole] [--size N] [--seed S]
 //!
 //! Runs the named comparisons, all where none is named, and exits with 1 if anything differs.
-//! `sample` writes the numbers that the program `replay` compares, which `stored` holds to be those.
+//! `sample` writes what the programs `replay` and `replay_leaves` compare, which `stored` holds to be that.
 
 mod cases;
+mod dense;
+mod history;
+mod interpolation;
 mod numbers;
 mod ours;
 mod outcome;
+mod record;
 mod report;
 mod rules;
 mod sample;
 mod sides;
+mod stored;
 mod sums;
 mod tables;
+mod vectors;
 
 use report::Report;
 use std::process::ExitCode;
@@ -22,9 +28,11 @@ const SAMPLE: u64 = 200_000;
 const WHOLE: u64 = 2_000_000;
 /// Square roots for each random root.
 const SQUARE_ROOTS: u64 = 10;
+/// Random roots of one order for each call of a leaf.
+const LEAVES: u64 = 2;
 const SEED: u64 = 20260309;
 
-const COMPARISONS: [&str; 4] = ["sums", "tables", "stored", "numbers"];
+const COMPARISONS: [&str; 5] = ["sums", "tables", "stored", "numbers", "leaves"];
 
 struct Wanted {
     comparisons: Vec<String>,
@@ -85,6 +93,13 @@ fn run(wanted: &Wanted) -> ExitCode {
                 numbers::roots(&mut report, *size, *seed);
                 numbers::square_roots(&mut report, SQUARE_ROOTS * size, *seed);
                 numbers::small(&mut report, *size, *seed);
+            }
+            "leaves" => {
+                let calls = size / LEAVES;
+                vectors::compare(&mut report, calls, *seed);
+                dense::compare(&mut report, calls, *seed);
+                history::compare(&mut report, calls, *seed);
+                interpolation::compare(&mut report, calls, *seed);
             }
             other => unreachable!("{other}"),
         }

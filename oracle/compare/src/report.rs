@@ -16,6 +16,17 @@ pub fn bits(x: f64) -> String {
     format!("{:016x}", x.to_bits())
 }
 
+/// The same for each number of two lists of one length.
+pub fn all_same(a: &[f64], b: &[f64]) -> bool {
+    a.len() == b.len() && a.iter().zip(b).all(|(&a, &b)| same(a, b))
+}
+
+/// A list as its bit patterns.
+pub fn all_bits(list: &[f64]) -> String {
+    let patterns: Vec<String> = list.iter().map(|&x| bits(x)).collect();
+    format!("[{}]", patterns.join(" "))
+}
+
 /// One comparison under way.
 pub struct Tally {
     name: String,

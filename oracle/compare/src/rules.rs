@@ -1,5 +1,5 @@
-//! What our numbers are compared with where the published source has no function of that name:
-//! the rule of the root, written down once more, and the machine's own square root.
+//! What our numbers are compared with where the published source has no function of that name, or takes what ours
+//! refuses: the rules of the root and of the refusals of an interpolation, written down once more.
 
 /// k factors y, multiplied from the left, each product rounded.
 pub fn product(y: f64, k: usize) -> f64 {
@@ -30,4 +30,23 @@ pub fn root(x: f64, k: usize) -> f64 {
 /// For x above 0 and finite: y is the largest float whose product is at most x.
 pub fn is_largest(x: f64, k: usize, y: f64) -> bool {
     product(y, k) <= x && x < product(y.next_up(), k)
+}
+
+/// The number of an interpolation: 0 for a copy or a value, otherwise the first refusal that applies.
+pub fn interpolation(cont: &[f64], output: usize) -> usize {
+    if cont.len() == output {
+        return 0;
+    }
+    let whole = |x: f64, limit: f64| (0.0..=limit).contains(&x) && x.fract() == 0.0;
+    if cont.len() < 6 || !whole(cont[0], 64.0) || !whole(cont[1], 12.0) {
+        return 15;
+    }
+    let (n, nq) = (cont[0] as usize, cont[1] as usize);
+    if output != n {
+        return 16;
+    }
+    if cont.len() - 6 < (nq + 1) * n || cont[3] == 0.0 {
+        return 17;
+    }
+    0
 }

@@ -1,15 +1,15 @@
-//! The stored sample that the program `replay` compares under `rt ci`, without Rust: writing it, and seeing
-//! that it is current.
+//! The stored sample that the programs `replay` and `replay_leaves` compare under `rt ci`, without Rust: writing it,
+//! and seeing that it is current. The calls of the leaves are drawn in `stored.rs`.
 
 use crate::cases::{self, Random};
 use crate::report::{Report, Tally};
-use crate::{rules, tables};
+use crate::{rules, stored, tables};
 use reference::reach::SM1;
 use std::fmt::Write;
 use std::path::PathBuf;
 use std::process::ExitCode;
 
-const SEED: u64 = 1;
+pub const SEED: u64 = 1;
 
 /// A kind, three arguments and the answer's pattern, as crates/replay/specs/Replay.antt has them.
 type Case = [u64; 5];
@@ -20,36 +20,38 @@ const HEAD: &str = "\
 // the square roots those of the machine, the roots those of the rule as oracle/compare/src/rules.rs has it.
 ";
 
-fn file() -> PathBuf {
-    PathBuf::from(env!("CARGO_MANIFEST_DIR")).join("../../crates/replay/src/table.rt")
+/// Both stored files, and what would be written to them now.
+fn files() -> [(PathBuf, String); 2] {
+    let folder = PathBuf::from(env!("CARGO_MANIFEST_DIR")).join("../../crates");
+    [(folder.join("replay/src/table.rt"), text()), (folder.join("replay_leaves/src/leaves.rt"), stored::text())]
 }
 
 pub fn write() -> ExitCode {
-    let file = file();
-    match std::fs::write(&file, text()) {
-        Ok(()) => ExitCode::SUCCESS,
-        Err(error) => {
+    for (file, text) in files() {
+        if let Err(error) = std::fs::write(&file, text) {
             eprintln!("compare: {}: {error}", file.display());
-            ExitCode::FAILURE
+            return ExitCode::FAILURE;
         }
     }
+    ExitCode::SUCCESS
 }
 
-/// Each word of the stored file against the word that would be written now, comments and layout aside.
+/// Each word of the stored files against the word that would be written now, comments and layout aside.
 pub fn compare(report: &mut Report) {
     let mut tally = Tally::new("stored sample, by words");
-    let stored = std::fs::read_to_string(file()).unwrap_or_default();
-    let now = text();
-    let mut stored = words(&stored);
-    for (at, word) in words(&now).enumerate() {
-        tally.case(stored.next() == Some(word), || format!("word {} is not {word}", at + 1));
+    for (file, now) in files() {
+        let stored = std::fs::read_to_string(&file).unwrap_or_default();
+        let mut stored = words(&stored);
+        for (at, word) in words(&now).enumerate() {
+            tally.case(stored.next() == Some(word), || format!("{}: word {} is not {word}", file.display(), at + 1));
+        }
+        tally.case(stored.next().is_none(), || format!("{}: more words are stored", file.display()));
     }
-    tally.case(stored.next().is_none(), || "more words are stored".to_string());
     report.end(tally, "");
 }
 
 fn words(text: &str) -> impl Iterator<Item = &str> {
-    let code = text.lines().filter(|line| !line.starts_with("//"));
+    let code = text.lines().filter(|line| !line.trim_start().starts_with("//"));
     code.flat_map(|line| line.split(|c: char| !c.is_alphanumeric())).filter(|word| !word.is_empty())
 }
 
@@ -66,7 +68,7 @@ fn text() -> String {
 }
 
 /// Every NaN has the same pattern.
-fn pattern(x: f64) -> u64 {
+pub fn pattern(x: f64) -> u64 {
     if x.is_nan() { 0x7ff8_0000_0000_0000 } else { x.to_bits() }
 }
 

@@ -207,6 +207,11 @@ pub fn retract_yh(state: &State, yh: &mut [f64]) {
     super::retract_yh(&state.common(), yh);
 }
 
+/// The lines of `stoda` that add the correction to the columns.
+pub fn correct_columns(state: &State, work: &mut Buffers) {
+    work.with(|work| super::correct_columns(&state.common(), work));
+}
+
 pub fn stoda_handle_corrector_failure(state: &mut State, work: &mut Buffers, told: f64, ncf: &mut usize) -> bool {
     state.with(|common| work.with(|work| super::stoda_handle_corrector_failure(common, work, told, ncf)))
 }

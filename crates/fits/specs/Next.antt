@@ -1,0 +1,17 @@
+-- The session of an accepted start, and the session that a reply leaves: the settings stay.
+use lib.Ieee.{Float}
+use Rattle.machine.specs.declared.Session.{Session}
+use Rattle.machine.specs.declared.Phase.the-variants.{FirstDerivative}
+use Rattle.machine.specs.Reports.{initialOf}
+use Rattle.machine.specs.Turns.{Left}
+use Rattle.refusals.specs.declared.Options.{Options}
+use Rattle.refusals.specs.declared.Lengths.{Lengths}
+use Rattle.refusals.specs.Start.{settingsOf, firstStepOf}
+
+abbrev pub started : Float → Float → Options → Lengths → Session
+started x0 xend o l =
+    let s = settingsOf x0 xend o l in
+    record { settings = s; common = initialOf s x0 (firstStepOf o); phase = FirstDerivative }
+
+abbrev pub next : Session → Left → Session
+next x l = record { settings = x .settings; common = l .turn .common; phase = l .turn .phase }

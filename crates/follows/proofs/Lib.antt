@@ -1,0 +1,13 @@
+pub mod Alive
+pub mod Replies
+pub mod Pass
+pub mod Step
+pub mod Start
+pub mod Follows
+pub mod Ends
+pub mod Ranges
+pub mod Session
+pub mod Resumed
+pub mod Kept
+pub mod Sums
+pub mod Fakes

@@ -1,0 +1,436 @@
+-- The orders, columns and counters of a run stay in range, whatever the floats. They are taken out of the record as
+-- plain numbers (`Core`), so that a change of any other field leaves the statement as it stands.
+--     Within                    the ranges with `under` steps under way, and with them the number of steps
+--     within-accept, within-unconverged, within-failed, within-restep, within-judged, within-factored
+--     within-prepared, within-restart, within-initial     what each rule keeps
+-- Assumes nothing.
+use mathlib.Core.Bool.{Bool, true, false}
+use mathlib.Core.List.{List}
+use mathlib.Core.Logic.{_⊎_, inl, inr, ⊎-elim}
+use mathlib.Core.Path.{_≡_}
+use Prim.Native.Nat.{ℕ, _+_, _-_, _*_, _%_, _≤_, _<_}
+use native.Mathlib.Nat.{mul-le-mul-right, mul-mod-left, mod-self}
+use native.Mathlib.Omega.{arith}
+use lib.Ieee.{Float}
+use Rattle.common.specs.declared.MethodFamily.{MethodFamily}
+use Rattle.common.specs.declared.MethodFamily.the-variants.{Adams, Bdf}
+use Rattle.common.specs.declared.Settings.{Settings}
+use Rattle.common.specs.declared.Common.{Common}
+use Rattle.common.specs.Limits.{mxncfOf, maxordOf}
+use Rattle.common.specs.Rules.{icount20, firstCallInitOf, resetOf}
+use Rattle.history.specs.Steps.{InRange, adjustOf}
+use Rattle.corrector.specs.declared.Correction.{Correction}
+use Rattle.corrector.specs.Jacobian.{finishedOf}
+use Rattle.corrector.specs.Iterate.{openOf}
+use Rattle.corrector.specs.Verdict.{judgeOf}
+use Rattle.corrector.proofs.Laws.{SameStep, same-judge, judged}
+use Rattle.attempt.specs.declared.Next.the-variants.{Pass, Restep}
+use Rattle.attempt.specs.Attempt.{noConvergenceOf, failedOf, restepOf}
+use Rattle.attempt.proofs.Laws.{Kept, unconverged, failed, restepped}
+use Rattle.acceptance.specs.Accept.{acceptOf}
+use Rattle.acceptance.proofs.Ranges.{Ready}
+use Rattle.acceptance.proofs.Laws.{accept-keeps}
+use Rattle.machine.specs.Ranges.{Accepted, Orders}
+use Rattle.machine.specs.Begin.{isCut, cutOf, setupOf, preparedAt, preparedOf}
+use Rattle.machine.specs.Reports.{initialOf}
+
+pub record Core : Type 0 where
+  pub nq : ℕ
+  pub lmax : ℕ
+  pub nqnyh : ℕ
+  pub table : ℕ
+  pub ialth : ℕ
+  pub icount : ℕ
+  pub kflag : ℕ
+  pub ncf : ℕ
+  pub m : ℕ
+  pub column : ℕ
+  pub nslp : ℕ
+  pub nst : ℕ
+
+abbrev pub coreOf : Common → Core
+coreOf c = record {
+  nq = c .nq;
+  lmax = c .lmax;
+  nqnyh = c .nqnyh;
+  table = c .table;
+  ialth = c .ialth;
+  icount = c .icount;
+  kflag = c .kflag;
+  ncf = c .ncf;
+  m = c .m;
+  column = c .column;
+  nslp = c .nslp;
+  nst = c .nst;
+}
+
+pub record Within (s : Settings) (under : ℕ) (k : Core) : Type 0 where
+  pub nq : (1 ≤ k .nq) × (k .nq ≤ 12)
+  pub lmax : (2 ≤ k .lmax) × (k .lmax ≤ 13) × (k .nq + 1 ≤ k .lmax)
+  pub nqnyh : (k .nqnyh % s .n ≡ 0) × (k .nq * s .n ≤ k .nqnyh) × (k .nqnyh ≤ 12 * s .n)
+  pub table : k .table ≤ 1
+  pub ialth : 1 ≤ k .ialth
+  pub icount : (icount20 ≤ k .icount + k .nst) × (k .icount ≤ icount20)
+  pub kflag : k .kflag ≤ 9
+  pub ncf : k .ncf < mxncfOf s
+  pub m : k .m < s .maxcor
+  pub column : k .column < s .n
+  pub nslp : k .nslp ≤ k .nst
+  pub steps : k .nst + under ≤ s .maxsteps
+
+module _ (s : Settings) (acc : Accepted s) where
+  -- ---- to and from the ranges of the crates below
+
+  pub orders-of : (under : ℕ) (c : Common) → Within s under (coreOf c) → Orders s c
+  orders-of under c p =
+      record {
+        nq = p .nq;
+        lmax = p .lmax;
+        nqnyh = p .nqnyh;
+        table = p .table;
+        ialth = p .ialth;
+        icount = (omega (arith, p .icount, p .steps, acc .maxsteps), p .icount .1);
+        kflag = p .kflag;
+        ncf = p .ncf;
+        m = p .m;
+        column = p .column;
+      }
+
+  range-of : {under : ℕ} (c : Common) → Within s under (coreOf c) → InRange s c
+  range-of c p =
+      record {
+        n = acc .n;
+        order = p .nq;
+        table = omega (arith, p .table);
+        used = (p .nqnyh .1, p .nqnyh .2);
+        steps = (omega (arith, p .nslp, p .steps, acc .maxsteps), acc .msbp);
+      }
+
+  ready-of : {under : ℕ} (c : Common) → Within s under (coreOf c) → Ready s c
+  ready-of c p =
+      record {
+        limits = (acc .mxordn .0, acc .mxords .0);
+        range = range-of c p;
+        lmax = p .lmax;
+        multiple = p .nqnyh .0;
+      }
+
+  -- ---- a corrector pass
+
+  module _ {under : ℕ} (c : Common) (p : Within s under (coreOf c)) where
+    pub within-open : Within s under (coreOf (openOf c))
+    unfolding openOf
+    within-open =
+        record {
+          nq = p .nq;
+          lmax = p .lmax;
+          nqnyh = p .nqnyh;
+          table = p .table;
+          ialth = p .ialth;
+          icount = p .icount;
+          kflag = p .kflag;
+          ncf = p .ncf;
+          m = omega (arith, acc .maxcor);
+          column = p .column;
+          nslp = p .nslp;
+          steps = p .steps;
+        }
+
+    same-within : (d : Common) → SameStep c d → d .m < s .maxcor → Within s under (coreOf d)
+    same-within d q m =
+        record {
+          nq = rw (q .nq) (p .nq);
+          lmax = rw (q .lmax, q .nq) (p .lmax);
+          nqnyh = rw (q .nqnyh, q .nq) (p .nqnyh);
+          table = rw (q .table) (p .table);
+          ialth = rw (q .ialth) (p .ialth);
+          icount = rw (q .icount, q .nst) (p .icount);
+          kflag = rw (q .kflag) (p .kflag);
+          ncf = rw (q .ncf) (p .ncf);
+          m = m;
+          column = rw (q .column) (p .column);
+          nslp = rw (q .nslp, q .nst) (p .nslp);
+          steps = rw (q .nst) (p .steps);
+        }
+
+    pub within-judged : (x : Correction) (pnorm : Float) → Within s under (coreOf (judgeOf s c x pnorm .common))
+    within-judged x pnorm = same-within _ (same-judge s c x pnorm) (judged s c x pnorm (p .m) .below)
+
+    pub within-factored : (work : List Float) (ipiv : List ℕ)
+        → Within s under (coreOf (finishedOf s c work ipiv .common))
+    unfolding finishedOf
+    within-factored work ipiv =
+        record {
+          nq = p .nq;
+          lmax = p .lmax;
+          nqnyh = p .nqnyh;
+          table = p .table;
+          ialth = p .ialth;
+          icount = p .icount;
+          kflag = p .kflag;
+          ncf = p .ncf;
+          m = p .m;
+          column = p .column;
+          nslp = omega arith;
+          steps = p .steps;
+        }
+
+    pub within-column : (j : ℕ) → j < s .n → Within s under (record {
+      nq = c .nq;
+      lmax = c .lmax;
+      nqnyh = c .nqnyh;
+      table = c .table;
+      ialth = c .ialth;
+      icount = c .icount;
+      kflag = c .kflag;
+      ncf = c .ncf;
+      m = c .m;
+      column = j;
+      nslp = c .nslp;
+      nst = c .nst;
+    })
+    within-column j h =
+        record {
+          nq = p .nq;
+          lmax = p .lmax;
+          nqnyh = p .nqnyh;
+          table = p .table;
+          ialth = p .ialth;
+          icount = p .icount;
+          kflag = p .kflag;
+          ncf = p .ncf;
+          m = p .m;
+          column = h;
+          nslp = p .nslp;
+          steps = p .steps;
+        }
+
+    -- ---- after a pass that was not accepted
+
+    attempt-within : (d : Common) → Kept c d → InRange s d → d .nq + 1 ≤ c .lmax → d .nqnyh % s .n ≡ 0
+        → 1 ≤ d .ialth → d .kflag ≤ 9 → d .ncf < mxncfOf s → Within s under (coreOf d)
+    attempt-within d k r lmax multiple ialth kflag ncf =
+        record {
+          nq = r .order;
+          lmax = rw (k .lmax) (p .lmax .0, p .lmax .1, lmax);
+          nqnyh = (multiple, r .used .0, r .used .1);
+          table = rw (k .table) (p .table);
+          ialth = ialth;
+          icount = rw (k .icount, k .nst) (p .icount);
+          kflag = kflag;
+          ncf = ncf;
+          m = rw (k .m) (p .m);
+          column = rw (k .column) (p .column);
+          nslp = rw (k .nslp, k .nst) (p .nslp);
+          steps = rw (k .nst) (p .steps);
+        }
+
+    module _ (work : List Float) where
+      pub within-unconverged : noConvergenceOf s c work .next ≡ Pass
+          → Within s under (coreOf (noConvergenceOf s c work .common))
+      within-unconverged e =
+          let u = unconverged s c work in
+          attempt-within _ (u .kept) (u .in-range (range-of c p)) (rw (u .nq) (p .lmax .2))
+          (rw (u .nqnyh) (p .nqnyh .0)) (u .ialth (p .ialth)) (rw (u .kflag) (p .kflag))
+          (rw (u .ncf) (u .below (p .ncf) e))
+
+      module _ (dsm : Float) where
+        pub within-failed : failedOf s c dsm work .common .kflag ≤ 9
+            → Within s under (coreOf (failedOf s c dsm work .common))
+        within-failed few =
+            let u = failed s c dsm work in
+            attempt-within _ (u .kept) (u .in-range (range-of c p)) (rw (u .nq) (p .lmax .2))
+            (rw (u .nqnyh) (p .nqnyh .0)) (u .ialth (p .ialth)) few (rw (u .ncf) (p .ncf))
+
+        pub failed-pass : failedOf s c dsm work .next ≡ Pass → failedOf s c dsm work .common .kflag ≤ 9
+        failed-pass e = let u = failed s c dsm work in omega (arith, u .kflag, u .pass e)
+
+        pub failed-restep : failedOf s c dsm work .next ≡ Restep → failedOf s c dsm work .common .kflag ≤ 9
+        failed-restep e = let u = failed s c dsm work in omega (arith, u .kflag, u .restep (p .kflag) e)
+
+      pub within-restep : Within s under (coreOf (restepOf s c work .common))
+      within-restep =
+          let u = restepped s c work in
+          attempt-within _ (u .kept) (u .in-range (range-of c p)) (rw (u .nq) (p .lmax .0))
+          (⊎-elim (λ e. rw (e .1) (p .nqnyh .0)) (λ e. rw (e .1) (mod-self (s .n))) (u .nqnyh)) (u .ialth)
+          (rw (u .kflag) (p .kflag)) (rw (u .ncf) (p .ncf))
+
+    -- ---- between steps
+
+    pub within-restart : Within s under (record {
+      nq = 1;
+      lmax = c .lmax;
+      nqnyh = c .nqnyh;
+      table = c .table;
+      ialth = c .ialth;
+      icount = c .icount;
+      kflag = c .kflag;
+      ncf = c .ncf;
+      m = c .m;
+      column = c .column;
+      nslp = c .nslp;
+      nst = c .nst;
+    })
+    within-restart =
+        let least = mul-le-mul-right (s .n) (p .nq .0) in
+        record {
+          nq = omega arith;
+          lmax = (p .lmax .0, p .lmax .1, p .lmax .0);
+          nqnyh = (p .nqnyh .0, omega (arith, least, p .nqnyh .1), p .nqnyh .2);
+          table = p .table;
+          ialth = p .ialth;
+          icount = p .icount;
+          kflag = p .kflag;
+          ncf = p .ncf;
+          m = p .m;
+          column = p .column;
+          nslp = p .nslp;
+          steps = p .steps;
+        }
+
+    pub within-cut : (work : List Float) → Within s under (coreOf (cutOf s c work .common))
+    unfolding cutOf adjustOf
+    within-cut work =
+        record {
+          nq = p .nq;
+          lmax = p .lmax;
+          nqnyh = p .nqnyh;
+          table = p .table;
+          ialth = omega arith;
+          icount = p .icount;
+          kflag = p .kflag;
+          ncf = p .ncf;
+          m = p .m;
+          column = p .column;
+          nslp = p .nslp;
+          steps = p .steps;
+        }
+
+    maxord-range : (f : MethodFamily) → (1 ≤ maxordOf s f) × (maxordOf s f ≤ 12)
+    maxord-range Adams = (omega (arith, acc .mxordn), omega arith)
+    maxord-range Bdf = (omega (arith, acc .mxords), omega arith)
+
+    pub within-setup : Within s under (coreOf (setupOf s c))
+    unfolding setupOf resetOf firstCallInitOf
+    within-setup =
+        let q = maxord-range (c .meth) in
+        record {
+          nq = omega arith;
+          lmax = (omega (arith, q), omega (arith, q), omega (arith, q));
+          nqnyh = (mul-mod-left 1 (s .n), omega arith, omega arith);
+          table = omega arith;
+          ialth = omega arith;
+          icount = (omega arith, omega arith);
+          kflag = p .kflag;
+          ncf = p .ncf;
+          m = p .m;
+          column = p .column;
+          nslp = omega arith;
+          steps = p .steps;
+        }
+
+    prepared-at : (work : List Float) (cut due : Bool) → Within s under (coreOf (preparedAt s cut due c work .common))
+    unfolding preparedAt
+    prepared-at work true due = within-cut work
+    prepared-at work false true = within-setup
+    prepared-at work false false = p
+
+    pub within-prepared : (work : List Float) → Within s under (coreOf (preparedOf s c work .common))
+    unfolding preparedOf
+    within-prepared work = prepared-at work (isCut s c) (c .setup)
+
+    -- a step begins with no failure
+    pub within-entered : Within s under (record {
+      nq = c .nq;
+      lmax = c .lmax;
+      nqnyh = c .nqnyh;
+      table = c .table;
+      ialth = c .ialth;
+      icount = c .icount;
+      kflag = 0;
+      ncf = 0;
+      m = c .m;
+      column = c .column;
+      nslp = c .nslp;
+      nst = c .nst;
+    })
+    within-entered =
+        record {
+          nq = p .nq;
+          lmax = p .lmax;
+          nqnyh = p .nqnyh;
+          table = p .table;
+          ialth = p .ialth;
+          icount = p .icount;
+          kflag = omega arith;
+          ncf = omega arith;
+          m = p .m;
+          column = p .column;
+          nslp = p .nslp;
+          steps = p .steps;
+        }
+
+    pub within-another : c .nst + 1 ≤ s .maxsteps → Within s 1 (coreOf c)
+    within-another h =
+        record {
+          nq = p .nq;
+          lmax = p .lmax;
+          nqnyh = p .nqnyh;
+          table = p .table;
+          ialth = p .ialth;
+          icount = p .icount;
+          kflag = p .kflag;
+          ncf = p .ncf;
+          m = p .m;
+          column = p .column;
+          nslp = p .nslp;
+          steps = h;
+        }
+
+  -- ---- an accepted step
+
+  pub within-accept : (c : Common) → Within s 1 (coreOf c) → (dsm : Float) (work : List Float)
+      → Within s 0 (coreOf (acceptOf s c dsm work .common))
+  within-accept c p dsm work =
+      let u = accept-keeps s c dsm work in
+      let r = u .ready (ready-of c p) in
+      record {
+        nq = r .range .order;
+        lmax = r .lmax;
+        nqnyh = (r .multiple, r .range .used .0, r .range .used .1);
+        table = rw (u .table) (p .table);
+        ialth = u .ialth (p .ialth);
+        icount = icount-accepted _ _ (u .icount) (u .nst);
+        kflag = rw (u .kflag) (omega arith);
+        ncf = rw (u .ncf) (p .ncf);
+        m = rw (u .m) (omega (arith, acc .maxcor));
+        column = rw (u .column) (p .column);
+        nslp = rw (u .nslp, u .nst) (omega (arith, p .nslp));
+        steps = rw (u .nst) (omega (arith, p .steps));
+      }
+    where
+      -- icount falls by 1, or is 20 again
+      icount-accepted : (i n : ℕ) → (i ≡ c .icount - 1) ⊎ (i ≡ icount20) → n ≡ c .nst + 1
+          → (icount20 ≤ i + n) × (i ≤ icount20)
+      icount-accepted i n (inl e) q = omega (arith, p .icount, p .steps, acc .maxsteps)
+      icount-accepted i n (inr e) q = omega arith
+
+  -- ---- the start
+
+  pub within-initial : (x0 h : Float) → Within s 0 (coreOf (initialOf s x0 h))
+  unfolding initialOf
+  within-initial x0 h =
+      record {
+        nq = omega arith;
+        lmax = (omega (arith, acc .mxordn), omega arith, omega (arith, acc .mxordn));
+        nqnyh = (mod-self (s .n), omega arith, omega arith);
+        table = omega arith;
+        ialth = omega arith;
+        icount = (omega arith, omega arith);
+        kflag = omega arith;
+        ncf = omega arith;
+        m = omega (arith, acc .maxcor);
+        column = omega (arith, acc .n);
+        nslp = omega arith;
+        steps = omega (arith, acc .maxsteps);
+      }

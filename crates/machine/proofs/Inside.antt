@@ -1,0 +1,133 @@
+-- What the functions inside a reply ask of the record (`Inside`) holds at each of their calls.
+--     orders-range, in-range, ready       what a step's functions and an accepted step ask
+--     inside-ranges         a session in range
+--     inside-same           what a corrector pass leaves alone does not matter
+--     inside-tn, inside-column, inside-restart, inside-open, inside-judged, inside-factored     what each change keeps
+--     lent-length, lent-factored     the work and the pivots after a change
+-- Assumes nothing.
+use mathlib.Core.Path.{_≡_, _∙_}
+use mathlib.Core.List.{List}
+use Prim.Native.Nat.{ℕ, _^_, _<_}
+use native.Mathlib.Omega.{arith}
+use lib.Ieee.{Float}
+use lib.ListN.{length}
+use Rattle.common.specs.declared.Settings.{Settings}
+use Rattle.common.specs.declared.Common.{Common}
+use Rattle.common.specs.Record.{with-tn, with-column}
+use Rattle.history.specs.Steps.{InRange}
+use Rattle.corrector.specs.declared.Correction.{Correction}
+use Rattle.corrector.specs.Jacobian.{finishedOf}
+use Rattle.corrector.specs.Iterate.{openOf}
+use Rattle.corrector.specs.Verdict.{judgeOf}
+use Rattle.corrector.proofs.Laws.{SameStep, same-open, open-flags, same-judge, judged, same-finished}
+use Rattle.corrector.proofs.Laws.{length-finished, length-finished-ipiv, finished-below}
+use Rattle.acceptance.proofs.Ranges.{Ready}
+use Rattle.machine.specs.Ranges.{Accepted, Orders, Ranges, Lent}
+use Rattle.machine.specs.Requires.{Inside}
+use Rattle.machine.specs.Reports.{restartOf}
+use Rattle.machine.proofs.Keeps.{same-orders, orders-tn, orders-column, orders-restart, orders-factored}
+
+module _ {s : Settings} {c : Common} where
+  pub orders-range : Accepted s → c .nslp < 2 ^ 62 → Orders s c → InRange s c
+  orders-range a few o =
+      record {
+        n = a .n;
+        order = o .nq;
+        table = omega (arith, o .table);
+        used = (o .nqnyh .1, o .nqnyh .2);
+        steps = (few, a .msbp);
+      }
+
+  pub in-range : Inside s c → InRange s c
+  in-range p = orders-range (p .settings) (p .steps .0) (p .orders)
+
+  -- what an accepted step asks
+  pub ready : Inside s c → Ready s c
+  ready p =
+      record {
+        limits = (p .settings .mxordn .0, p .settings .mxords .0);
+        range = in-range p;
+        lmax = p .orders .lmax;
+        multiple = p .orders .nqnyh .0;
+      }
+
+  pub inside-ranges : Ranges s c → Inside s c
+  inside-ranges p =
+      let k = p .counts in
+      record {
+        settings = p .settings;
+        orders = p .orders;
+        steps = (omega (arith, k .nslp), omega (arith, k .nst));
+        counts = (omega (arith, k .nfe), omega (arith, k .count), omega (arith, k .rejected));
+      }
+
+  pub inside-same : (d : Common) → SameStep c d → d .m < s .maxcor → Inside s c → Inside s d
+  inside-same d q m p =
+      record {
+        settings = p .settings;
+        orders = same-orders d q m (p .orders);
+        steps = rw (q .nslp, q .nst) (p .steps);
+        counts = rw (q .nfe, q .count, q .rejected) (p .counts);
+      }
+
+  pub inside-tn : (t : Float) → Inside s c → Inside s (with-tn t c)
+  inside-tn t p =
+      record {
+        settings = p .settings;
+        orders = orders-tn (p .orders) t;
+        steps = p .steps;
+        counts = p .counts;
+      }
+
+  pub inside-column : (j : ℕ) → j < s .n → Inside s c → Inside s (with-column j c)
+  inside-column j h p =
+      record {
+        settings = p .settings;
+        orders = orders-column (p .orders) j h;
+        steps = p .steps;
+        counts = p .counts;
+      }
+
+  -- order 1: nqnyh stays
+  pub inside-restart : Inside s c → Inside s (restartOf c)
+  inside-restart p =
+      record {
+        settings = p .settings;
+        orders = orders-restart (p .orders);
+        steps = p .steps;
+        counts = p .counts;
+      }
+
+  pub inside-open : Inside s c → Inside s (openOf c)
+  inside-open p =
+      inside-same (openOf c) (same-open c) (rw (open-flags c .2) (omega (arith, p .settings .maxcor .0))) p
+
+  pub inside-judged : (x : Correction) (pnorm : Float) → Inside s c → Inside s (judgeOf s c x pnorm .common)
+  inside-judged x pnorm p =
+      inside-same _ (same-judge s c x pnorm) (judged s c x pnorm (p .orders .m) .below) p
+
+module _ (s : Settings) (c : Common) (work : List Float) (ipiv : List ℕ) where
+  -- nslp becomes nst
+  pub inside-factored : Inside s c → Inside s (finishedOf s c work ipiv .common)
+  inside-factored p =
+      let q = same-finished s c work ipiv in
+      record {
+        settings = p .settings;
+        orders = orders-factored (p .orders) work ipiv;
+        steps = rw (q .nslp, q .nst) (p .steps .1, p .steps .1);
+        counts = rw (q .nfe, q .count, q .rejected) (p .counts);
+      }
+
+  pub lent-factored : Lent (s .n) work ipiv
+      → Lent (s .n) (finishedOf s c work ipiv .work) (finishedOf s c work ipiv .ipiv)
+  lent-factored p =
+      record {
+        sized = length-finished s c work ipiv (omega (arith, p .sized)) ∙ p .sized;
+        pivots = length-finished-ipiv s c work ipiv ∙ p .pivots;
+        below = finished-below s c work ipiv (p .below);
+      }
+
+-- another work of the same length
+pub lent-length : {n : ℕ} {work : List Float} {ipiv : List ℕ} (w : List Float) → length w ≡ length work
+    → Lent n work ipiv → Lent n w ipiv
+lent-length w e p = record { sized = e ∙ p .sized; pivots = p .pivots; below = p .below }

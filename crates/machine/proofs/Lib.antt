@@ -1,0 +1,5 @@
+pub mod Inside
+pub mod Keeps
+pub mod Replies
+pub mod Lengths
+pub mod Order

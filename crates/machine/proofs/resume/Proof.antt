@@ -1,0 +1,419 @@
+-- `resume` meets its contract: a reply that was not asked for changes nothing, and each phase has its own way.
+-- Assumes nothing.
+use mathlib.Core.Path.{refl, sym, ap, _∙_}
+use native.Mathlib.Omega.{arith}
+use borrow.Author.Needs.{needs}
+use borrow.Author.Tests.{not-true, not-false}
+use Rattle.machine.specs.Turns.{leaving}
+use Rattle.machine.proofs.Inside.{inside-ranges}
+use Rattle.machine.specs.Resume.{With, firstAnsweredOf, answeredOf, takenOf}
+use Rattle.machine.proofs.Replies.{derivative-length, jacobian-length, answer-length, held, asked-in}
+use Rattle.machine.proofs.Replies.{resume-asked, resume-unasked, first-unasked, report-unasked}
+use denote.Ref.{now}
+use Rattle.machine.specs.declared.Phase.the-variants as Phase
+use Rattle.machine.specs.declared.Kind.{Kind}
+use Rattle.machine.proofs.resume.Statement.{statement}
+use Rattle.machine.proofs.resume.Tie as tie
+
+is-asked-requires : tie.Need-is-asked-requires
+is-asked-requires c κs = search needs
+
+returns : tie.Need-returns
+returns c =
+    let i = c .before in
+    let x = i .before .before .before .before .before .before .before .before .args in
+    sym (resume-unasked (x .x) (x .kind) _ (x .time) _ (sym (i .is-asked .ensures) ∙ not-true _ (c .if1 .taken)))
+
+enum-told : tie.Need-enum-told
+enum-told c = search needs
+
+first-derivative-requires : tie.Need-first-derivative-requires
+first-derivative-requires c κs =
+    let e = c .before in
+    let t = e .enum-told .given .1 in
+    let a = e .before .before .before .before .before .before .before .before .before .before .before in
+    let x = a .args in
+    let i = e .before .before in
+    let yes = sym (i .before .is-asked .ensures) ∙ not-false _ (i .if1 .left) in
+    let r = held Phase.FirstDerivative _ t (a .pre .1) in
+    let l = derivative-length _ _ (x .kind) (asked-in Phase.FirstDerivative (x .kind) _ _ t yes) in
+    (r .ranges .settings .n .0, (r .relative, (r .absolute, (l, omega (arith, r .lent .sized)))))
+
+enum-told-2 : tie.Need-enum-told-2
+enum-told-2 c = search needs
+
+enum-known-kind : tie.Need-enum-known-kind
+enum-known-kind c = search needs
+
+first-report-requires : tie.Need-first-report-requires
+first-report-requires c κs =
+    let e = c .before .before .before .before in
+    let t = e .enum-told2 .given .1 in
+    let a = e .before .before .before .before .before .before .before .before .before .before .before in
+    let x = a .args in
+    let i = e .before .before in
+    let yes = sym (i .before .is-asked .ensures) ∙ not-false _ (i .if1 .left) in
+    let r = held Phase.FirstReport _ t (a .pre .1) in
+    let l = answer-length _ _ (x .kind) (asked-in Phase.FirstReport (x .kind) _ _ t yes) in
+    (inside-ranges (r .ranges), (l, omega (arith, r .lent .sized)))
+
+enum-told-3 : tie.Need-enum-told-3
+enum-told-3 c = search needs
+
+first-modified-requires : tie.Need-first-modified-requires
+first-modified-requires c κs =
+    let e = c .before in
+    let t = e .enum-told3 .given .1 in
+    let a = e .before .before .before .before .before .before .before .before .before .before .before in
+    let x = a .args in
+    let i = e .before .before in
+    let yes = sym (i .before .is-asked .ensures) ∙ not-false _ (i .if1 .left) in
+    let r = held Phase.FirstModified _ t (a .pre .1) in
+    let l = derivative-length _ _ (x .kind) (asked-in Phase.FirstModified (x .kind) _ _ t yes) in
+    (inside-ranges (r .ranges), (l, omega (arith, r .lent .sized)))
+
+enum-told-4 : tie.Need-enum-told-4
+enum-told-4 c = search needs
+
+opened-requires : tie.Need-opened-requires
+opened-requires c κs =
+    let e = c .before .before in
+    let t = e .enum-told4 .given .1 in
+    let a = e .before .before .before .before .before .before .before .before .before .before .before in
+    let x = a .args in
+    let i = e .before .before in
+    let yes = sym (i .before .is-asked .ensures) ∙ not-false _ (i .if1 .left) in
+    let r = held Phase.Opened _ t (a .pre .1) in
+    let l = derivative-length _ _ (x .kind) (asked-in Phase.Opened (x .kind) _ _ t yes) in
+    (inside-ranges (r .ranges), (omega (arith, r .ranges .counts .nje), (r .relative, (r .absolute, (l, r .lent)))))
+
+enum-told-5 : tie.Need-enum-told-5
+enum-told-5 c = search needs
+
+jacobian-requires : tie.Need-jacobian-requires
+jacobian-requires c κs =
+    let e = c .before .before in
+    let t = e .enum-told5 .given .1 in
+    let a = e .before .before .before .before .before .before .before .before .before .before .before in
+    let x = a .args in
+    let i = e .before .before in
+    let yes = sym (i .before .is-asked .ensures) ∙ not-false _ (i .if1 .left) in
+    let r = held Phase.JacobianAsked _ t (a .pre .1) in
+    let l = jacobian-length _ _ (x .kind) (asked-in Phase.JacobianAsked (x .kind) _ _ t yes) in
+    (inside-ranges (r .ranges), (omega (arith, r .ranges .counts .nlu), (r .relative, (r .absolute, (l, r .lent)))))
+
+enum-told-6 : tie.Need-enum-told-6
+enum-told-6 c = search needs
+
+column-requires : tie.Need-column-requires
+column-requires c κs =
+    let e = c .before .before in
+    let t = e .enum-told6 .given .1 in
+    let a = e .before .before .before .before .before .before .before .before .before .before .before in
+    let x = a .args in
+    let i = e .before .before in
+    let yes = sym (i .before .is-asked .ensures) ∙ not-false _ (i .if1 .left) in
+    let r = held Phase.DifferenceColumn _ t (a .pre .1) in
+    let l = derivative-length _ _ (x .kind) (asked-in Phase.DifferenceColumn (x .kind) _ _ t yes) in
+    (inside-ranges (r .ranges), (omega (arith, r .ranges .counts .nlu), (r .relative, (r .absolute, (l, r .lent)))))
+
+enum-told-7 : tie.Need-enum-told-7
+enum-told-7 c = search needs
+
+further-requires : tie.Need-further-requires
+further-requires c κs =
+    let e = c .before .before in
+    let t = e .enum-told7 .given .1 in
+    let a = e .before .before .before .before .before .before .before .before .before .before .before in
+    let x = a .args in
+    let i = e .before .before in
+    let yes = sym (i .before .is-asked .ensures) ∙ not-false _ (i .if1 .left) in
+    let r = held Phase.FurtherDerivative _ t (a .pre .1) in
+    let l = derivative-length _ _ (x .kind) (asked-in Phase.FurtherDerivative (x .kind) _ _ t yes) in
+    (inside-ranges (r .ranges), (r .relative, (r .absolute, (l, r .lent))))
+
+enum-told-8 : tie.Need-enum-told-8
+enum-told-8 c = search needs
+
+restep-requires : tie.Need-restep-requires
+restep-requires c κs =
+    let e = c .before in
+    let t = e .enum-told8 .given .1 in
+    let a = e .before .before .before .before .before .before .before .before .before .before .before in
+    let x = a .args in
+    let i = e .before .before in
+    let yes = sym (i .before .is-asked .ensures) ∙ not-false _ (i .if1 .left) in
+    let r = held Phase.Restep _ t (a .pre .1) in
+    let l = derivative-length _ _ (x .kind) (asked-in Phase.Restep (x .kind) _ _ t yes) in
+    (inside-ranges (r .ranges), (l, omega (arith, r .lent .sized)))
+
+enum-told-9 : tie.Need-enum-told-9
+enum-told-9 c = search needs
+
+enum-known-kind-2 : tie.Need-enum-known-kind-2
+enum-known-kind-2 c = search needs
+
+after-report-requires : tie.Need-after-report-requires
+after-report-requires c κs =
+    let e = c .before .before .before .before in
+    let t = e .enum-told9 .given .1 in
+    let a = e .before .before .before .before .before .before .before .before .before .before .before in
+    let x = a .args in
+    let i = e .before .before in
+    let yes = sym (i .before .is-asked .ensures) ∙ not-false _ (i .if1 .left) in
+    let r = held Phase.Report _ t (a .pre .1) in
+    let l = answer-length _ _ (x .kind) (asked-in Phase.Report (x .kind) _ _ t yes) in
+    (inside-ranges (r .ranges), (l, omega (arith, r .lent .sized)))
+
+enum-told-10 : tie.Need-enum-told-10
+enum-told-10 c = search needs
+
+modified-requires : tie.Need-modified-requires
+modified-requires c κs =
+    let e = c .before in
+    let t = e .enum-told10 .given .1 in
+    let a = e .before .before .before .before .before .before .before .before .before .before .before in
+    let x = a .args in
+    let i = e .before .before in
+    let yes = sym (i .before .is-asked .ensures) ∙ not-false _ (i .if1 .left) in
+    let r = held Phase.Modified _ t (a .pre .1) in
+    let l = derivative-length _ _ (x .kind) (asked-in Phase.Modified (x .kind) _ _ t yes) in
+    (inside-ranges (r .ranges), (l, omega (arith, r .lent .sized)))
+
+enum-told-11 : tie.Need-enum-told-11
+enum-told-11 c = search needs
+
+same-length : tie.Need-same-length
+same-length c = search needs
+
+returns-2 : tie.Need-returns-2
+unfolding takenOf
+returns-2 c =
+    let e = c .before .before .before .before in
+    let i = e .before .before in
+    let x = e .before .before .before .before .before .before .before .before .before .before .before .args in
+    let yes = sym (i .before .is-asked .ensures) ∙ not-false _ (i .if1 .left) in
+    ap (leaving _) (c .before .before .first-derivative .ensures)
+    ∙ sym (resume-asked (x .x) (x .kind) _ (x .time) _ Phase.FirstDerivative (e .enum-told .given .1) yes)
+
+same-length-2 : tie.Need-same-length-2
+same-length-2 c = search needs
+
+returns-3 : tie.Need-returns-3
+unfolding takenOf
+returns-3 c =
+    let e = c .before .before .before .before .before .before .before in
+    let i = e .before .before in
+    let x = e .before .before .before .before .before .before .before .before .before .before .before .args in
+    let yes = sym (i .before .is-asked .ensures) ∙ not-false _ (i .if1 .left) in
+    let w : With = record { rtol = now (x .rtol); atol = now (x .atol); work = now (x .work); ipiv = now (x .ipiv) } in
+    ap (leaving _) (c .before .before .first-report .ensures)
+    ∙ sym (ap (λ (k : Kind). firstAnsweredOf (x .x) k (now (x .reply)) (x .time) w)
+      (c .before .before .before .before .before .kind .given .1))
+    ∙ sym (resume-asked (x .x) (x .kind) _ (x .time) _ Phase.FirstReport (e .enum-told2 .given .1) yes)
+
+returns-4 : tie.Need-returns-4
+unfolding takenOf
+returns-4 c =
+    let e = c .before in
+    let i = e .before .before in
+    let x = e .before .before .before .before .before .before .before .before .before .before .before .args in
+    let yes = sym (i .before .is-asked .ensures) ∙ not-false _ (i .if1 .left) in
+    sym (first-unasked (x .x) _ (x .time) _ (x .kind) (c .match2 .keys2))
+    ∙ sym (resume-asked (x .x) (x .kind) _ (x .time) _ Phase.FirstReport (e .enum-told2 .given .1) yes)
+
+same-length-3 : tie.Need-same-length-3
+same-length-3 c = search needs
+
+returns-5 : tie.Need-returns-5
+unfolding takenOf
+returns-5 c =
+    let e = c .before .before .before .before in
+    let i = e .before .before in
+    let x = e .before .before .before .before .before .before .before .before .before .before .before .args in
+    let yes = sym (i .before .is-asked .ensures) ∙ not-false _ (i .if1 .left) in
+    ap (leaving _) (c .before .before .first-modified .ensures)
+    ∙ sym (resume-asked (x .x) (x .kind) _ (x .time) _ Phase.FirstModified (e .enum-told3 .given .1) yes)
+
+same-length-4 : tie.Need-same-length-4
+same-length-4 c = search needs
+
+same-length-5 : tie.Need-same-length-5
+same-length-5 c = search needs
+
+returns-6 : tie.Need-returns-6
+unfolding takenOf
+returns-6 c =
+    let e = c .before .before .before .before .before in
+    let i = e .before .before in
+    let x = e .before .before .before .before .before .before .before .before .before .before .before .args in
+    let yes = sym (i .before .is-asked .ensures) ∙ not-false _ (i .if1 .left) in
+    ap (leaving _) (c .before .before .opened .ensures)
+    ∙ sym (resume-asked (x .x) (x .kind) _ (x .time) _ Phase.Opened (e .enum-told4 .given .1) yes)
+
+same-length-6 : tie.Need-same-length-6
+same-length-6 c = search needs
+
+same-length-7 : tie.Need-same-length-7
+same-length-7 c = search needs
+
+returns-7 : tie.Need-returns-7
+unfolding takenOf
+returns-7 c =
+    let e = c .before .before .before .before .before .before .before in
+    let i = e .before .before in
+    let x = e .before .before .before .before .before .before .before .before .before .before .before .args in
+    let yes = sym (i .before .is-asked .ensures) ∙ not-false _ (i .if1 .left) in
+    c .before .before .before .before .jacobian .ensures
+    ∙ sym (resume-asked (x .x) (x .kind) _ (x .time) _ Phase.JacobianAsked (e .enum-told5 .given .1) yes)
+
+same-length-8 : tie.Need-same-length-8
+same-length-8 c = search needs
+
+same-length-9 : tie.Need-same-length-9
+same-length-9 c = search needs
+
+returns-8 : tie.Need-returns-8
+unfolding takenOf
+returns-8 c =
+    let e = c .before .before .before .before .before .before .before in
+    let i = e .before .before in
+    let x = e .before .before .before .before .before .before .before .before .before .before .before .args in
+    let yes = sym (i .before .is-asked .ensures) ∙ not-false _ (i .if1 .left) in
+    c .before .before .before .before .column .ensures
+    ∙ sym (resume-asked (x .x) (x .kind) _ (x .time) _ Phase.DifferenceColumn (e .enum-told6 .given .1) yes)
+
+same-length-10 : tie.Need-same-length-10
+same-length-10 c = search needs
+
+same-length-11 : tie.Need-same-length-11
+same-length-11 c = search needs
+
+returns-9 : tie.Need-returns-9
+unfolding takenOf
+returns-9 c =
+    let e = c .before .before .before .before .before in
+    let i = e .before .before in
+    let x = e .before .before .before .before .before .before .before .before .before .before .before .args in
+    let yes = sym (i .before .is-asked .ensures) ∙ not-false _ (i .if1 .left) in
+    ap (leaving _) (c .before .before .further .ensures)
+    ∙ sym (resume-asked (x .x) (x .kind) _ (x .time) _ Phase.FurtherDerivative (e .enum-told7 .given .1) yes)
+
+same-length-12 : tie.Need-same-length-12
+same-length-12 c = search needs
+
+returns-10 : tie.Need-returns-10
+unfolding takenOf
+returns-10 c =
+    let e = c .before .before .before .before in
+    let i = e .before .before in
+    let x = e .before .before .before .before .before .before .before .before .before .before .before .args in
+    let yes = sym (i .before .is-asked .ensures) ∙ not-false _ (i .if1 .left) in
+    ap (leaving _) (c .before .before .restep .ensures)
+    ∙ sym (resume-asked (x .x) (x .kind) _ (x .time) _ Phase.Restep (e .enum-told8 .given .1) yes)
+
+same-length-13 : tie.Need-same-length-13
+same-length-13 c = search needs
+
+returns-11 : tie.Need-returns-11
+unfolding takenOf
+returns-11 c =
+    let e = c .before .before .before .before .before .before .before in
+    let i = e .before .before in
+    let x = e .before .before .before .before .before .before .before .before .before .before .before .args in
+    let yes = sym (i .before .is-asked .ensures) ∙ not-false _ (i .if1 .left) in
+    let w : With = record { rtol = now (x .rtol); atol = now (x .atol); work = now (x .work); ipiv = now (x .ipiv) } in
+    ap (leaving _) (c .before .before .after-report .ensures)
+    ∙ sym (ap (λ (k : Kind). answeredOf (x .x) k (now (x .reply)) (x .time) w)
+      (c .before .before .before .before .before .kind2 .given .1))
+    ∙ sym (resume-asked (x .x) (x .kind) _ (x .time) _ Phase.Report (e .enum-told9 .given .1) yes)
+
+returns-12 : tie.Need-returns-12
+unfolding takenOf
+returns-12 c =
+    let e = c .before in
+    let i = e .before .before in
+    let x = e .before .before .before .before .before .before .before .before .before .before .before .args in
+    let yes = sym (i .before .is-asked .ensures) ∙ not-false _ (i .if1 .left) in
+    sym (report-unasked (x .x) _ (x .time) _ (x .kind) (c .match3 .keys2))
+    ∙ sym (resume-asked (x .x) (x .kind) _ (x .time) _ Phase.Report (e .enum-told9 .given .1) yes)
+
+same-length-14 : tie.Need-same-length-14
+same-length-14 c = search needs
+
+returns-13 : tie.Need-returns-13
+unfolding takenOf
+returns-13 c =
+    let e = c .before .before .before .before in
+    let i = e .before .before in
+    let x = e .before .before .before .before .before .before .before .before .before .before .before .args in
+    let yes = sym (i .before .is-asked .ensures) ∙ not-false _ (i .if1 .left) in
+    ap (leaving _) (c .before .before .modified .ensures)
+    ∙ sym (resume-asked (x .x) (x .kind) _ (x .time) _ Phase.Modified (e .enum-told10 .given .1) yes)
+
+returns-14 : tie.Need-returns-14
+unfolding takenOf
+returns-14 c =
+    let e = c in
+    let i = e .before .before in
+    let x = e .before .before .before .before .before .before .before .before .before .before .before .args in
+    let yes = sym (i .before .is-asked .ensures) ∙ not-false _ (i .if1 .left) in
+    refl
+    ∙ sym (resume-asked (x .x) (x .kind) _ (x .time) _ Phase.Finished (e .enum-told11 .given .1) yes)
+
+pub resume-spec : {M : Type 1} → statement M
+resume-spec =
+    tie.close
+    (tie.spec
+    is-asked-requires
+    returns
+    enum-told
+    first-derivative-requires
+    enum-told-2
+    enum-known-kind
+    first-report-requires
+    enum-told-3
+    first-modified-requires
+    enum-told-4
+    opened-requires
+    enum-told-5
+    jacobian-requires
+    enum-told-6
+    column-requires
+    enum-told-7
+    further-requires
+    enum-told-8
+    restep-requires
+    enum-told-9
+    enum-known-kind-2
+    after-report-requires
+    enum-told-10
+    modified-requires
+    enum-told-11
+    same-length
+    returns-2
+    same-length-2
+    returns-3
+    returns-4
+    same-length-3
+    returns-5
+    same-length-4
+    same-length-5
+    returns-6
+    same-length-6
+    same-length-7
+    returns-7
+    same-length-8
+    same-length-9
+    returns-8
+    same-length-10
+    same-length-11
+    returns-9
+    same-length-12
+    returns-10
+    same-length-13
+    returns-11
+    returns-12
+    same-length-14
+    returns-13
+    returns-14)

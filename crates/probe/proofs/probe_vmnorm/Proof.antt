@@ -1,0 +1,26 @@
+-- `probe_vmnorm` meets its contract: each way returns what `vmnormAt` says under the tests that led there.
+-- Assumes nothing.
+use native.Mathlib.Omega.{arith}
+use borrow.Author.Needs.{needs}
+use lib.ListN.{length}
+use borrow.Author.Tests.{le-leb, lt-leb}
+use Rattle.probe.specs.Leaves.{vmnormAt}
+use Rattle.probe.proofs.probe_vmnorm.Statement.{statement}
+use Rattle.probe.proofs.probe_vmnorm.Tie as tie
+
+vmnorm-requires : tie.Need-vmnorm-requires
+vmnorm-requires c κs = search needs
+
+returns : tie.Need-returns
+unfolding vmnormAt
+returns c = rw (le-leb _ _ (c .before .if1 .taken), c .vmnorm .ensures)
+
+not-a-number-requires : tie.Need-not-a-number-requires
+not-a-number-requires c κs = search needs
+
+returns-2 : tie.Need-returns-2
+unfolding vmnormAt
+returns-2 c = rw (lt-leb _ _ (c .before .if1 .left), c .not-a-number .ensures)
+
+pub probe-vmnorm-spec : {M : Type 1} → statement M
+probe-vmnorm-spec = tie.close (tie.spec vmnorm-requires returns not-a-number-requires returns-2)

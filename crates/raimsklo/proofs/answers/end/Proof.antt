@@ -1,0 +1,14 @@
+-- src/answers.rt:90:17
+use Prim.Native.Nat.{_-_}
+use borrow.Author.Needs.{needs}
+use Rattle.raimsklo.proofs.answers.end.Statement.{statement}
+use Rattle.raimsklo.proofs.answers.end.Tie as tie
+
+status-requires : tie.Need-status-requires
+status-requires c κs = search needs
+
+returns : tie.Need-returns
+returns c = rw (c .status .ensures)
+
+pub end-spec : {M : Type 1} → statement M
+end-spec = tie.close (tie.spec status-requires returns)

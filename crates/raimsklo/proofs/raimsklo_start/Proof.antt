@@ -1,0 +1,108 @@
+-- `raimsklo_start` meets its contract. Assumes nothing.
+use Prim.Native.Nat.{_-_}
+use mathlib.Core.Path.{refl, sym, ap, _∙_}
+use borrow.Author.Tests.{eq-eqb, ne-eqb}
+use native.Mathlib.Omega.{arith}
+use borrow.Author.Needs.{needs}
+use Rattle.refusals.proofs.Accepted.{accepted}
+use Rattle.refusals.specs.Start.{settingsOf}
+use Rattle.refusals.specs.declared.Refusal.{Refusal}
+use Rattle.raimsklo.specs.Calls.{startOf, startAt}
+use Rattle.raimsklo.proofs.raimsklo_start.Statement.{statement}
+use Rattle.raimsklo.proofs.raimsklo_start.Tie as tie
+
+nothing-requires : tie.Need-nothing-requires
+nothing-requires c κs = search needs
+
+returns : tie.Need-returns
+unfolding startOf
+returns c = rw (eq-eqb _ _ (c .before .if1 .taken), c .nothing .ensures)
+
+start-refusal-requires : tie.Need-start-refusal-requires
+start-refusal-requires c κs = search needs
+
+refused-requires : tie.Need-refused-requires
+refused-requires c κs = search needs
+
+returns-2 : tie.Need-returns-2
+unfolding startOf startAt
+returns-2 c =
+    rw (
+      ne-eqb _ _ (c .before .before .before .before .if1 .left),
+      ← c .before .before .before .start-refusal .ensures,
+      ne-eqb _ _ (c .before .if2 .taken),
+      c .refused .ensures,
+    )
+
+settings-requires : tie.Need-settings-requires
+settings-requires c κs = search needs
+
+first-step-requires : tie.Need-first-step-requires
+first-step-requires c κs = search needs
+
+begin-requires : tie.Need-begin-requires
+unfolding settingsOf
+begin-requires c κs =
+    let z = c .before .before .before .before .before .before in
+    let q = ap (λ (r : Refusal). r .number) (sym (z .before .before .start-refusal .ensures)) ∙ z .if2 .left in
+    let st = accepted _ _ _ _ _ _ q in
+    let l = st .limits in
+    let some = z .before .before .before .if1 .left in
+    rw (c .before .before .before .before .before .settings .ensures)
+    (
+      record {
+        n = (omega arith, st .sizes .n);
+        maxsteps = l .maxsteps;
+        mxordn = l .mxordn;
+        mxords = l .mxords;
+        maxcor = l .maxcor;
+        msbp = l .msbp;
+        mxncf = l .mxncf;
+      },
+      ((refl, st .sizes .work), (omega (arith, st .sizes .session), omega (arith, st .sizes .question))),
+    )
+
+same-length : tie.Need-same-length
+same-length c = search needs
+
+same-length-2 : tie.Need-same-length-2
+same-length-2 c = search needs
+
+same-length-3 : tie.Need-same-length-3
+same-length-3 c = search needs
+
+same-length-4 : tie.Need-same-length-4
+same-length-4 c = search needs
+
+returns-3 : tie.Need-returns-3
+unfolding startOf startAt
+returns-3 c =
+    let c6 = c .before .before .before .before .before .before in
+    let c12 = c6 .before .before .before .before .before .before in
+    let c18 = c12 .before .before .before .before .before .before in
+    rw (
+      ne-eqb _ _ (c18 .if1 .left),
+      ← c12 .before .before .before .before .before .start-refusal .ensures,
+      eq-eqb _ _ (c12 .before .before .before .if2 .left),
+      ← c12 .before .before .settings .ensures,
+      ← c12 .before .first-step .ensures,
+    )
+    (c6 .before .before .begin .ensures)
+
+pub raimsklo-start-spec : {M : Type 1} → statement M
+raimsklo-start-spec =
+    tie.close
+    (tie.spec
+    nothing-requires
+    returns
+    start-refusal-requires
+    refused-requires
+    returns-2
+    settings-requires
+    first-step-requires
+    begin-requires
+    same-length
+    same-length-2
+    same-length-3
+    same-length-4
+    returns-3)

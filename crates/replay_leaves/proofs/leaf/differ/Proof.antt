@@ -1,0 +1,44 @@
+-- `differ` meets its contract: counting on from call i, with what is found so far, gives the whole count.
+-- Assumes nothing.
+use Prim.Native.Nat.{_-_, _≤_, _/_}
+use mathlib.Core.Path.{_≡_, refl, sym}
+use native.Mathlib.Omega.{arith}
+use lib.ListN.{length}
+use Rattle.loops.specs.For.{for, onward, ended}
+use Rattle.replay_leaves.specs.Leaf.{countedOf, differOf}
+use Rattle.replay_leaves.proofs.leaf.differ.Statement.{statement}
+use Rattle.replay_leaves.proofs.leaf.differ.Tie as tie
+
+abbrev Inv-loop : tie.InvT-loop
+Inv-loop heads stored n found₀ i₀ found i =
+    (found ≤ i) × (for i (length heads / 11) (countedOf heads stored) found ≡ differOf heads stored)
+
+abbrev μ-loop : tie.MeasureT-loop
+μ-loop heads stored n found₀ i₀ found i = n - i
+
+loop-holds : tie.Need-loop-holds Inv-loop μ-loop
+unfolding differOf
+loop-holds c = (omega arith, refl)
+
+counted-requires : tie.Need-counted-requires Inv-loop μ-loop
+counted-requires c κs = omega arith
+
+add-i : tie.Need-add-i Inv-loop μ-loop
+add-i c = omega arith
+
+loop-less : tie.Need-loop-less Inv-loop μ-loop
+loop-less c = omega arith
+
+loop-again : tie.Need-loop-again Inv-loop μ-loop
+loop-again c = (
+  omega arith,
+  onward _ _ _ _ _ _ (omega arith) (sym (c .counted .ensures .0)) (c .before .before .loop .inv .1),
+)
+
+returns : tie.Need-returns Inv-loop μ-loop
+returns c = ended _ _ _ _ _ (omega arith) (c .before .loop .inv .1)
+
+pub differ-spec : {M : Type 1} → statement M
+differ-spec =
+    tie.close
+    (tie.spec Inv-loop μ-loop loop-holds counted-requires add-i loop-less loop-again returns)

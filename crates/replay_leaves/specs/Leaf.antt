@@ -1,0 +1,164 @@
+-- A stored call of a leaf, made again: what it answers and leaves, and whether that is what is stored.
+-- Where b holds several lists, they stand one behind the other.
+use mathlib.Core.Bool.{Bool, true, cond, _&&_}
+use mathlib.Core.List.{List}
+use Prim.Native.Nat.{ℕ, _+_, _-_, _*_, _/_}
+use lib.Dec.{eqb, leb, ltb}
+use lib.ListN.{length, getD, set, take, drop, replicate}
+use lib.Ieee as Ieee
+use lib.Ieee.{Float, nan, binary64}
+use Rattle.loops.specs.For.{for}
+use Rattle.numbers.specs.Float.{zeroF}
+use Rattle.vectors.specs.Weights.{invertOf, outcomeOf}
+use Rattle.interpolation.specs.Evaluate.{interpolateOf}
+use Rattle.probe.specs.Leaves as P
+use Rattle.probe.specs.Leaves.{vmnormAt, fnormAt, ewsetLeft, ewsetLikeLeft, indexOf, initialStepAt}
+use Rattle.probe.specs.Leaves.{factorLeft, solveLeft}
+use Rattle.probe_history.specs.Left as H
+use Rattle.probe_history.specs.Left.{predictLeft, retractLeft, correctLeft, adjustLeft, predictedLeft}
+use Rattle.probe_history.specs.Left.{initLeft, resetLeft, snapshotLeft}
+use Rattle.replay_leaves.specs.declared.leaf.Call.{Call}
+
+-- the answer, and what then stands in the lists that were lent
+pub record After : Type 0 where
+  pub number : ℕ
+  pub a : List Float
+  pub b : List Float
+  pub m : List ℕ
+
+abbrev pub after : ℕ → List Float → List Float → List ℕ → After
+after number a b m = record { number = number; a = a; b = b; m = m }
+
+abbrev pub bits : Float → ℕ
+bits x = Ieee.toBits binary64 x
+
+-- what stands from one place up to another
+abbrev pub between : ℕ → ℕ → List Float → List Float
+between a e l = take (e - a) (drop a l)
+
+-- f0, the weights, rtol and atol
+unfoldable pub firstStepOf : Float → Float → List Float → List Float → ℕ → ℕ → ℕ
+firstStepOf t tout y b n nrtol =
+    cond (leb n 64 && (leb nrtol 64 && leb (2 * n + nrtol) (length b)))
+    (bits (initialStepAt t tout y (between 0 n b) (between n (2 * n) b) (between (2 * n) (2 * n + nrtol) b)
+    (between (2 * n + nrtol) (length b) b)))
+    2
+
+-- rtol and atol
+unfoldable pub weightsOf : List Float → ℕ → ℕ → ℕ → List Float → P.Left
+weightsOf b nrtol n at a =
+    cond (leb nrtol (length b)) (ewsetLeft (between 0 nrtol b) (between nrtol (length b) b) n at a) (P.left 2 a)
+
+-- the record's floats and the work
+unfoldable pub snapshotAt : List Float → List ℕ → List Float → H.Columns
+snapshotAt b m a =
+    cond (leb 11 (length b)) (snapshotLeft (between 0 11 b) m (between 11 (length b) b) a)
+    (record { number = 2; yh = a })
+
+-- 0 vmnorm, 1 fnorm_dense, and any other initial_step_size
+unfoldable pub normsOf : ℕ → ℕ → ℕ → Float → Float → List Float → List Float → ℕ
+normsOf kind p q x y a b =
+    cond (eqb kind 0) (bits (vmnormAt a b)) (cond (eqb kind 1) (bits (fnormAt p a b)) (firstStepOf x y a b p q))
+
+-- 3 ewset, 4 ewset_scalar_like, 5 invert_weights, 6 dense_lu_factor, 7 dense_lu_solve, 8 predict_columns,
+-- and any other retract_columns
+unfoldable pub listsOf : ℕ → ℕ → ℕ → ℕ → List Float → List Float → List ℕ → After
+listsOf kind p q r a b m =
+    cond (eqb kind 3) (after (weightsOf b r p q a .number) (weightsOf b r p q a .work) b m)
+    (cond (eqb kind 4) (after (ewsetLikeLeft p q a .number) (ewsetLikeLeft p q a .work) b m)
+    (cond (eqb kind 5) (after (indexOf (length a) (outcomeOf (invertOf a))) (invertOf a .ewt) b m)
+    (cond (eqb kind 6) (after (factorLeft p a m .number) (factorLeft p a m .a) b (factorLeft p a m .ipiv))
+    (cond (eqb kind 7) (after (solveLeft p q m r a .number) (solveLeft p q m r a .work) b m)
+    (cond (eqb kind 8) (after (predictLeft p q r a .number) (predictLeft p q r a .yh) b m)
+    (after (retractLeft p q r a .number) (retractLeft p q r a .yh) b m))))))
+
+abbrev pub ofRecord : H.Left → List Float → After
+ofRecord l a = after (l .number) a (l .floats) (l .counts)
+
+-- 10 correct_columns, 11 stoda_adjust_step_size, 12 stoda_get_predicted_values, 13 stoda_first_call_init,
+-- 14 stoda_reset, 15 snapshot_step, and any other interpolate
+unfoldable pub recordsOf : ℕ → Float → List Float → List Float → List ℕ → After
+recordsOf kind x a b m =
+    cond (eqb kind 10) (after (correctLeft b m a .number) (correctLeft b m a .yh) b m)
+    (cond (eqb kind 11) (ofRecord (adjustLeft b m x a) (adjustLeft b m x a .work))
+    (cond (eqb kind 12) (ofRecord (predictedLeft b m a) (predictedLeft b m a .work))
+    (cond (eqb kind 13) (ofRecord (initLeft b m) a)
+    (cond (eqb kind 14) (ofRecord (resetLeft b m) a)
+    (cond (eqb kind 15) (after (snapshotAt b m a .number) (snapshotAt b m a .yh) b m)
+    (after (interpolateOf x b a .number) (interpolateOf x b a .output) b m))))))
+
+unfoldable pub leafOf : Call → List Float → List Float → List ℕ → After
+leafOf h a b m =
+    cond (ltb (h .kind) 3) (after (normsOf (h .kind) (h .p) (h .q) (h .x) (h .y) a b) a b m)
+    (cond (ltb (h .kind) 10) (listsOf (h .kind) (h .p) (h .q) (h .r) a b m) (recordsOf (h .kind) (h .x) a b m))
+
+-- a list filled from the stored numbers, and whether its entries are the stored ones
+abbrev pub floatAt : List ℕ → ℕ → ℕ → List Float → List Float
+floatAt stored at i list = set list i (Ieee.ofBits binary64 (getD stored (at + i) 0))
+
+unfoldable pub floatsOf : List ℕ → ℕ → List Float → List Float
+floatsOf stored at list = for 0 (length list) (floatAt stored at) list
+
+abbrev pub countAt : List ℕ → ℕ → ℕ → List ℕ → List ℕ
+countAt stored at i list = set list i (getD stored (at + i) 0)
+
+unfoldable pub countsOf : List ℕ → ℕ → List ℕ → List ℕ
+countsOf stored at list = for 0 (length list) (countAt stored at) list
+
+abbrev pub isFloatAt : List Float → List ℕ → ℕ → ℕ → Bool → Bool
+isFloatAt list stored at i ok = ok && eqb (bits (getD list i nan)) (getD stored (at + i) 0)
+
+unfoldable pub areFloats : List Float → List ℕ → ℕ → Bool
+areFloats list stored at = for 0 (length list) (isFloatAt list stored at) true
+
+abbrev pub isCountAt : List ℕ → List ℕ → ℕ → ℕ → Bool → Bool
+isCountAt list stored at i ok = ok && eqb (getD list i 0) (getD stored (at + i) 0)
+
+unfoldable pub areCounts : List ℕ → List ℕ → ℕ → Bool
+areCounts list stored at = for 0 (length list) (isCountAt list stored at) true
+
+-- the lists a, b and m are stored from `at` on, and what is left of them behind
+unfoldable pub calledOf : Call → List ℕ → List Float → List Float → List ℕ → After
+calledOf h stored a b m =
+    leafOf h (floatsOf stored (h .at) a) (floatsOf stored (h .at + length a) b)
+    (countsOf stored (h .at + length a + length b) m)
+
+unfoldable pub isLeft : Call → List ℕ → List Float → List Float → List ℕ → Bool
+isLeft h stored a b m =
+    let at = h .at + length a + length b + length m in
+    areFloats a stored at && (areFloats b stored (at + length a) && areCounts m stored (at + length a + length b))
+
+unfoldable pub isAgain : Call → List ℕ → List Float → List Float → List ℕ → Bool
+isAgain h stored a b m =
+    let l = calledOf h stored a b m in
+    eqb (l .number) (h .number) && isLeft h stored (l .a) (l .b) (l .m)
+
+-- call i: its head is 11 numbers
+unfoldable pub callOf : List ℕ → ℕ → Call
+callOf heads i = record {
+  kind = getD heads (11 * i) 0;
+  p = getD heads (11 * i + 1) 0;
+  q = getD heads (11 * i + 2) 0;
+  r = getD heads (11 * i + 3) 0;
+  x = Ieee.ofBits binary64 (getD heads (11 * i + 4) 0);
+  y = Ieee.ofBits binary64 (getD heads (11 * i + 5) 0);
+  at = getD heads (11 * i + 6) 0;
+  number = getD heads (11 * i + 7) 0;
+}
+
+unfoldable pub lengthOf : List ℕ → ℕ → ℕ → ℕ
+lengthOf heads k limit = cond (leb (getD heads k 0) limit) (getD heads k 0) limit
+
+unfoldable pub isSame : List ℕ → ℕ → List ℕ → Bool
+isSame heads i stored =
+    leb (callOf heads i .at) 900000
+    && isAgain (callOf heads i) stored
+    (between 0 (lengthOf heads (11 * i + 8) 64) (replicate 64 zeroF))
+    (between 0 (lengthOf heads (11 * i + 9) 80) (replicate 80 zeroF))
+    (take (lengthOf heads (11 * i + 10) 16 - 0) (drop 0 (replicate 16 0)))
+
+abbrev pub countedOf : List ℕ → List ℕ → ℕ → ℕ → ℕ
+countedOf heads stored i differ = cond (isSame heads i stored) differ (differ + 1)
+
+unfoldable pub differOf : List ℕ → List ℕ → ℕ
+differOf heads stored = for 0 (length heads / 11) (countedOf heads stored) 0

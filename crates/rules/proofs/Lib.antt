@@ -1,0 +1,10 @@
+pub mod Tracks
+pub mod Pass
+pub mod Budget
+pub mod Attempts
+pub mod Rest
+pub mod Run
+pub mod Paths
+pub mod Few
+pub mod Demands
+pub mod Attained

@@ -1,0 +1,8 @@
+pub mod Eight
+pub mod Rows
+pub mod Listed
+pub mod Back
+pub mod Every
+pub mod Within
+pub mod Thirteen
+pub mod Passes

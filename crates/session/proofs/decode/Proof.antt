@@ -1,0 +1,34 @@
+-- `decode` meets its contract: the record of the words and floats that were read.
+-- Assumes nothing.
+use mathlib.Core.Path.{ap, _∙_}
+use mathlib.Core.List.{List}
+use Prim.Native.Nat.{ℕ}
+use lib.Ieee.{Float}
+use denote.Ref.{now}
+use borrow.Author.Needs.{needs}
+use Rattle.session.specs.Words.{floatsIn}
+use Rattle.session.specs.Session.{sessionOf, decodeOf}
+use Rattle.session.proofs.decode.Statement.{statement}
+use Rattle.session.proofs.decode.Tie as tie
+
+counts-requires : tie.Need-counts-requires
+counts-requires c κs = search needs
+
+floats-requires : tie.Need-floats-requires
+floats-requires c κs = search needs
+
+session-requires : tie.Need-session-requires
+session-requires c κs = search needs
+
+returns : tie.Need-returns
+unfolding decodeOf
+returns c =
+    let f = c .before .before .before in
+    let u = f .before in
+    let b = u .before .before .args .bytes .now in
+    c .session .ensures
+    ∙ ap (λ (l : List Float). sessionOf (u .counts .result) l) (f .floats .ensures)
+    ∙ ap (λ (l : List ℕ). sessionOf l (floatsIn b 34 19)) (u .counts .ensures)
+
+pub decode-spec : {M : Type 1} → statement M
+decode-spec = tie.close (tie.spec counts-requires floats-requires session-requires returns)

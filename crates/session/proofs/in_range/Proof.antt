@@ -1,0 +1,98 @@
+-- `in_range` meets its contract. Each test is one of the definition's, on the record and the words as they were read.
+-- Assumes nothing.
+use mathlib.Core.Path.{_≡_, sym, _∙_}
+use mathlib.Core.Bool.{_&&_}
+use mathlib.Core.List.{List}
+use Prim.Native.Nat.{ℕ}
+use lib.ListN.{getD}
+use borrow.Author.Needs.{needs}
+use borrow.Author.Tests.{not-true, not-false}
+use Rattle.machine.specs.declared.Session.{Session}
+use Rattle.session.specs.Words.{countsIn}
+use Rattle.session.specs.Session.{decodeOf, fieldsInRange, tolerancesInRange, pivotsBelow, inRangeOf}
+use Rattle.session.proofs.Within.{lists-small}
+use Rattle.session.proofs.in_range.Statement.{statement}
+use Rattle.session.proofs.in_range.Tie as tie
+
+module _ (b ipiv : List ℕ) (x : Session) (u : List ℕ) (e : x ≡ decodeOf b) (f : u ≡ countsIn b) where
+  read : (x .settings .n ≡ getD u 1 0) × (x .common .nq ≡ getD u 13 0)
+  unfolding decodeOf
+  read = (rw (e, f), rw (e, f))
+
+  whole : inRangeOf b ipiv
+      ≡ fieldsInRange u (x .settings) (x .common) && tolerancesInRange b (x .settings)
+      && pivotsBelow ipiv (x .settings .n)
+  unfolding inRangeOf
+  whole = rw (e, f)
+
+counts-requires : tie.Need-counts-requires
+counts-requires c κs = search needs
+
+decode-requires : tie.Need-decode-requires
+decode-requires c κs = search needs
+
+fields-requires : tie.Need-fields-requires
+fields-requires c κs =
+    let d = c .before .before .before in
+    let a = d .before .before .before .before .args in
+    read (a .bytes .now) (a .ipiv .now) (d .decode .result) (d .before .counts .result)
+    (d .decode .ensures) (d .before .counts .ensures)
+
+returns : tie.Need-returns
+returns c =
+    let d = c .before .before .before .before .before in
+    let a = d .before .before .before .before .args in
+    rw (
+      whole (a .bytes .now) (a .ipiv .now) (d .decode .result) (d .before .counts .result)
+          (d .decode .ensures) (d .before .counts .ensures),
+      sym (c .before .fields .ensures) ∙ not-true _ (c .if1 .taken),
+    )
+
+tolerances-requires : tie.Need-tolerances-requires
+tolerances-requires c κs =
+    let d = c .before .before .before .before .before in
+    let a = d .before .before .before .before in
+    let x = d .decode .result in
+    let u = d .before .counts .result in
+    let n = read (a .args .bytes .now) (a .args .ipiv .now) x u (d .decode .ensures) (d .before .counts .ensures) .0 in
+    let l = lists-small u (x .settings) (x .common) n (sym (c .before .fields .ensures) ∙ not-false _ (c .if1 .left)) in
+    (a .pre, l .0, l .1)
+
+returns-2 : tie.Need-returns-2
+returns-2 c =
+    let d = c .before .before .before .before .before .before .before in
+    let a = d .before .before .before .before .args in
+    rw (
+      whole (a .bytes .now) (a .ipiv .now) (d .decode .result) (d .before .counts .result)
+          (d .decode .ensures) (d .before .counts .ensures),
+      sym (c .before .before .before .fields .ensures) ∙ not-false _ (c .before .before .if1 .left),
+      sym (c .before .tolerances .ensures) ∙ not-true _ (c .if2 .taken),
+    )
+
+pivots-below-requires : tie.Need-pivots-below-requires
+pivots-below-requires c κs = search needs
+
+returns-3 : tie.Need-returns-3
+returns-3 c =
+    let d = c .before .before .before .before .before .before .before .before in
+    let a = d .before .before .before .before .args in
+    rw (
+      whole (a .bytes .now) (a .ipiv .now) (d .decode .result) (d .before .counts .result)
+          (d .decode .ensures) (d .before .counts .ensures),
+      sym (c .before .before .before .before .fields .ensures) ∙ not-false _ (c .before .before .before .if1 .left),
+      sym (c .before .before .tolerances .ensures) ∙ not-false _ (c .before .if2 .left),
+    )
+    (c .pivots-below .ensures)
+
+pub in-range-spec : {M : Type 1} → statement M
+in-range-spec =
+    tie.close
+    (tie.spec
+    counts-requires
+    decode-requires
+    fields-requires
+    returns
+    tolerances-requires
+    returns-2
+    pivots-below-requires
+    returns-3)

@@ -1,0 +1,61 @@
+-- `not_negative` meets its contract. The invariant: the slots that are left give what all give.
+-- Assumes nothing.
+use mathlib.Core.Path.{_≡_, refl, ap}
+use mathlib.Core.Bool.{true, not}
+use Prim.Native.Nat.{_-_}
+use native.Mathlib.Omega.{arith}
+use Rattle.loops.specs.For.{for}
+use Rattle.session.specs.Session.{every, andAt, notNegativeAt, notNegative}
+use Rattle.session.proofs.Every.{every-again, every-fails, every-ends}
+use Rattle.session.proofs.ranges.not_negative.Statement.{statement}
+use Rattle.session.proofs.ranges.not_negative.Tie as tie
+
+abbrev Inv-loop : tie.InvT-loop
+Inv-loop bytes at k i₀ i = for i k (andAt (notNegativeAt bytes at)) true ≡ notNegative bytes at k
+
+abbrev μ-loop : tie.MeasureT-loop
+μ-loop bytes at k i₀ i = k - i
+
+loop-holds : tie.Need-loop-holds Inv-loop μ-loop
+unfolding every notNegative
+loop-holds c = refl
+
+add-float : tie.Need-add-float Inv-loop μ-loop
+add-float c = omega arith
+
+float-requires : tie.Need-float-requires Inv-loop μ-loop
+float-requires c κs = omega arith
+
+returns : tie.Need-returns Inv-loop μ-loop
+returns c =
+    let l = c .before .before .before .loop in
+    every-fails _ _ _ _ (omega arith) (ap not (rw (c .before .float .ensures) at (c .if1 .taken))) (l .inv)
+
+add-i : tie.Need-add-i Inv-loop μ-loop
+add-i c = omega arith
+
+loop-less : tie.Need-loop-less Inv-loop μ-loop
+loop-less c = omega arith
+
+loop-again : tie.Need-loop-again Inv-loop μ-loop
+loop-again c =
+    let l = c .before .before .before .loop in
+    every-again _ _ _ _ (omega arith) (ap not (rw (c .before .float .ensures) at (c .if1 .left))) (l .inv)
+
+returns-2 : tie.Need-returns-2 Inv-loop μ-loop
+returns-2 c = every-ends _ _ _ _ (omega arith) (c .before .loop .inv)
+
+pub not-negative-spec : {M : Type 1} → statement M
+not-negative-spec =
+    tie.close
+    (tie.spec
+    Inv-loop
+    μ-loop
+    loop-holds
+    add-float
+    float-requires
+    returns
+    add-i
+    loop-less
+    loop-again
+    returns-2)

@@ -1,0 +1,4 @@
+pub mod Words
+pub mod States
+pub mod Fields
+pub mod Session

@@ -1,0 +1,99 @@
+// A session's bytes: its record and its tolerances written and read, and the ranges of 13.
+// docs/SESSION.md has the layout.
+// What a reply needs of a stored session stands here in the order in which it is tested.
+ghost use mathlib.Core.Path.{_≡_};
+ghost use mathlib.Core.Bool.{Bool};
+ghost use Prim.Native.Nat.{_+_, _*_, _≤_};
+ghost use lib.ListN.{length};
+ghost use Rattle.session.specs.Session.{encodeOf, decodeOf, putTolerancesOf, rtolSlots, atolSlots};
+ghost use Rattle.session.specs.Session.{storedN, finishedIn, inRangeOf};
+
+mod fields;
+mod ranges;
+mod states;
+mod words;
+
+use machine::Session;
+
+// The bytes of a session: 181 words.
+pub const LENGTH: usize = 1448;
+
+// The record, written to words 0 to 52; the tolerances stay as they are.
+pub fn encode(x: Session, bytes: &mut [u8])
+    requires { ⌜ 1448 ≤ length (now bytes) ⌝ }
+    ensures { λ _. ⌜ now (bytes .exit) ≡ encodeOf x (now (bytes .entry)) ⌝ }
+{
+    let u = fields::counts(x);
+    let f = fields::floats(x);
+    words::put_counts(bytes, &u);
+    words::put_floats(bytes, 34, 19, &f);
+}
+
+pub fn decode(bytes: &[u8]) -> Session
+    requires { ⌜ 1448 ≤ length (now bytes) ⌝ }
+    ensures { λ r. ⌜ r ≡ decodeOf (now (bytes .entry)) ⌝ }
+{
+    let u = words::counts(bytes);
+    let f = words::floats(bytes);
+    fields::session(&u, &f)
+}
+
+// The tolerance lists, written to words 53 to 180; slots beyond a list's end become 0.
+pub fn put_tolerances(rtol: &[f64], atol: &[f64], bytes: &mut [u8])
+    requires { ⌜ 1448 ≤ length (now bytes) ⌝ }
+    ensures { λ _. ⌜ now (bytes .exit)
+        ≡ putTolerancesOf (now (rtol .entry)) (now (atol .entry)) (now (bytes .entry)) ⌝ }
+{
+    words::put_floats(bytes, 53, 64, rtol);
+    words::put_floats(bytes, 117, 64, atol);
+}
+
+// All slots of the relative tolerances, of which the list has the first `nrtol`.
+pub fn rtol(bytes: &[u8]) -> [f64; 64]
+    requires { ⌜ 1448 ≤ length (now bytes) ⌝ }
+    ensures { λ r. ⌜ r ≡ rtolSlots (now (bytes .entry)) ⌝ }
+{
+    words::slots(bytes, 53)
+}
+
+// All slots of the absolute tolerances, of which the list has the first `natol`.
+pub fn atol(bytes: &[u8]) -> [f64; 64]
+    requires { ⌜ 1448 ≤ length (now bytes) ⌝ }
+    ensures { λ r. ⌜ r ≡ atolSlots (now (bytes .entry)) ⌝ }
+{
+    words::slots(bytes, 117)
+}
+
+// The stored n, whatever it is.
+pub fn stored_n(bytes: &[u8]) -> usize
+    requires { ⌜ 1448 ≤ length (now bytes) ⌝ }
+    ensures { λ r. ⌜ r ≡ storedN (now (bytes .entry)) ⌝ }
+{
+    words::count(bytes, 1)
+}
+
+// Whether the phase is Finished: then the other values are not looked at.
+pub fn is_finished(bytes: &[u8]) -> bool
+    requires { ⌜ 1448 ≤ length (now bytes) ⌝ }
+    ensures { λ r. ⌜ r ≡ finishedIn (now (bytes .entry)) ⌝ }
+{
+    words::count(bytes, 0) == 10
+}
+
+// Whether every value of a session that is not finished is in its range, and every lent pivot below n.
+pub fn in_range(bytes: &[u8], ipiv: &[usize]) -> bool
+    requires { ⌜ 1448 ≤ length (now bytes) ⌝ }
+    ensures { λ r. ⌜ r ≡ inRangeOf (now (bytes .entry)) (now (ipiv .entry)) ⌝ }
+{
+    let u = words::counts(bytes);
+    let x = decode(bytes);
+    let s = x.settings;
+    let c = x.common;
+    if !ranges::fields(&u, s, c) {
+        return false;
+    }
+    if !ranges::tolerances(bytes, s) {
+        return false;
+    }
+    ranges::pivots_below(ipiv, s.n)
+}

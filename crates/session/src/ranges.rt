@@ -1,0 +1,136 @@
+// The ranges of 13: each word by itself, fields against each other, tolerances, pivots.
+ghost use mathlib.Core.Path.{_≡_};
+ghost use mathlib.Core.Bool.{Bool};
+ghost use Prim.Native.Nat.{_+_, _*_, _≤_, _<_};
+ghost use lib.ListN.{length, getD};
+ghost use Rattle.session.specs.Session.{every, wordInRange, oneOrN, listsInRange, ordersInRange};
+ghost use Rattle.session.specs.Session.{countersInRange, fieldsInRange};
+ghost use Rattle.session.specs.Session.{notNegative, tolerancesInRange, pivotsBelow};
+use common::Common;
+use common::Settings;
+
+// Whether a word is between its least and its greatest value.
+fn word(u: &[usize; 34], i: usize) -> bool
+    requires { ⌜ i < 34 ⌝ }
+    ensures { λ r. ⌜ r ≡ wordInRange (now (u .entry)) i ⌝ }
+{
+    if u[i] < crate::fields::lowest(i) {
+        return false;
+    }
+    u[i] <= crate::fields::highest(i)
+}
+
+// Whether each word is.
+fn words(u: &[usize; 34]) -> bool
+    ensures { λ r. ⌜ r ≡ every (wordInRange (now (u .entry))) 34 ⌝ }
+{
+    for i in 0..34usize {
+        if !word(u, i) {
+            return false;
+        }
+    }
+    true
+}
+
+// Whether a list of k entries is 1 or n long.
+fn one_or_n(n: usize, k: usize) -> bool
+    ensures { λ r. ⌜ r ≡ oneOrN n k ⌝ }
+{
+    if k == 1 {
+        return true;
+    }
+    k == n
+}
+
+// The lengths of the tolerance lists.
+fn lists(s: Settings) -> bool
+    ensures { λ r. ⌜ r ≡ listsInRange s ⌝ }
+{
+    if !one_or_n(s.n, s.nrtol) {
+        return false;
+    }
+    one_or_n(s.n, s.natol)
+}
+
+// The order against the columns in use and against the order at the last reset.
+fn orders(s: Settings, c: Common) -> bool
+    requires { ⌜ (1 ≤ s .n) × (s .n ≤ 64) × (c .nq ≤ 12) ⌝ }
+    ensures { λ r. ⌜ r ≡ ordersInRange s c ⌝ }
+{
+    if c.nq >= c.lmax {
+        return false;
+    }
+    if c.nqnyh % s.n != 0 {
+        return false;
+    }
+    if c.nqnyh < c.nq * s.n {
+        return false;
+    }
+    c.nqnyh <= 12 * s.n
+}
+
+// The counters of a step and of a pass against their limits.
+fn counters(s: Settings, c: Common) -> bool
+    ensures { λ r. ⌜ r ≡ countersInRange s c ⌝ }
+{
+    if c.ncf >= common::mxncf(s) {
+        return false;
+    }
+    if c.m >= s.maxcor {
+        return false;
+    }
+    c.column < s.n
+}
+
+// All fields but the floats: first word by word, so that n is not 0 where it divides.
+pub fn fields(u: &[usize; 34], s: Settings, c: Common) -> bool
+    requires { ⌜ (s .n ≡ getD (now u) 1 0) × (c .nq ≡ getD (now u) 13 0) ⌝ }
+    ensures { λ r. ⌜ r ≡ fieldsInRange (now (u .entry)) s c ⌝ }
+{
+    if !words(u) {
+        return false;
+    }
+    if !lists(s) {
+        return false;
+    }
+    if !orders(s, c) {
+        return false;
+    }
+    counters(s, c)
+}
+
+// Whether none of the k tolerances from word `at` on is below 0; a NaN passes.
+fn not_negative(bytes: &[u8], at: usize, k: usize) -> bool
+    requires { ⌜ 8 * (at + k) ≤ length (now bytes) ⌝ }
+    ensures { λ r. ⌜ r ≡ notNegative (now (bytes .entry)) at k ⌝ }
+{
+    for i in 0..k {
+        if crate::words::float(bytes, at + i) < 0.0 {
+            return false;
+        }
+    }
+    true
+}
+
+// Whether no entry of the two tolerance lists is below 0.
+pub fn tolerances(bytes: &[u8], s: Settings) -> bool
+    requires { ⌜ (1448 ≤ length (now bytes)) × (s .nrtol ≤ 64) × (s .natol ≤ 64) ⌝ }
+    ensures { λ r. ⌜ r ≡ tolerancesInRange (now (bytes .entry)) s ⌝ }
+{
+    if !not_negative(bytes, 53, s.nrtol) {
+        return false;
+    }
+    not_negative(bytes, 117, s.natol)
+}
+
+// Whether each pivot is below n.
+pub fn pivots_below(ipiv: &[usize], n: usize) -> bool
+    ensures { λ r. ⌜ r ≡ pivotsBelow (now (ipiv .entry)) n ⌝ }
+{
+    for i in 0..ipiv.len() {
+        if ipiv[i] >= n {
+            return false;
+        }
+    }
+    true
+}

@@ -1,0 +1,69 @@
+"""A plain SVG of curves: axes with round numbers, a legend, a mark at each accepted step."""
+
+import math
+
+COLOURS = ["#1b6ca8", "#d1495b", "#2e8b57", "#e09f3e", "#6a4c93", "#444444"]
+WIDTH, HEIGHT, LEFT, RIGHT, TOP, BOTTOM = 960, 440, 70, 190, 46, 52
+
+
+def _ticks(low, high, wanted=6):
+    rough = (high - low) / wanted
+    power = 10.0 ** math.floor(math.log10(rough))
+    step = next(s * power for s in (1, 2, 2.5, 5, 10) if s * power >= rough)
+    first = math.ceil(low / step) * step
+    return [first + k * step for k in range(int((high - first) / step + 1.000001))]
+
+
+class Picture:
+    def __init__(self, title, across, up):
+        self.title, self.across, self.up = title, across, up
+        self.curves = []
+
+    def curve(self, name, times, values, step_times, step_values):
+        self.curves.append((name, times, values, step_times, step_values))
+
+    def svg(self):
+        times = [t for c in self.curves for t in c[1]]
+        values = [v for c in self.curves for v in c[2]]
+        t0, t1, v0, v1 = min(times), max(times), min(values), max(values)
+        room = 0.06 * (v1 - v0) or 1.0
+        v0, v1 = v0 - room, v1 + room
+
+        def x(t):
+            return LEFT + (t - t0) / (t1 - t0) * (WIDTH - LEFT - RIGHT)
+
+        def y(v):
+            return HEIGHT - BOTTOM - (v - v0) / (v1 - v0) * (HEIGHT - TOP - BOTTOM)
+
+        right, bottom = WIDTH - RIGHT, HEIGHT - BOTTOM
+        out = [
+            f'<svg xmlns="http://www.w3.org/2000/svg" width="{WIDTH}" height="{HEIGHT}" '
+            f'viewBox="0 0 {WIDTH} {HEIGHT}" font-family="sans-serif" font-size="13">',
+            f'<rect width="{WIDTH}" height="{HEIGHT}" fill="white"/>',
+            f'<text x="{LEFT}" y="26" font-size="16" font-weight="bold">{self.title}</text>',
+        ]
+        for v in _ticks(v0, v1):
+            out.append(f'<line x1="{LEFT}" y1="{y(v):.1f}" x2="{right}" y2="{y(v):.1f}" stroke="#e4e4e4"/>')
+            out.append(f'<text x="{LEFT - 8}" y="{y(v) + 4:.1f}" text-anchor="end">{v:g}</text>')
+        for t in _ticks(t0, t1, 8):
+            out.append(f'<line x1="{x(t):.1f}" y1="{bottom}" x2="{x(t):.1f}" y2="{bottom + 5}" stroke="black"/>')
+            out.append(f'<text x="{x(t):.1f}" y="{bottom + 20}" text-anchor="middle">{t:g}</text>')
+        out.append(f'<path d="M{LEFT} {TOP}V{bottom}H{right}" fill="none" stroke="black"/>')
+        out.append(f'<text x="{(LEFT + right) / 2}" y="{HEIGHT - 12}" text-anchor="middle">{self.across}</text>')
+        out.append(
+            f'<text x="18" y="{(TOP + bottom) / 2}" text-anchor="middle" '
+            f'transform="rotate(-90 18 {(TOP + bottom) / 2})">{self.up}</text>'
+        )
+        for k, (name, ts, vs, steps, poses) in enumerate(self.curves):
+            colour = COLOURS[k % len(COLOURS)]
+            points = " ".join(f"{x(t):.1f},{y(v):.1f}" for t, v in zip(ts, vs))
+            out.append(f'<polyline points="{points}" fill="none" stroke="{colour}" stroke-width="1.6"/>')
+            dots = "".join(f"M{x(t):.1f} {y(v):.1f}h0" for t, v in zip(steps, poses))
+            out.append(f'<path d="{dots}" stroke="{colour}" stroke-width="4.5" stroke-linecap="round"/>')
+            place = TOP + 14 + 22 * k
+            out.append(f'<line x1="{right + 14}" y1="{place}" x2="{right + 40}" y2="{place}" stroke="{colour}" stroke-width="3"/>')
+            out.append(f'<text x="{right + 48}" y="{place + 4}">{name}</text>')
+        place = TOP + 14 + 22 * len(self.curves)
+        out.append(f'<path d="M{right + 27} {place}h0" stroke="#666" stroke-width="5" stroke-linecap="round"/>')
+        out.append(f'<text x="{right + 48}" y="{place + 4}">accepted step</text>')
+        return "\n".join(out + ["</svg>", ""])

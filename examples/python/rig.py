@@ -1,0 +1,110 @@
+"""The main job: a tail of twelve links and a hanging hand, solved by the proved library.
+
+Prints a table of poses by frame, the counts with their caps, and writes a picture of the curves for each.
+    bash run                 builds the library and runs this
+"""
+
+import math
+import os
+import sys
+
+HERE = os.path.dirname(os.path.abspath(__file__))
+sys.path[:0] = [HERE, os.path.join(HERE, "../../hosts/python")]
+
+from picture import Picture  # noqa: E402
+from raimsklo import solve_ivp  # noqa: E402
+
+FRAMES = 24  # a second
+
+LINKS = 12
+
+
+def tail(t, y):
+    """Angles and speeds of twelve links: stiff springs between neighbours, the root swung to and fro."""
+    angle, speed = y[:LINKS], y[LINKS:]
+    out = [0.0] * (2 * LINKS)
+    for i in range(LINKS):
+        above = 0.6 * math.sin(2.0 * t) if i == 0 else angle[i - 1]
+        stiff, mass = 900.0 * 0.8**i, 0.9**i
+        pull = stiff * (above - angle[i])
+        if i + 1 < LINKS:
+            pull -= 0.8 * stiff * (angle[i] - angle[i + 1])
+        out[i] = speed[i]
+        out[LINKS + i] = (pull - 6.0 * speed[i]) / mass - 9.81 * math.sin(angle[i])
+    return out
+
+
+HAND = ["wrist", "thumb", "index", "little"]
+
+
+def hand(t, y):
+    """A wrist that falls from the side, and three fingers that hang from it."""
+    angle, speed = y[:4], y[4:]
+    out = [0.0] * 8
+    for i in range(4):
+        out[i] = speed[i]
+        length = 0.25 if i == 0 else 0.06 + 0.01 * i
+        spring = 0.0 if i == 0 else 80.0 * (angle[0] - angle[i])
+        out[4 + i] = spring - 9.81 / length * math.sin(angle[i]) - (1.2 if i == 0 else 4.0) * speed[i]
+    return out
+
+
+class Progress:
+    """One line that shows how far the run has come."""
+
+    def __init__(self, name, end):
+        self.name, self.end, self.steps = name, end, 0
+
+    def __call__(self, previous, t, y, count):
+        self.steps += 1
+        if sys.stderr.isatty() or self.steps % 50 == 0:
+            close = "\r" if sys.stderr.isatty() else "\n"
+            print(f"{self.name}: {t / self.end:6.1%} of the interval, {self.steps} steps", end=close, file=sys.stderr, flush=True)
+        return False
+
+    def done(self):
+        if sys.stderr.isatty():
+            print(" " * 70, end="\r", file=sys.stderr)
+
+
+def show(name, title, fun, y0, seconds, names, places, folder):
+    progress = Progress(name, seconds)
+    result = solve_ivp(fun, (0.0, seconds), y0, rtol=1e-6, atol=1e-9, dense_output=True, report=progress)
+    progress.done()
+    print(f"{title}: {result.end}")
+    frames = [k / FRAMES for k in range(int(seconds * FRAMES) + 1)]
+    print("  frame    time  " + "".join(f"{label:>12}" for label in names))
+    for k, t in enumerate(frames):
+        if k % 6 == 0:
+            pose = result.sol(t)
+            print(f"  {k:5d}  {t:6.3f}  " + "".join(f"{pose[p]:12.7f}" for p in places))
+    print(
+        f"  steps: {result.accepted} accepted, {result.rejected} rejected;"
+        f" derivatives {result.nfev}, Jacobians {result.njev}, factorings {result.nlu}"
+    )
+    print(f"  most derivatives in one step: {max(result.counts)}, proved to be at most {result.cap}")
+
+    picture = Picture(title, "time (s)", "angle (rad)")
+    fine = [seconds * k / 600 for k in range(601)]
+    poses = [result.sol(t) for t in fine]
+    for label, place in zip(names, places):
+        picture.curve(label, fine, [pose[place] for pose in poses], list(result.t), list(result.y[place]))
+    path = os.path.join(folder, name + ".svg")
+    with open(path, "w") as file:
+        file.write(picture.svg())
+    print(f"  picture: {os.path.relpath(path)}\n")
+    return result.success
+
+
+def main():
+    folder = sys.argv[1] if len(sys.argv) > 1 else "."
+    os.makedirs(folder, exist_ok=True)
+    links = [0, 3, 7, 11]
+    good = show("tail", "A tail of twelve links", tail, [0.0] * 24, 4.0, [f"link {i + 1}" for i in links], links, folder)
+    start = [1.4, 1.4, 1.2, 1.0, 0.0, 0.0, 0.0, 0.0]
+    good = show("hand", "A hanging hand", hand, start, 4.0, HAND, [0, 1, 2, 3], folder) and good
+    return 0 if good else 1
+
+
+if __name__ == "__main__":
+    sys.exit(main())

@@ -1,0 +1,187 @@
+"""`solve_ivp`, so that a script written for scipy's LSODA changes one line."""
+
+import bisect
+
+from . import run as calls
+from .library import LIBRARY
+
+try:
+    import numpy
+except ImportError:
+    numpy = None
+
+
+def _array(rows):
+    return rows if numpy is None else numpy.array(rows, dtype=float)
+
+
+def _state(y):
+    return y if numpy is None else numpy.array(y)
+
+
+class DenseOutput:
+    """The solution between its accepted steps: call it with a time, or with several."""
+
+    def __init__(self, n, t0, y0):
+        self.n, self.start, self._y0 = n, t0, y0
+        self._ends, self._snapshots = [], []
+        self._sign = 1.0
+
+    def _add(self, previous, time, snapshot):
+        if time < previous:
+            self._sign = -1.0
+        self._ends.append(self._sign * time)
+        self._snapshots.append(snapshot)
+
+    def _at(self, t):
+        if not self._snapshots:
+            return list(self._y0)
+        place = min(bisect.bisect_left(self._ends, self._sign * t), len(self._ends) - 1)
+        return calls.interpolate(t, self._snapshots[place], self.n)
+
+    def __call__(self, t):
+        if hasattr(t, "__len__"):
+            return _columns([self._at(float(x)) for x in t], self.n)
+        return _state(self._at(float(t)))
+
+
+class Result(dict):
+    """What a run gave; its fields are attributes too, as scipy's OptimizeResult has them.
+
+    t, y        the times of the accepted steps (or t_eval) and the poses there, y[i][k] being state i at t[k]
+    sol         the dense output, or None
+    status      0 where the end was reached, -1 otherwise; success says the same
+    end         the library's name of the end; number is its number
+    nfev, njev, nlu, accepted, rejected, steps_total, h   the library's counts and last step size
+    counts      derivatives requested in each accepted step; cap: what no step can exceed
+    """
+
+    __getattr__ = dict.__getitem__
+    __setattr__ = dict.__setitem__
+
+
+def _columns(poses, n):
+    return _array([[pose[i] for pose in poses] for i in range(n)])
+
+
+def _list(x):
+    return list(x) if hasattr(x, "__len__") else [x]
+
+
+def _cap(options, n):
+    """Derivatives that no step exceeds (demand 3), those of its difference Jacobians included."""
+    mxncf = max(options.mxncf, 1)
+    columns = 0 if options.supplied else (mxncf + 9) * n
+    return (mxncf + 12) * options.maxcor + 7 + columns
+
+
+def solve_ivp(
+    fun,
+    t_span,
+    y0,
+    method="LSODA",
+    t_eval=None,
+    dense_output=False,
+    args=None,
+    *,
+    rtol=1e-3,
+    atol=1e-6,
+    jac=None,
+    max_step=None,
+    min_step=None,
+    first_step=None,
+    max_steps=100000,
+    mxordn=12,
+    mxords=5,
+    maxcor=3,
+    msbp=20,
+    mxncf=10,
+    report=None,
+):
+    """Solves y' = fun(t, y) over t_span, in the manner of scipy.integrate.solve_ivp(method="LSODA").
+
+    jac(t, y) gives the Jacobian as rows, jac[i][j] = df_i/dy_j; without it the Jacobian is taken by differences.
+    report(previous, t, y, count) is called after each accepted step; True interrupts the run.
+    Bad input raises Refused with the library's number, and what a callback raises ends the run.
+    """
+    if method != "LSODA":
+        raise ValueError("this library has one method, LSODA")
+    t0, tend = (float(t) for t in t_span)
+    y0 = [float(v) for v in _list(y0)]
+    n = len(y0)
+    if args:
+        inner, inner_jac = fun, jac
+        fun = lambda t, y: inner(t, y, *args)  # noqa: E731
+        jac = None if inner_jac is None else lambda t, y: inner_jac(t, y, *args)
+    if t_eval is not None:
+        t_eval = [float(t) for t in t_eval]
+        if any(not min(t0, tend) <= t <= max(t0, tend) for t in t_eval):
+            raise ValueError("a time in t_eval is not within t_span")
+
+    options = LIBRARY.raimsklo_defaults()
+    options.max_steps, options.mxordn, options.mxords = max_steps, mxordn, mxords
+    options.maxcor, options.msbp, options.mxncf = maxcor, msbp, mxncf
+    options.supplied = 0 if jac is None else 1
+    for name, value in (("max_step", max_step), ("min_step", min_step), ("first_step", first_step)):
+        if value is not None and value != float("inf"):
+            setattr(options, "has_" + name, 1)
+            setattr(options, name, value)
+
+    sol = DenseOutput(n, t0, y0)
+    times, poses, counts = [t0], [y0], []
+    if n == 0 or (t0 == tend and first_step is None):
+        # the library refuses a computed first step of an interval without length (11): there is nothing to do
+        return _result(None, sol, times, poses, counts, t_eval, dense_output, options, n)
+
+    run = calls.Run(t0, tend, y0, _list(rtol), _list(atol), options)
+    while not run.ended:
+        answer, y = run.answer, run.y
+        if answer.number == calls.DERIVATIVE_WANTED:
+            run.reply(calls.DERIVATIVE, _list(fun(answer.time, _state(y))))
+        elif answer.number == calls.JACOBIAN_WANTED:
+            rows = [_list(row) for row in _list(jac(answer.time, _state(y)))]
+            if len(rows) != n or any(len(row) != n for row in rows):
+                raise ValueError(f"jac must give {n} rows of {n} numbers")
+            run.reply(calls.JACOBIAN, [rows[i][j] for j in range(n) for i in range(n)])
+        else:
+            kind = calls.CONTINUE
+            if answer.number == calls.REPORT:
+                sol._add(answer.previous, answer.time, run.snapshot)
+                times.append(answer.time)
+                poses.append(y)
+                counts.append(answer.count)
+                if report is not None and report(answer.previous, answer.time, _state(y), answer.count):
+                    kind = calls.INTERRUPT
+            run.reply(kind, y, answer.time)
+    return _result(run.answer, sol, times, poses, counts, t_eval, dense_output, options, n)
+
+
+def _result(answer, sol, times, poses, counts, t_eval, dense_output, options, n):
+    if t_eval is not None:
+        # where the run ended early, poses beyond its last accepted step do not exist
+        low, high = min(times[0], times[-1]), max(times[0], times[-1])
+        times = [t for t in t_eval if low <= t <= high]
+        poses = [sol._at(t) for t in times]
+    number = 110 if answer is None else answer.number
+    count = lambda name: 0 if answer is None else getattr(answer, name)  # noqa: E731
+    return Result(
+        t=_array(times),
+        y=_columns(poses, n),
+        sol=sol if dense_output else None,
+        t_events=None,
+        y_events=None,
+        nfev=count("nfe"),
+        njev=count("nje"),
+        nlu=count("nlu"),
+        status=0 if number == 110 else -1,
+        success=number == 110,
+        number=number,
+        end=calls.ENDS[number],
+        message=calls.ENDS[number],
+        accepted=count("accepted"),
+        rejected=count("rejected"),
+        steps_total=count("total"),
+        h=count("h"),
+        counts=counts,
+        cap=_cap(options, n),
+    )

@@ -1,0 +1,147 @@
+"""The Python package over the proved library: `python3 -m unittest discover -s hosts/python/tests`."""
+
+import math
+import os
+import sys
+import unittest
+
+sys.path.insert(0, os.path.join(os.path.dirname(os.path.abspath(__file__)), ".."))
+
+from raimsklo import Refused, Run, solve_ivp  # noqa: E402
+from raimsklo.library import LIBRARY  # noqa: E402
+
+
+def swing(t, y):
+    return [y[1], -y[0]]
+
+
+def van_der_pol(t, y):
+    return [y[1], 1000.0 * (1.0 - y[0] * y[0]) * y[1] - y[0]]
+
+
+def robertson(t, y):
+    a, b, c = y
+    return [-0.04 * a + 1e4 * b * c, 0.04 * a - 1e4 * b * c - 3e7 * b * b, 3e7 * b * b]
+
+
+def robertson_jac(t, y):
+    a, b, c = y
+    return [
+        [-0.04, 1e4 * c, 1e4 * b],
+        [0.04, -1e4 * c - 6e7 * b, -1e4 * b],
+        [0.0, 6e7 * b, 0.0],
+    ]
+
+
+class Solves(unittest.TestCase):
+    def test_swing(self):
+        result = solve_ivp(swing, (0, 10), [1, 0], rtol=1e-8, atol=1e-10)
+        self.assertTrue(result.success)
+        self.assertEqual(result.end, "success")
+        self.assertEqual(result.t[-1], 10.0)
+        self.assertAlmostEqual(result.y[0][-1], math.cos(10), delta=1e-4)
+        self.assertEqual(len(result.y), 2)
+        self.assertEqual(len(result.y[0]), len(result.t))
+        self.assertEqual(result.accepted, len(result.t) - 1)
+        self.assertLessEqual(max(result.counts), result.cap)
+
+    def test_backward(self):
+        result = solve_ivp(swing, (5, 0), [math.cos(5), -math.sin(5)], rtol=1e-8, atol=1e-10)
+        self.assertAlmostEqual(result.y[0][-1], 1.0, delta=1e-4)
+
+    def test_times_asked_for(self):
+        times = [0, 0.5, 1.5, 3, 10]
+        result = solve_ivp(swing, (0, 10), [1, 0], t_eval=times, rtol=1e-8, atol=1e-10)
+        self.assertEqual(list(result.t), times)
+        for t, y in zip(times, result.y[0]):
+            self.assertAlmostEqual(y, math.cos(t), delta=1e-4)
+        backward = solve_ivp(swing, (10, 0), [math.cos(10), -math.sin(10)], t_eval=[9, 2], rtol=1e-8, atol=1e-10)
+        self.assertAlmostEqual(backward.y[0][1], math.cos(2), delta=1e-4)
+        with self.assertRaises(ValueError):
+            solve_ivp(swing, (0, 10), [1, 0], t_eval=[11])
+
+    def test_dense_output(self):
+        sol = solve_ivp(swing, (0, 10), [1, 0], dense_output=True, rtol=1e-8, atol=1e-10).sol
+        self.assertAlmostEqual(sol(7.3)[0], math.cos(7.3), delta=1e-4)
+        self.assertEqual(len(sol([1, 2, 3])[0]), 3)
+
+    def test_stiff(self):
+        result = solve_ivp(van_der_pol, (0, 2000), [2, 0], rtol=1e-5, atol=1e-8)
+        self.assertTrue(result.success, result.end)
+        self.assertGreater(result.njev, 0)
+
+    def test_robertson_with_and_without_jacobian(self):
+        for jac in (None, robertson_jac):
+            result = solve_ivp(robertson, (0, 40), [1, 0, 0], rtol=1e-6, atol=[1e-8, 1e-12, 1e-8], jac=jac)
+            self.assertTrue(result.success, result.end)
+            self.assertAlmostEqual(result.y[0][-1], 0.7158271, delta=1e-4)
+            self.assertAlmostEqual(result.y[2][-1], 0.2841637, delta=1e-4)
+
+    def test_arguments(self):
+        result = solve_ivp(lambda t, y, k: [-k * y[0]], (0, 1), [1], args=(2.0,), rtol=1e-8, atol=1e-10)
+        self.assertAlmostEqual(result.y[0][-1], math.exp(-2), delta=1e-5)
+
+
+class Ends(unittest.TestCase):
+    def test_needs_more_steps(self):
+        result = solve_ivp(swing, (0, 10), [1, 0], max_steps=3)
+        self.assertFalse(result.success)
+        self.assertEqual((result.end, result.number, result.accepted), ("needs more steps", 112, 3))
+        early = solve_ivp(swing, (0, 10), [1, 0], max_steps=3, t_eval=[0, 10])
+        self.assertEqual(list(early.t), [0.0])
+
+    def test_interrupted(self):
+        result = solve_ivp(swing, (0, 10), [1, 0], report=lambda previous, t, y, count: t > 1)
+        self.assertEqual(result.end, "interrupted")
+        self.assertGreater(result.t[-1], 1)
+
+    def test_poor(self):
+        result = solve_ivp(lambda t, y: [float(len(bin(hash((t, y[0]))))) * 1e12 * math.sin(1e6 * t)], (0, 1), [0.0], min_step=0.5)
+        self.assertIn(result.end, ("poor convergence", "step too small"))
+
+    def test_callback_raises(self):
+        def bad(t, y):
+            raise RuntimeError("the rig is gone")
+
+        with self.assertRaisesRegex(RuntimeError, "the rig is gone"):
+            solve_ivp(bad, (0, 1), [1])
+
+    def test_nothing_to_do(self):
+        self.assertTrue(solve_ivp(swing, (0, 1), []).success)
+        self.assertTrue(solve_ivp(swing, (1, 1), [1, 0]).success)
+
+
+class Refusals(unittest.TestCase):
+    def refused(self, number, **changed):
+        given = dict(fun=swing, t_span=(0, 10), y0=[1, 0])
+        given.update(changed)
+        with self.assertRaises(Refused) as caught:
+            solve_ivp(**given)
+        self.assertEqual(caught.exception.number, number)
+        self.assertIn(f"({number})", str(caught.exception))
+        return caught.exception
+
+    def test_bad_input(self):
+        self.refused(1, fun=lambda t, y: y, y0=[1.0] * 65)
+        self.refused(2, rtol=[1e-3] * 3)
+        self.refused(4, max_steps=1000001)
+        self.refused(5, max_steps=0)
+        self.refused(6, maxcor=0)
+        self.refused(7, mxordn=0)
+        self.assertEqual(self.refused(9, rtol=[1e-3, -1.0]).index, 1)
+        self.assertEqual(self.refused(10, atol=-1.0).index, 0)
+        self.refused(11, first_step=-1.0)
+        self.refused(11, first_step=float("nan"))
+        self.assertEqual(self.refused(12, rtol=0.0, atol=[1.0, 0.0]).index, 1)
+        self.refused(14, fun=lambda t, y: [0.0])
+
+    def test_refused_reply_changes_nothing(self):
+        run = Run(0, 1, [1, 0], [1e-3], [1e-6], LIBRARY.raimsklo_defaults())
+        before = [bytes(buffer) for buffer in (run._work, run._pivots, run._session, run._question)]
+        with self.assertRaises(Refused):
+            run.reply(3, run.y)
+        self.assertEqual(before, [bytes(buffer) for buffer in (run._work, run._pivots, run._session, run._question)])
+
+
+if __name__ == "__main__":
+    unittest.main()
