@@ -1,9 +1,9 @@
-"""A plain SVG of curves: axes with round numbers, a legend, a mark at each accepted step."""
+"""A plain SVG of curves: axes with round numbers, a legend, and below the axis a mark at each accepted step."""
 
 import math
 
 COLOURS = ["#1b6ca8", "#d1495b", "#2e8b57", "#e09f3e", "#6a4c93", "#444444"]
-WIDTH, HEIGHT, LEFT, RIGHT, TOP, BOTTOM = 960, 440, 70, 190, 46, 52
+WIDTH, HEIGHT, LEFT, RIGHT, TOP, BOTTOM = 960, 440, 70, 190, 46, 66
 
 
 def _ticks(low, high, wanted=6):
@@ -15,12 +15,12 @@ def _ticks(low, high, wanted=6):
 
 
 class Picture:
-    def __init__(self, title, across, up):
-        self.title, self.across, self.up = title, across, up
+    def __init__(self, title, across, up, steps):
+        self.title, self.across, self.up, self.steps = title, across, up, steps
         self.curves = []
 
-    def curve(self, name, times, values, step_times, step_values):
-        self.curves.append((name, times, values, step_times, step_values))
+    def curve(self, name, times, values):
+        self.curves.append((name, times, values))
 
     def svg(self):
         times = [t for c in self.curves for t in c[1]]
@@ -46,24 +46,23 @@ class Picture:
             out.append(f'<line x1="{LEFT}" y1="{y(v):.1f}" x2="{right}" y2="{y(v):.1f}" stroke="#e4e4e4"/>')
             out.append(f'<text x="{LEFT - 8}" y="{y(v) + 4:.1f}" text-anchor="end">{v:g}</text>')
         for t in _ticks(t0, t1, 8):
-            out.append(f'<line x1="{x(t):.1f}" y1="{bottom}" x2="{x(t):.1f}" y2="{bottom + 5}" stroke="black"/>')
-            out.append(f'<text x="{x(t):.1f}" y="{bottom + 20}" text-anchor="middle">{t:g}</text>')
+            out.append(f'<line x1="{x(t):.1f}" y1="{bottom}" x2="{x(t):.1f}" y2="{bottom - 5}" stroke="black"/>')
+            out.append(f'<text x="{x(t):.1f}" y="{bottom + 30}" text-anchor="middle">{t:g}</text>')
+        marks = "".join(f"M{x(t):.2f} {bottom + 4}v10" for t in self.steps)
+        out.append(f'<path d="{marks}" stroke="#333" stroke-width="0.6" stroke-opacity="0.6"/>')
         out.append(f'<path d="M{LEFT} {TOP}V{bottom}H{right}" fill="none" stroke="black"/>')
         out.append(f'<text x="{(LEFT + right) / 2}" y="{HEIGHT - 12}" text-anchor="middle">{self.across}</text>')
         out.append(
             f'<text x="18" y="{(TOP + bottom) / 2}" text-anchor="middle" '
             f'transform="rotate(-90 18 {(TOP + bottom) / 2})">{self.up}</text>'
         )
-        for k, (name, ts, vs, steps, poses) in enumerate(self.curves):
+        for k, (name, ts, vs) in enumerate(self.curves):
             colour = COLOURS[k % len(COLOURS)]
             points = " ".join(f"{x(t):.1f},{y(v):.1f}" for t, v in zip(ts, vs))
-            out.append(f'<polyline points="{points}" fill="none" stroke="{colour}" stroke-width="1.6"/>')
-            dots = "".join(f"M{x(t):.1f} {y(v):.1f}h0" for t, v in zip(steps, poses))
-            out.append(f'<path d="{dots}" stroke="{colour}" stroke-width="4.5" stroke-linecap="round"/>')
+            out.append(f'<polyline points="{points}" fill="none" stroke="{colour}" stroke-width="2"/>')
             place = TOP + 14 + 22 * k
             out.append(f'<line x1="{right + 14}" y1="{place}" x2="{right + 40}" y2="{place}" stroke="{colour}" stroke-width="3"/>')
             out.append(f'<text x="{right + 48}" y="{place + 4}">{name}</text>')
-        place = TOP + 14 + 22 * len(self.curves)
-        out.append(f'<path d="M{right + 27} {place}h0" stroke="#666" stroke-width="5" stroke-linecap="round"/>')
-        out.append(f'<text x="{right + 48}" y="{place + 4}">accepted step</text>')
+        out.append(f'<path d="M{right + 20} {bottom + 4}v10m7 -10v10m7 -10v10" stroke="#333"/>')
+        out.append(f'<text x="{right + 48}" y="{bottom + 14}">accepted steps</text>')
         return "\n".join(out + ["</svg>", ""])

@@ -53,13 +53,16 @@ class Progress:
     """One line that shows how far the run has come."""
 
     def __init__(self, name, end):
-        self.name, self.end, self.steps = name, end, 0
+        self.name, self.end, self.steps, self.told = name, end, 0, 0
 
     def __call__(self, previous, t, y, count):
         self.steps += 1
-        if sys.stderr.isatty() or self.steps % 50 == 0:
+        tenth = int(10 * t / self.end)
+        if sys.stderr.isatty() or tenth > self.told:
+            self.told = tenth
             close = "\r" if sys.stderr.isatty() else "\n"
-            print(f"{self.name}: {t / self.end:6.1%} of the interval, {self.steps} steps", end=close, file=sys.stderr, flush=True)
+            share = f"{t / self.end:4.0%} of the interval"
+            print(f"{self.name}: {share}, {self.steps} steps", end=close, file=sys.stderr, flush=True)
         return False
 
     def done(self):
@@ -69,7 +72,7 @@ class Progress:
 
 def show(name, title, fun, y0, seconds, names, places, folder):
     progress = Progress(name, seconds)
-    result = solve_ivp(fun, (0.0, seconds), y0, rtol=1e-6, atol=1e-9, dense_output=True, report=progress)
+    result = solve_ivp(fun, (0.0, seconds), y0, rtol=1e-4, atol=1e-6, dense_output=True, report=progress)
     progress.done()
     print(f"{title}: {result.end}")
     frames = [k / FRAMES for k in range(int(seconds * FRAMES) + 1)]
@@ -84,11 +87,11 @@ def show(name, title, fun, y0, seconds, names, places, folder):
     )
     print(f"  most derivatives in one step: {max(result.counts)}, proved to be at most {result.cap}")
 
-    picture = Picture(title, "time (s)", "angle (rad)")
+    picture = Picture(title, "time (s)", "angle (rad)", list(result.t))
     fine = [seconds * k / 600 for k in range(601)]
     poses = [result.sol(t) for t in fine]
     for label, place in zip(names, places):
-        picture.curve(label, fine, [pose[place] for pose in poses], list(result.t), list(result.y[place]))
+        picture.curve(label, fine, [pose[place] for pose in poses])
     path = os.path.join(folder, name + ".svg")
     with open(path, "w") as file:
         file.write(picture.svg())

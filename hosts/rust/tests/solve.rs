@@ -1,0 +1,135 @@
+//! The classic problems, the ends and the refusals through the crate.
+
+use raimsklo::{solve, solve_with_jacobian, Control, End, Options, Problem, Question, Refused, Solver};
+
+fn problem<'a>(xend: f64, y0: &'a [f64], rtol: &'a [f64], atol: &'a [f64]) -> Problem<'a> {
+    Problem { x0: 0.0, xend, y0, rtol, atol, options: Options::default() }
+}
+
+fn swing(_: f64, y: &[f64], f: &mut [f64]) {
+    f[0] = y[1];
+    f[1] = -y[0];
+}
+
+fn van_der_pol(_: f64, y: &[f64], f: &mut [f64]) {
+    f[0] = y[1];
+    f[1] = 1000.0 * (1.0 - y[0] * y[0]) * y[1] - y[0];
+}
+
+fn robertson(_: f64, y: &[f64], f: &mut [f64]) {
+    f[0] = -0.04 * y[0] + 1e4 * y[1] * y[2];
+    f[2] = 3e7 * y[1] * y[1];
+    f[1] = -f[0] - f[2];
+}
+
+fn robertson_jacobian(_: f64, y: &[f64], columns: &mut [f64]) {
+    let (b, c) = (y[1], y[2]);
+    columns[..3].copy_from_slice(&[-0.04, 0.04, 0.0]);
+    columns[3..6].copy_from_slice(&[1e4 * c, -1e4 * c - 6e7 * b, 6e7 * b]);
+    columns[6..].copy_from_slice(&[1e4 * b, -1e4 * b, 0.0]);
+}
+
+#[test]
+fn oscillator() {
+    let problem = problem(10.0, &[1.0, 0.0], &[1e-8], &[1e-10]);
+    let cap = problem.options.cap(2);
+    let (mut last, mut steps) = (vec![], 0);
+    let finished = solve(&problem, swing, |step| {
+        assert!(step.count <= cap && step.previous < step.time);
+        steps += 1;
+        last = step.y.to_vec();
+        Control::Continue
+    });
+    let finished = finished.unwrap();
+    assert_eq!((finished.end, finished.accepted), (End::Success, steps));
+    assert!((last[0] - 10f64.cos()).abs() < 1e-4);
+}
+
+#[test]
+fn interpolation_within_a_step() {
+    let problem = problem(5.0, &[1.0, 0.0], &[1e-8], &[1e-10]);
+    let finished = solve(&problem, swing, |step| {
+        let middle = 0.5 * (step.previous + step.time);
+        assert!((step.at(middle).unwrap()[0] - middle.cos()).abs() < 1e-4);
+        assert_eq!(raimsklo::interpolate(middle, &mut [0.0; 3], step.snapshot).unwrap_err().number, 16);
+        Control::Continue
+    });
+    assert_eq!(finished.unwrap().end, End::Success);
+}
+
+#[test]
+fn stiff_problems() {
+    let finished = solve(&problem(2000.0, &[2.0, 0.0], &[1e-5], &[1e-8]), van_der_pol, |_| Control::Continue).unwrap();
+    assert_eq!(finished.end, End::Success);
+    assert!(finished.nje > 0);
+
+    let chemistry = problem(40.0, &[1.0, 0.0, 0.0], &[1e-6], &[1e-8, 1e-12, 1e-8]);
+    let (mut by_differences, mut supplied) = (vec![], vec![]);
+    solve(&chemistry, robertson, |step| {
+        by_differences = step.y.to_vec();
+        Control::Continue
+    })
+    .unwrap();
+    solve_with_jacobian(&chemistry, robertson, robertson_jacobian, |step| {
+        supplied = step.y.to_vec();
+        Control::Continue
+    })
+    .unwrap();
+    for y in [by_differences, supplied] {
+        assert!((y[0] - 0.7158271).abs() < 1e-4 && (y[2] - 0.2841637).abs() < 1e-4, "{y:?}");
+    }
+}
+
+#[test]
+fn ends() {
+    let mut short = problem(10.0, &[1.0, 0.0], &[1e-3], &[1e-6]);
+    short.options.max_steps = 3;
+    let finished = solve(&short, swing, |_| Control::Continue).unwrap();
+    assert_eq!((finished.end, finished.accepted), (End::NeedsMoreSteps, 3));
+
+    let whole = problem(10.0, &[1.0, 0.0], &[1e-3], &[1e-6]);
+    assert_eq!(solve(&whole, swing, |_| Control::Interrupt).unwrap().end, End::Interrupted);
+    let mut reports = 0;
+    let finished = solve(&whole, swing, |step| {
+        reports += 1;
+        match reports {
+            1 => Control::Modified(vec![2.0 * step.y[0], step.y[1]]),
+            _ => Control::Continue,
+        }
+    });
+    assert_eq!(finished.unwrap().end, End::Success);
+    let wild = problem(1.0, &[1.0], &[1e-3], &[1e-6]);
+    solve(&wild, |t, _, f| f[0] = if t > 0.0 { f64::NAN } else { 1.0 }, |_| Control::Continue).unwrap();
+}
+
+#[test]
+fn refusals() {
+    let refused = |problem: &Problem| Solver::start(problem).unwrap_err();
+    assert_eq!(refused(&problem(1.0, &[0.0; 65], &[1e-3], &[1e-6])).number, 1);
+    assert_eq!(refused(&problem(1.0, &[0.0; 2], &[1e-3; 3], &[1e-6])).number, 2);
+    assert_eq!(refused(&problem(1.0, &[0.0; 2], &[1e-3, -1.0], &[1e-6])), Refused { number: 9, index: 1, value: 0.0 });
+    assert_eq!(refused(&problem(1.0, &[0.0; 2], &[1e-3], &[-1.0])).number, 10);
+    let options = Options::default().first_step(-0.5);
+    let backward = Problem { options, ..problem(1.0, &[0.0], &[1e-3], &[1e-6]) };
+    assert_eq!(refused(&backward), Refused { number: 11, index: 0, value: -0.5 });
+    let told = "refused (11): the first step -0.5 is zero, NaN or leads away from the end";
+    assert_eq!(refused(&backward).to_string(), told);
+    let weightless = problem(1.0, &[0.0], &[1e-3], &[0.0]);
+    assert_eq!(solve(&weightless, |_, _, f| f[0] = 0.0, |_| Control::Continue).unwrap_err().number, 12);
+}
+
+#[test]
+fn a_refused_reply_changes_nothing() {
+    let mut run = Solver::start(&problem(1.0, &[1.0, 0.0], &[1e-3], &[1e-6])).unwrap();
+    assert_eq!(run.derivative(&[0.0]).unwrap_err().number, 14);
+    assert_eq!(run.go_on(&[1.0, 0.0], 0.0).unwrap_err().number, 14);
+    assert!(matches!(run.question(), Question::Derivative { time, y } if time == 0.0 && y == [1.0, 0.0]));
+    run.derivative(&[0.0, -1.0]).unwrap();
+    assert!(matches!(run.question(), Question::FirstReport { .. }));
+}
+
+#[test]
+fn nothing_to_do() {
+    let finished = solve(&problem(1.0, &[], &[1e-3], &[1e-6]), |_, _, _| (), |_| Control::Continue).unwrap();
+    assert_eq!((finished.end, finished.nfe), (End::Success, 0));
+}
