@@ -1,0 +1,1 @@
+//! Nothing private is reached here; the build expects the file.
