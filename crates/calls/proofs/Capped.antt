@@ -1,0 +1,263 @@
+-- Demand 3 for every list of calls of a run: from the rules' own theorem, along the calls.
+--     calls-capped
+-- Assumes nothing.
+use mathlib.Core.Bool.{Bool, true, false, cond, _||_, true≢false}
+use mathlib.Core.List.{List, [], _∷_}
+use mathlib.Core.Logic.{_⊎_, inl, inr}
+use mathlib.Core.Option.{Option, none, some}
+use mathlib.Core.Path.{_≡_, refl, sym, ap, _∙_}
+use Prim.Native.Nat.{ℕ, _≤_}
+use native.Mathlib.Omega.{arith}
+use lib.Dec.{eqb}
+use lib.Ieee.{Float}
+use Rattle.common.specs.declared.Common.{Common}
+use Rattle.machine.specs.declared.Answer.{Answer}
+use Rattle.machine.specs.declared.Question.{Question}
+use Rattle.machine.specs.declared.Question.the-variants as Question
+use Rattle.machine.specs.declared.Status.{Status}
+use Rattle.machine.specs.declared.Status.the-variants as Status
+use Rattle.machine.specs.Turns.{Left}
+use Rattle.session.specs.Session.{decodeOf}
+use Rattle.session.proofs.Within.{both}
+use Rattle.rules.specs.Play.{Given, derivativeAt, jacobianAt, Ending, Play, ret, ask, tell, say}
+use Rattle.rules.specs.Play.{finished, stepRefused, weightRefused, exhausted}
+use Rattle.rules.specs.Rules.{Start}
+use Rattle.rules.specs.Steps.{Step, Tally, requested, put-tally, noted, marked}
+use Rattle.rules.specs.Replies.{Reply as Fed}
+use Rattle.rules.specs.Demands.{Throughout, latest, Kept, Demand3At}
+use Rattle.rules.proofs.Demands.{demand-3-tree}
+use Rattle.follows.specs.Seen.{next, asks, step}
+use Rattle.follows.specs.Stands.{startedAt}
+use Rattle.follows.specs.Follows.{stateAt}
+use Rattle.raimsklo.specs.declared.answers.Reply.{Reply}
+use Rattle.raimsklo.specs.Answers.{statusNumber, answerOf}
+use Rattle.raimsklo.specs.Calls.{Buffers, Called, Problem, isKind, startOf}
+use Rattle.calls.specs.Run.{Begins, ReplyCall, TimesFit, answered, lastOf}
+use Rattle.calls.specs.Follow.{treeOf, isStep, saidAt, fedAs}
+use Rattle.calls.specs.Demands.{marks, countedBy, stepsOf, isReport, CappedAt, CallsCapped}
+use Rattle.calls.proofs.Said.{fits}
+use Rattle.calls.proofs.Keeps.{Runs}
+use Rattle.calls.proofs.Start.{given, from, begun-run}
+use Rattle.calls.proofs.Walk.{At, leaves, Outcome, unsized, refused, taken, call, at-leaves, begun-at}
+use Rattle.calls.proofs.Follow.{went}
+use Rattle.calls.proofs.Spoken.{Spoken, reply-of}
+use Rattle.calls.proofs.Ends.{begun-spoken}
+
+-- ---- a question counts alike, whatever its time and state
+
+same-request : (e : Option Ending) (t u : Float) (v w : List Float) (y : Tally)
+    → requested e (derivativeAt t v) y ≡ requested e (derivativeAt u w) y
+same-request none t u v w y = refl
+same-request (some e) t u v w y = refl
+
+same-noted : (t u : Float) (v w : List Float) (xs : List Step)
+    → noted (derivativeAt t v) xs ≡ noted (derivativeAt u w) xs
+same-noted t u v w [] = refl
+same-noted t u v w (x ∷ xs) = ap (λ (y : Tally). put-tally y x ∷ xs) (same-request (x .ending) t u v w (x .tally))
+
+no-request : (e : Option Ending) (t : Float) (v : List Float) (y : Tally) → requested e (jacobianAt t v) y ≡ y
+no-request none t v y = refl
+no-request (some e) t v y = refl
+
+not-noted : (t : Float) (v : List Float) (xs : List Step) → noted (jacobianAt t v) xs ≡ xs
+not-noted t v [] = refl
+not-noted t v (x ∷ xs) = ap (λ (y : Tally). put-tally y x ∷ xs) (no-request (x .ending) t v (x .tally))
+
+-- ---- at a node of the tree, its own question counted
+
+module _ (P : Play → List Step → Type 0) where
+  abbrev Waits : Play → List Step → Type 0
+  Waits (ret e) zs = P (ret e) zs
+  Waits (ask q x k) zs = P (ask q x k) zs × ((f : List Float) → Throughout P (k f) zs)
+  Waits (tell r x k) zs =
+      P (tell r x k) zs × ((a : Answer) (f : List Float) (t : Float) → Throughout P (k a f t) zs)
+  Waits (say e p) zs = Waits p zs
+
+  abbrev counts : Reply → List Step → List Step
+  counts a xs = countedBy a xs
+
+  status-counts : (s : Status) → eqb (statusNumber s) 100 ≡ false
+  status-counts Status.Success = refl
+  status-counts Status.Interrupted = refl
+  status-counts Status.NeedsMoreSteps = refl
+  status-counts Status.StepTooSmall = refl
+  status-counts Status.PoorConvergence = refl
+  status-counts Status.CoefficientGap = refl
+
+  report-counts : (b : Bool) → eqb (cond b 103 102) 100 ≡ false
+  report-counts true = refl
+  report-counts false = refl
+
+  arrives-at : (n : ℕ) (t : Play) (q : List Float) (xs : List Step) → Throughout P t xs
+      → Waits t (countedBy (saidAt n t q .reply) (marks t xs))
+  arrives-at n (ret (finished status x)) q xs h = rw (status-counts status) h
+  arrives-at n (ret (stepRefused v x)) q xs h = h
+  arrives-at n (ret (weightRefused i x)) q xs h = h
+  arrives-at n (ret (exhausted x)) q xs h = h
+  arrives-at n (ask (derivativeAt t v) x k) q xs h = rw (same-noted t t v [] xs) at h
+  arrives-at n (ask (jacobianAt t v) x k) q xs h = rw (not-noted t v xs) at h
+  arrives-at n (tell r x k) q xs h = rw (report-counts (isStep (r .snapshot))) h
+  arrives-at n (say e p) q xs h = arrives-at n p q (marked e xs) h
+
+  arrives : (n : ℕ) (t : Play) (x : Called) (xs : List Step) → Spoken n t x → Throughout P t xs
+      → Waits t (countedBy (x .reply) (marks t xs))
+  arrives n t x xs k h = rw (reply-of n t x k) (arrives-at n t (k .question) xs h)
+
+  leads : (n : ℕ) (t : Play) (r : Fed) (zs : List Step) → asks n t r ≡ true → Waits t zs → Throughout P (step t r) zs
+  leads n (ret e) r zs h w = absurd (true≢false (sym h))
+  leads n (ask q x k) r zs h w = w .1 (r .numbers)
+  leads n (tell p x k) r zs h w = w .1 _ (r .numbers) (r .time)
+  leads n (say e p) r zs h w = leads n p r zs h w
+
+-- ---- what demand 3 says there
+
+module _ (g : Given) where
+  abbrev Here : Play → List Step → Type 0
+  Here t zs = Waits (Demand3At g) t zs
+
+  kept-here : (t : Play) (zs : List Step) → Here t zs → Kept (stateAt t) zs
+  kept-here (ret e) zs h = h .0
+  kept-here (ask q x k) zs h = h .0
+  kept-here (tell r x k) zs h = h .0 .0
+  kept-here (say e p) zs h = kept-here p zs h
+
+  count-at : (n : ℕ) (t : Play) (q : List Float) (zs : List Step) → Here t zs
+      → isReport (saidAt n t q .reply) ≡ true → saidAt n t q .reply .count ≡ latest zs
+  count-at n (ret (finished status x)) q zs h i = absurd (by status i)
+    where
+      by : (s : Status) → eqb (statusNumber s) 102 || eqb (statusNumber s) 103 ≡ true → ⊥
+      by Status.Success e = true≢false (sym e)
+      by Status.Interrupted e = true≢false (sym e)
+      by Status.NeedsMoreSteps e = true≢false (sym e)
+      by Status.StepTooSmall e = true≢false (sym e)
+      by Status.PoorConvergence e = true≢false (sym e)
+      by Status.CoefficientGap e = true≢false (sym e)
+  count-at n (ret (stepRefused v x)) q zs h i = absurd (true≢false (sym i))
+  count-at n (ret (weightRefused v x)) q zs h i = absurd (true≢false (sym i))
+  count-at n (ret (exhausted x)) q zs h i = absurd (true≢false (sym i))
+  count-at n (ask (derivativeAt t v) x k) q zs h i = absurd (true≢false (sym i))
+  count-at n (ask (jacobianAt t v) x k) q zs h i = absurd (true≢false (sym i))
+  count-at n (tell r x k) q zs h i = h .0 .1
+  count-at n (say e p) q zs h i = count-at n p q zs h i
+
+  returned-at : (n : ℕ) (t : Play) (q : List Float) → 110 ≤ saidAt n t q .reply .number
+      → saidAt n t q .reply .accepted ≡ stateAt t .c .nst
+  returned-at n (ret (finished status x)) q h = refl
+  returned-at n (ret (stepRefused v x)) q h = absurd (omega arith)
+  returned-at n (ret (weightRefused v x)) q h = absurd (omega arith)
+  returned-at n (ret (exhausted x)) q h = absurd (omega arith)
+  returned-at n (ask (derivativeAt t v) x k) q h = absurd (omega arith)
+  returned-at n (ask (jacobianAt t v) x k) q h = absurd (omega arith)
+  returned-at n (tell r x k) q h = absurd (by (isStep (r .snapshot)) h)
+    where
+      by : (b : Bool) → 110 ≤ cond b 103 102 → ⊥
+      by true e = omega arith
+      by false e = omega arith
+  returned-at n (say e p) q h = returned-at n p q h
+
+first-count : (v : Question) → answerOf v .number ≡ 102 → answerOf v .count ≡ 0
+first-count (Question.Derivative a) e = refl
+first-count (Question.Jacobian a) e = refl
+first-count (Question.FirstReport a) e = refl
+first-count (Question.Report r) e = absurd (omega arith)
+first-count (Question.Finished x) e = refl
+first-count (Question.StepRefused h) e = refl
+first-count (Question.WeightRefused i) e = refl
+first-count Question.Unasked e = refl
+
+-- ---- along the calls
+
+module _ (g : Given) (a : Start) (run : Runs g a) where
+  abbrev n : ℕ
+  n = g .s .n
+
+  -- the last call is spoken at the node, or it was refused
+  abbrev Last : Play → Called → Type 0
+  Last t x = Spoken n t x ⊎ ((x .reply .number ≡ 3) ⊎ (x .reply .number ≡ 14))
+
+  record Stood (x : Called) (zs : List Step) : Type 0 where
+    node : Play
+    left : Left
+    at : At g a run node left x
+    last : Last node x
+    here : Here g node zs
+
+  abbrev Stands : List ReplyCall → Type 0
+  Stands rs = (t : Play) (l : Left) (x : Called) (zs : List Step) → At g a run t l x → Last t x → Here g t zs
+      → Stood (lastOf x rs) (stepsOf t zs x rs)
+
+  stands-by : (r : ReplyCall) (rs : List ReplyCall) → Stands rs → (t : Play) (l : Left) (x : Called) (zs : List Step)
+      → At g a run t l x → Here g t zs → Outcome g a run t l x r → Stood (lastOf x (r ∷ rs)) (stepsOf t zs x (r ∷ rs))
+  unfolding lastOf stepsOf
+  stands-by r rs ih t l x zs at h (unsized s e) =
+      rw e (ih t l (leaves g a run x r 3) zs (at-leaves g a run r 3 at) (inr (inl refl)) h)
+  stands-by r rs ih t l x zs at h (refused s e q) =
+      rw q (ih t l (leaves g a run x r 14) zs (at-leaves g a run r 14 at) (inr (inr refl)) h)
+  stands-by r rs ih t l x zs at h (taken s e on q w k) =
+      let y = answered x r in
+      let u = step t (fedAs r) in
+      let m = next g l (fedAs r) in
+      let spoken : Spoken n u y = record { question = r .question; said = k; asked = m .turn .question; answer = q } in
+      let asked = both (isKind (r .kind)) (asks n t (fedAs r)) e .1 in
+      rw (went g a run m y w q)
+      (ih u m y (countedBy (y .reply) (marks u zs)) on (inl spoken)
+      (arrives (Demand3At g) n u y zs spoken (leads (Demand3At g) n t (fedAs r) zs asked h)))
+
+  stands-all : (rs : List ReplyCall) → TimesFit rs → Stands rs
+  unfolding lastOf stepsOf
+  stands-all [] f t l x zs at k h = record { node = t; left = l; at = at; last = k; here = h }
+  stands-all (r ∷ rs) f t l x zs at k h =
+      stands-by r rs (stands-all rs (f .1)) t l x zs at h (call g a run t l x r (f .0) at)
+
+  -- ---- the claim at the last call
+
+  module _ (x : Called) (zs : List Step) (z : Stood x zs) where
+    kept : Kept (stateAt (z .node)) zs
+    kept = kept-here g (z .node) zs (z .here)
+
+    -- the session's accepted count is the node's
+    accepted-is : decodeOf (x .lent .session) .common .nst ≡ stateAt (z .node) .c .nst
+    accepted-is =
+        z .at .keeps .accepted
+        ∙ ap (λ (c : Common). c .nst) (fits g (z .node) (z .left) (z .at .stands) .holds .common)
+
+    count-is : Last (z .node) x → isReport (x .reply) ≡ true → x .reply .count ≡ latest zs
+    count-is (inl k) i =
+        let e = reply-of n (z .node) x k in
+        ap (λ (y : Reply). y .count) e ∙ count-at g n (z .node) (k .question) zs (z .here) (ap isReport (sym e) ∙ i)
+    count-is (inr (inl e)) i = absurd (true≢false (sym (rw e at i)))
+    count-is (inr (inr e)) i = absurd (true≢false (sym (rw e at i)))
+
+    first-is : Last (z .node) x → x .reply .number ≡ 102 → x .reply .count ≡ 0
+    first-is (inl k) i =
+        ap (λ (y : Reply). y .count) (k .answer)
+        ∙ first-count (k .asked) (ap (λ (y : Reply). y .number) (sym (k .answer)) ∙ i)
+    first-is (inr (inl e)) i = absurd (omega arith)
+    first-is (inr (inr e)) i = absurd (omega arith)
+
+    returned-is : Last (z .node) x → 110 ≤ x .reply .number
+        → x .reply .accepted ≡ decodeOf (x .lent .session) .common .nst
+    returned-is (inl k) h =
+        let e = reply-of n (z .node) x k in
+        ap (λ (y : Reply). y .accepted) e ∙ returned-at g n (z .node) (k .question) (rw e at h) ∙ sym accepted-is
+    returned-is (inr (inl e)) h = absurd (omega arith)
+    returned-is (inr (inr e)) h = absurd (omega arith)
+
+    capped-at : CappedAt x zs
+    capped-at = record {
+      capped = kept .capped;
+      count = count-is (z .last);
+      first = first-is (z .last);
+      accepted = rw accepted-is (kept .accepted);
+      returned = returned-is (z .last);
+    }
+
+pub calls-capped : (p : Problem) (b : Buffers) → Begins p b → CallsCapped p b
+calls-capped p b begins rs f =
+    let g = given p b begins in
+    let a = from p b begins in
+    let run = begun-run p b begins in
+    let k = begun-spoken p b begins in
+    capped-at g a run _ _
+    (stands-all g a run rs f (treeOf p b) (startedAt g a) (startOf p b) _ (begun-at p b begins) (inl k)
+    (arrives (Demand3At g) (g .s .n) (treeOf p b) (startOf p b) [] k (demand-3-tree g a (run .ok .settings))))

@@ -1,0 +1,165 @@
+-- A host of one state through the calls does what it does to the machine, as long as each of its replies is asked for.
+--     allowed         each reply is asked for, and `continues` comes at a report
+--     Host, hosts     where the calls stand, and after a list of acts
+-- Assumes nothing.
+use mathlib.Core.Bool.{Bool, true, false, _&&_, true≢false}
+use mathlib.Core.List.{List, [], _∷_, _++_}
+use mathlib.Core.Path.{_≡_, refl, sym, ap, _∙_}
+use Prim.Native.Nat.{ℕ, _+_, _*_, _≤_}
+use native.Mathlib.Omega.{arith}
+use lib.Ieee.{Float}
+use lib.ListN.{length, take, drop, length-append}
+use lib.Seq.{take-at, length-take-le}
+use Rattle.loops.specs.Part.{part, putPart, length-part}
+use Rattle.numbers.specs.Float.{zeroF}
+use Rattle.common.specs.declared.Common.{Common}
+use Rattle.common.specs.Layout.{y}
+use Rattle.machine.specs.declared.Answer.the-variants.{Continue}
+use Rattle.machine.specs.declared.Phase.{Phase}
+use Rattle.machine.specs.declared.Question.{Question}
+use Rattle.machine.specs.declared.Question.the-variants as Question
+use Rattle.machine.specs.Turns.{Left}
+use Rattle.session.specs.Fields.{Fit}
+use Rattle.session.proofs.Within.{both}
+use Rattle.rules.specs.Play.{Given, Play}
+use Rattle.rules.specs.Rules.{Start}
+use Rattle.follows.specs.Seen.{Shown, snapshotOf, shownAs, isTaken, next, step}
+use Rattle.follows.specs.Stands.{derivative, answer}
+use Rattle.follows.specs.Follows.{stateAt}
+use Rattle.follows.specs.Sums.{Act, gives, continues, acted, hosted}
+use Rattle.raimsklo.specs.declared.answers.Reply.{Reply}
+use Rattle.raimsklo.specs.Answers.{answerOf}
+use Rattle.raimsklo.specs.Calls.{Called, isKind, kindOf}
+use Rattle.fits.proofs.Floats.{literal}
+use Rattle.calls.specs.Run.{ReplyCall, answered}
+use Rattle.calls.specs.Follow.{Said, saidBy, saidOf, saidAt, fedAs, isSized}
+use Rattle.calls.specs.Sums.{replyWith, actedBy, hostedBy}
+use Rattle.calls.proofs.Turns.{Agrees}
+use Rattle.calls.proofs.Said.{fits}
+use Rattle.calls.proofs.Keeps.{Runs}
+use Rattle.calls.proofs.Walk.{At, Outcome, unsized, refused, taken, call}
+
+-- ---- the acts
+
+abbrev pub isReported : Question → Bool
+isReported (Question.Derivative a) = false
+isReported (Question.Jacobian a) = false
+isReported (Question.FirstReport a) = true
+isReported (Question.Report r) = true
+isReported (Question.Finished e) = false
+isReported (Question.StepRefused h) = false
+isReported (Question.WeightRefused i) = false
+isReported Question.Unasked = false
+
+abbrev pub isFine : Given → Left → Act → Bool
+isFine g l (gives f) = isTaken g l (derivative (f ∷ []) zeroF)
+isFine g l continues =
+    isReported (l .turn .question) && isTaken g l (answer Continue (y (g .s .n) (l .work)) (l .turn .common .tn))
+
+unfoldable pub allowed : Given → Left → List Act → Bool
+allowed g l [] = true
+allowed g l (a ∷ acts) = isFine g l a && allowed g (acted g l a) acts
+
+-- ---- what a host reads
+
+put-first : (n k : ℕ) (q v s : List Float) → length v ≡ n → part 0 n (putPart n k (putPart 0 n q v) s) ≡ v
+put-first n k q v s e =
+    let z = putPart 0 n q v in
+    let long : n ≤ length z = omega (arith, e, length-append v (drop n q)) in
+    take-at (take n z) (s ++ drop k (drop n z)) n (length-take-le n z long) ∙ take-at v (drop n q) n e
+
+module _ (n order : ℕ) (c : Common) (work q : List Float) (room : 19 * n ≤ length work) where
+  reads-state : (v : Question) (phase : Phase) → isReported v ≡ true
+      → part 0 n (saidOf n order (shownAs n v phase c work) q .question) ≡ y n work
+  unfolding shownAs
+  reads-state (Question.FirstReport a) phase h =
+      put-first n 0 q (y n work) [] (length-part (17 * n) n work (omega arith))
+  reads-state (Question.Report r) phase h =
+      let s = snapshotOf n (r .order) c work in
+      put-first n (length s) q (y n work) s (length-part (17 * n) n work (omega arith))
+  reads-state (Question.Derivative a) phase h = absurd (true≢false (sym h))
+  reads-state (Question.Jacobian a) phase h = absurd (true≢false (sym h))
+  reads-state (Question.Finished e) phase h = absurd (true≢false (sym h))
+  reads-state (Question.StepRefused v) phase h = absurd (true≢false (sym h))
+  reads-state (Question.WeightRefused i) phase h = absurd (true≢false (sym h))
+  reads-state Question.Unasked phase h = absurd (true≢false (sym h))
+
+reads-time : (v : Question) (phase : Phase) (c : Common) → isReported v ≡ true → Agrees v phase c
+    → answerOf v .time ≡ c .tn
+reads-time (Question.FirstReport a) phase c h g = g .1
+reads-time (Question.Report r) phase c h g = g .2
+reads-time (Question.Derivative a) phase c h g = absurd (true≢false (sym h))
+reads-time (Question.Jacobian a) phase c h g = absurd (true≢false (sym h))
+reads-time (Question.Finished e) phase c h g = absurd (true≢false (sym h))
+reads-time (Question.StepRefused v) phase c h g = absurd (true≢false (sym h))
+reads-time (Question.WeightRefused i) phase c h g = absurd (true≢false (sym h))
+reads-time Question.Unasked phase c h g = absurd (true≢false (sym h))
+
+-- ---- along the acts
+
+module _ (g : Given) (a : Start) (run : Runs g a) (one : g .s .n ≡ 1) where
+  pub record Host (l : Left) (x : Called) : Type 0 where
+    pub node : Play
+    pub at : At g a run node l x
+    pub question : List Float
+    pub said : saidBy x ≡ saidAt (g .s .n) node question
+    pub answer : x .reply ≡ answerOf (l .turn .question)
+    pub agrees : Agrees (l .turn .question) (l .turn .phase) (l .turn .common)
+
+  -- what was said is what the machine shows
+  pub said-shown : (l : Left) (x : Called) (h : Host l x)
+      → saidBy x ≡ saidOf (g .s .n) (stateAt (h .node) .c .nq)
+      (shownAs (g .s .n) (l .turn .question) (l .turn .phase) (l .turn .common) (l .work)) (h .question)
+  said-shown l x h =
+      h .said
+      ∙ ap (λ (v : Shown). saidOf (g .s .n) (stateAt (h .node) .c .nq) v (h .question))
+      (sym (fits g (h .node) l (h .at .stands) .shows))
+
+  sized : (kind : ℕ) (numbers : List Float) (time : Float) → isSized (g .s .n) (replyWith kind numbers time) ≡ true
+  sized kind numbers time = rw one refl
+
+  goes-by : (l : Left) (x : Called) (r : ReplyCall) (h : Host l x) → isSized (g .s .n) r ≡ true
+      → isKind (r .kind) ≡ true → isTaken g l (fedAs r) ≡ true → Outcome g a run (h .node) l x r
+      → Host (next g l (fedAs r)) (answered x r)
+  goes-by l x r h s k t (unsized e q) = absurd (true≢false (sym s ∙ e))
+  goes-by l x r h s k t (refused e f q) =
+      let i = fits g (h .node) l (h .at .stands) .holds .takes (fedAs r) in
+      absurd (true≢false (sym (rw k (sym i ∙ t)) ∙ f))
+  goes-by l x r h s k t (taken e f on q w m) = record {
+    node = step (h .node) (fedAs r);
+    at = on;
+    question = r .question;
+    said = m;
+    answer = q;
+    agrees = w .agrees;
+  }
+
+  goes : (l : Left) (x : Called) (r : ReplyCall) → Fit (r .time) → Host l x → isSized (g .s .n) r ≡ true
+      → isKind (r .kind) ≡ true → isTaken g l (fedAs r) ≡ true → Host (next g l (fedAs r)) (answered x r)
+  goes l x r f h s k t = goes-by l x r h s k t (call g a run (h .node) l x r f (h .at))
+
+  acts : (l : Left) (x : Called) (v : Act) → Host l x → isFine g l v ≡ true → Host (acted g l v) (actedBy x v)
+  unfolding kindOf
+  acts l x (gives f) h e =
+      goes l x (replyWith 1 (f ∷ []) zeroF) (literal 0) h (sized 1 (f ∷ []) zeroF) refl e
+  acts l x continues h e =
+      let w = both (isReported (l .turn .question)) _ e in
+      let v = l .turn .question in
+      let c = l .turn .common in
+      let state = y (g .s .n) (l .work) in
+      let room : 19 * g .s .n ≤ length (l .work) = omega (arith, h .at .keeps .lent .sized) in
+      let first : part 0 (g .s .n) (x .lent .question) ≡ state =
+      ap (λ (z : Said). part 0 (g .s .n) (z .question)) (said-shown l x h)
+      ∙ reads-state (g .s .n) (stateAt (h .node) .c .nq) c (l .work) (h .question) room v (l .turn .phase) (w .0) in
+      let time : x .reply .time ≡ c .tn =
+      ap (λ (z : Reply). z .time) (h .answer) ∙ reads-time v (l .turn .phase) c (w .0) (h .agrees) in
+      rw (ap (λ (k : ℕ). part 0 k (x .lent .question)) (sym one) ∙ first, time)
+      (goes l x (replyWith 3 state (c .tn)) (h .at .keeps .floats .tn) h (sized 3 state (c .tn)) refl (w .1))
+
+  pub hosts : (vs : List Act) (l : Left) (x : Called) → Host l x → allowed g l vs ≡ true
+      → Host (hosted g l vs) (hostedBy x vs)
+  unfolding allowed hosted hostedBy
+  hosts [] l x h e = h
+  hosts (v ∷ vs) l x h e =
+      let w = both (isFine g l v) (allowed g (acted g l v) vs) e in
+      hosts vs (acted g l v) (actedBy x v) (acts l x v h (w .0)) (w .1)

@@ -1,0 +1,154 @@
+-- A session's bytes between two calls of a run: they hold the machine's record, the tolerances and the ranges of 13, so
+-- that the next reply finds the machine as the last left it.
+--     Runs            what an accepted start gives
+--     Keeps           what bytes keep of where the machine stands
+--     keeps-next      what a reply leaves keeps where it leads
+-- Assumes nothing.
+use mathlib.Core.Bool.{true, false, true≢false}
+use mathlib.Core.List.{List}
+use mathlib.Core.Logic.{_⊎_, inl, inr}
+use mathlib.Core.Path.{_≡_, refl, _∙_}
+use Prim.Native.Nat.{ℕ, _+_, _^_, _≤_, _<_}
+use native.Mathlib.Omega.{arith}
+use lib.Dec.{lit<}
+use lib.Ieee.{Float}
+use lib.ListN.{length, getD}
+use Rattle.loops.specs.Part.{part}
+use Rattle.machine.specs.declared.Phase.{Phase}
+use Rattle.machine.specs.declared.Phase.the-variants as Phase
+use Rattle.machine.specs.declared.Session.{Session}
+use Rattle.machine.specs.Ranges.{Lent}
+use Rattle.machine.specs.Requires.{Resumes, UnlessFinished}
+use Rattle.machine.specs.Turns.{Left}
+use Rattle.machine.proofs.Lengths.{resume-lent}
+use Rattle.session.specs.Fields.{Fit, FloatsFit, Fits}
+use Rattle.session.specs.Session.{encodeOf, decodeOf, rtolSlots, atolSlots, storedN, finishedIn, OneOrN}
+use Rattle.session.specs.Session.{tolerancesInRange, inRangeOf}
+use Rattle.session.proofs.Rows.{counts-at}
+use Rattle.session.proofs.Back.{length-encode, encoded-count, finished-encode, decode-encode, rtol-kept, atol-kept}
+use Rattle.session.proofs.Passes.{counts-fit, passes, tolerances-kept}
+use Rattle.rules.specs.Play.{Given}
+use Rattle.rules.specs.Rules.{Start}
+use Rattle.rules.specs.Replies.{Reply as Fed}
+use Rattle.follows.specs.Seen.{sessionOf, withOf, next}
+use Rattle.follows.specs.InRun.{Accepts, InRun}
+use Rattle.fits.proofs.Kept.{floats-kept}
+use Rattle.calls.proofs.Low.{Low}
+use Rattle.calls.proofs.Turns.{isOver}
+
+-- ---- phases
+
+pub over-or-not : (phase : Phase) → (isOver phase ≡ false) ⊎ (phase ≡ Phase.Finished)
+over-or-not Phase.FirstDerivative = inl refl
+over-or-not Phase.FirstReport = inl refl
+over-or-not Phase.FirstModified = inl refl
+over-or-not Phase.Opened = inl refl
+over-or-not Phase.JacobianAsked = inl refl
+over-or-not Phase.DifferenceColumn = inl refl
+over-or-not Phase.FurtherDerivative = inl refl
+over-or-not Phase.Restep = inl refl
+over-or-not Phase.Report = inl refl
+over-or-not Phase.Modified = inl refl
+over-or-not Phase.Finished = inr refl
+
+pub unless : {X : Type 0} (phase : Phase) → isOver phase ≡ false → UnlessFinished phase X → X
+unless Phase.FirstDerivative e x = x
+unless Phase.FirstReport e x = x
+unless Phase.FirstModified e x = x
+unless Phase.Opened e x = x
+unless Phase.JacobianAsked e x = x
+unless Phase.DifferenceColumn e x = x
+unless Phase.FurtherDerivative e x = x
+unless Phase.Restep e x = x
+unless Phase.Report e x = x
+unless Phase.Modified e x = x
+unless Phase.Finished e x = absurd (true≢false e)
+
+-- ---- what is kept
+
+pub record Runs (g : Given) (a : Start) : Type 0 where
+  pub ok : Accepts g a
+  pub nrtol : OneOrN (g .s .n) (g .s .nrtol)
+  pub natol : OneOrN (g .s .n) (g .s .natol)
+
+-- of a run that has not ended
+pub record Found (g : Given) (l : Left) (bytes : List ℕ) : Type 0 where
+  pub decoded : decodeOf bytes ≡ sessionOf g l
+  pub passed : inRangeOf bytes (l .ipiv) ≡ true
+  pub ialth : l .turn .common .ialth ≤ 13
+
+pub record Keeps (g : Given) (l : Left) (bytes : List ℕ) : Type 0 where
+  pub long : length bytes ≡ 1448
+  pub lent : Lent (g .s .n) (l .work) (l .ipiv)
+  pub states : storedN bytes ≡ g .s .n
+  pub finished : finishedIn bytes ≡ isOver (l .turn .phase)
+  pub rtol : part 0 (g .s .nrtol) (rtolSlots bytes) ≡ g .rtol
+  pub atol : part 0 (g .s .natol) (atolSlots bytes) ≡ g .atol
+  pub signs : tolerancesInRange bytes (g .s) ≡ true
+  pub floats : FloatsFit (sessionOf g l)
+  pub accepted : decodeOf bytes .common .nst ≡ l .turn .common .nst
+  pub found : isOver (l .turn .phase) ≡ false → Found g l bytes
+
+-- ---- an encoding
+
+low-ialth : (nq ialth : ℕ) → nq ≤ 12 → (ialth ≤ 13) ⊎ (ialth ≤ nq + 1) → ialth ≤ 13
+low-ialth nq ialth h (inl p) = p
+low-ialth nq ialth h (inr p) = omega arith
+
+pub pivots-below : {n : ℕ} {work : List Float} {ipiv : List ℕ} → Lent n work ipiv
+    → (k : ℕ) → k < length ipiv → getD ipiv k 0 < n
+pivots-below p k h = p .below k (omega (arith, p .pivots))
+
+pub stored-accepted : (x : Session) (b : List ℕ) → 1448 ≤ length b → x .common .nst < 2 ^ 64
+    → decodeOf (encodeOf x b) .common .nst ≡ x .common .nst
+unfolding decodeOf
+stored-accepted x b room h = counts-at (encodeOf x b) 20 (lit< tt) ∙ encoded-count x b room 20 (lit< tt) h
+
+module _ (g : Given) (a : Start) (run : Runs g a) where
+  pub found-after : (l : Left) (bytes : List ℕ) → 1448 ≤ length bytes → FloatsFit (sessionOf g l)
+      → tolerancesInRange bytes (g .s) ≡ true → Low 0 (l .turn .common)
+      → Resumes (sessionOf g l) (g .rtol) (g .atol) (l .work) (l .ipiv)
+      → Found g l (encodeOf (sessionOf g l) bytes)
+  found-after l bytes room floats signs low r =
+      let x = sessionOf g l in
+      let c = l .turn .common in
+      let h = low-ialth (c .nq) (c .ialth) (r .ranges .orders .nq .1) low in
+      let fits : Fits x = record {
+        counts = counts-fit x (r .ranges) (run .nrtol) (run .natol) (omega (arith, h));
+        floats = floats;
+      } in
+      record {
+        decoded = decode-encode x bytes room fits;
+        passed = passes x bytes room fits (r .ranges) (run .nrtol) (run .natol) signs (l .ipiv)
+            (pivots-below (r .lent));
+        ialth = h;
+      }
+
+  -- ---- after a reply
+
+  module _ (l : Left) (bytes : List ℕ) (k : Keeps g l bytes) (r : Fed) (time : Fit (r .time))
+      (low : Low 0 (next g l r .turn .common)) (inRun : InRun g (next g l r))
+      (few : next g l r .turn .common .nst < 2 ^ 64) where
+    abbrev after : Left
+    after = next g l r
+
+    abbrev written : List ℕ
+    written = encodeOf (sessionOf g after) bytes
+
+    pub keeps-next : Keeps g after written
+    keeps-next =
+        let room : 1448 ≤ length bytes = omega (arith, k .long) in
+        let x = sessionOf g after in
+        let floats = floats-kept (sessionOf g l) (r .kind) (r .numbers) (r .time) (withOf g l) (k .floats) time in
+        record {
+          long = length-encode x bytes ∙ k .long;
+          lent = resume-lent (sessionOf g l) (r .numbers) (r .time) (withOf g l) (k .lent) (r .kind);
+          states = encoded-count x bytes room 1 (lit< tt) (omega (arith, run .ok .settings .n .1));
+          finished = finished-encode x bytes room;
+          rtol = rw (rtol-kept x bytes room) (k .rtol);
+          atol = rw (atol-kept x bytes room) (k .atol);
+          signs = tolerances-kept x bytes room (g .s) (k .signs);
+          floats = floats;
+          accepted = stored-accepted x bytes room few;
+          found = λ e. found-after after bytes room floats (k .signs) low (unless (after .turn .phase) e inRun);
+        }

@@ -1,0 +1,15 @@
+pub mod Low
+pub mod Turns
+pub mod Said
+pub mod Keeps
+pub mod Answers
+pub mod Numbers
+pub mod Start
+pub mod Walk
+pub mod Follow
+pub mod Refused
+pub mod Spoken
+pub mod Ends
+pub mod Capped
+pub mod Host
+pub mod Sums

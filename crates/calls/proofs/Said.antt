@@ -1,0 +1,130 @@
+-- What a call that was taken says is what the machine shows, said by a call (`saidOf`), and with that what the tree
+-- says at the node where the machine stands.
+--     says-shown, says-node
+-- Assumes nothing.
+use mathlib.Core.Bool.{false}
+use mathlib.Core.List.{List, [], _++_, append-assoc}
+use mathlib.Core.Path.{_≡_, refl, sym, ap, _∙_}
+use Prim.Native.Nat.{ℕ, _+_, _*_, _≤_}
+use native.Mathlib.Omega.{arith}
+use native.Mathlib.Nat.{mul-le-mul-right, add-assoc}
+use lib.Ieee.{Float}
+use lib.ListN.{length, take, drop, take-append-drop}
+use lib.Seq.{length-take-le, drop-drop}
+use Rattle.loops.specs.Part.{putPart, length-part, length-putPart}
+use Rattle.common.specs.declared.Settings.{Settings}
+use Rattle.common.specs.declared.Common.{Common}
+use Rattle.common.specs.Layout.{y}
+use Rattle.interpolation.specs.Snapshot.{snapshotOf}
+use Rattle.interpolation.proofs.Roundtrip.{header, size, snapshot-is}
+use Rattle.machine.specs.declared.Phase.{Phase}
+use Rattle.machine.specs.declared.Phase.the-variants as Phase
+use Rattle.machine.specs.declared.Question.{Question}
+use Rattle.machine.specs.declared.Question.the-variants as Question
+use Rattle.machine.specs.Turns.{Left}
+use Rattle.rules.specs.Play.{Given, Play, ret, ask, tell, say, derivativeAt, jacobianAt}
+use Rattle.rules.specs.Play.{finished, stepRefused, weightRefused, exhausted}
+use Rattle.follows.specs.Seen.{shownAs}
+use Rattle.follows.specs.Seen as Seen
+use Rattle.follows.specs.Stands.{Fits, Stands}
+use Rattle.follows.specs.Follows.{stateAt}
+use Rattle.raimsklo.specs.Answers.{answerOf}
+use Rattle.raimsklo.specs.Calls.{withY, questionOf}
+use Rattle.calls.specs.Follow.{says, saidOf, saidAt}
+use Rattle.calls.proofs.Turns.{isOver, Agrees, Well}
+
+-- ---- the question slice
+
+-- an empty snapshot changes nothing
+put-none : (n : ℕ) (q : List Float) → putPart n 0 q [] ≡ q
+put-none n q = take-append-drop n q
+
+module _ (s : Settings) (c : Common) (work q : List Float) (order : c .nq ≤ 12) (history : 19 * s .n ≤ length work)
+    (room : length q ≡ 14 * s .n + 6) where
+  abbrev shot : List Float
+  shot = Seen.snapshotOf (s .n) (c .nq) c work
+
+  length-shot : length shot ≡ 6 + size s c
+  length-shot =
+      let k : c .nq + 1 ≤ 13 = omega arith in
+      let h = mul-le-mul-right (s .n) k in
+      omega (arith, length-take-le (size s c) work (omega (arith, h)))
+
+  -- the snapshot that the code writes is the tree's
+  snapshot-put : snapshotOf s c work q ≡ putPart (s .n) (length shot) q shot
+  snapshot-put =
+      let n = s .n in
+      let rest = drop (n + 6 + size s c) q in
+      let tail : drop (length shot) (drop n q) ≡ rest =
+      drop-drop (length shot) n q
+      ∙ ap (λ (k : ℕ). drop k q) (ap (λ (k : ℕ). n + k) length-shot ∙ sym (add-assoc n 6 (size s c)))
+      in
+      snapshot-is s c work q order (omega arith) (omega arith)
+      ∙ append-assoc (take n q ++ header s c) (take (size s c) work) rest
+      ∙ append-assoc (take n q) (header s c) (take (size s c) work ++ rest)
+      ∙ ap (λ (l : List Float). take n q ++ (shot ++ l)) (sym tail)
+
+-- ---- what the machine shows
+
+module _ (s : Settings) (c : Common) (work q : List Float) (history : 19 * s .n ≤ length work)
+    (room : length q ≡ 14 * s .n + 6) where
+  length-withY : length (withY s work q) ≡ 14 * s .n + 6
+  length-withY =
+      length-putPart 0 (s .n) q (omega arith) (y (s .n) work) (length-part (17 * s .n) (s .n) work (omega arith)) ∙ room
+
+  abbrev Says : Question → Phase → Type 0
+  Says v phase =
+      says (answerOf v) (questionOf s phase c work q) ≡ saidOf (s .n) (c .nq) (shownAs (s .n) v phase c work) q
+
+  says-question : (v : Question) (phase : Phase) → Agrees v phase c → (isOver phase ≡ false → c .nq ≤ 12)
+      → Says v phase
+  unfolding questionOf shownAs
+  says-question (Question.Derivative a) Phase.FirstDerivative g o = refl
+  says-question (Question.Derivative a) Phase.FirstReport g o = absurd g
+  says-question (Question.Derivative a) Phase.FirstModified g o = refl
+  says-question (Question.Derivative a) Phase.Opened g o = refl
+  says-question (Question.Derivative a) Phase.JacobianAsked g o = absurd g
+  says-question (Question.Derivative a) Phase.DifferenceColumn g o = refl
+  says-question (Question.Derivative a) Phase.FurtherDerivative g o = refl
+  says-question (Question.Derivative a) Phase.Restep g o = refl
+  says-question (Question.Derivative a) Phase.Report g o = absurd g
+  says-question (Question.Derivative a) Phase.Modified g o = refl
+  says-question (Question.Derivative a) Phase.Finished g o = absurd g
+  says-question (Question.Jacobian a) phase g o = rw g
+  says-question (Question.FirstReport a) phase g o =
+      rw (g .0) (ap (says (answerOf (Question.FirstReport a))) (sym (put-none (s .n) (withY s work q))))
+  says-question (Question.Report r) phase g o =
+      rw (g .0, g .1, snapshot-put s c work (withY s work q) (o (rw (g .0))) history length-withY)
+  says-question (Question.Finished e) phase g o = rw g
+  says-question (Question.StepRefused h) phase g o = rw g
+  says-question (Question.WeightRefused i) phase g o = rw g
+  says-question Question.Unasked phase g o = absurd g
+
+-- ---- what the tree says
+
+module _ (g : Given) where
+  pub fits : (t : Play) (l : Left) → Stands g t l → Fits g t (stateAt t) l
+  fits (ret (finished status x)) l s = s
+  fits (ret (stepRefused h x)) l s = s
+  fits (ret (weightRefused i x)) l s = s
+  fits (ret (exhausted x)) l s = absurd s
+  fits (ask (derivativeAt t v) x k) l s = s .0
+  fits (ask (jacobianAt t v) x k) l s = s .0
+  fits (tell r x k) l s = s .0
+  fits (say e p) l s =
+      let f = fits p l s in
+      let h = f .holds in
+      record {
+        shows = f .shows;
+        holds = record { common = h .common; work = h .work; ipiv = h .ipiv; takes = h .takes };
+      }
+
+  pub says-node : (t : Play) (l : Left) (q : List Float) → Stands g t l → Well 0 (l .turn)
+      → (isOver (l .turn .phase) ≡ false → l .turn .common .nq ≤ 12) → 19 * g .s .n ≤ length (l .work)
+      → length q ≡ 14 * g .s .n + 6
+      → says (answerOf (l .turn .question)) (questionOf (g .s) (l .turn .phase) (l .turn .common) (l .work) q)
+      ≡ saidAt (g .s .n) t q
+  says-node t l q s w o history room =
+      let f = fits t l s in
+      says-question (g .s) (l .turn .common) (l .work) q history room (l .turn .question) (l .turn .phase) (w .agrees) o
+      ∙ rw (f .shows, f .holds .common)

@@ -1,0 +1,233 @@
+-- One call of a run: it is refused with all as it was, or it says what the tree says at the node that follows, and the
+-- run stands there.
+--     At              where a run stands after a call: at a node of the tree, with the session of the machine there
+--     Outcome, call   one reply
+--     begun-at        the start
+-- Assumes nothing.
+use mathlib.Core.Bool.{Bool, true, false, _&&_, true≢false}
+use mathlib.Core.List.{List, [], _∷_, _++_}
+use mathlib.Core.Logic.{_⊎_, inl, inr}
+use mathlib.Core.Path.{_≡_, refl, sym, ap, _∙_}
+use Prim.Native.Nat.{ℕ, _+_, _*_, _^_, _≤_, _<_}
+use native.Mathlib.Omega.{arith}
+use lib.Ieee.{Float}
+use lib.ListN.{length, take, drop, replicate, length-replicate}
+use lib.Seq.{take-at, drop-at, length-take-le}
+use borrow.Author.Tests.{eqb-true}
+use Rattle.loops.specs.Part.{part, putPart}
+use Rattle.numbers.specs.Float.{zeroF}
+use Rattle.machine.specs.declared.Kind.{Kind}
+use Rattle.machine.specs.declared.Phase.{Phase}
+use Rattle.machine.specs.declared.Phase.the-variants as Phase
+use Rattle.machine.specs.Reports.{initialOf}
+use Rattle.machine.specs.Turns.{Left}
+use Rattle.machine.specs.Resume.{isAsked}
+use Rattle.refusals.specs.Start.{settingsOf}
+use Rattle.session.specs.Fields.{Fit}
+use Rattle.session.specs.Session.{encodeOf}
+use Rattle.session.proofs.Within.{both}
+use Rattle.rules.specs.Play.{Given, Play, ret, ask, tell, say}
+use Rattle.rules.specs.Rules.{Start, beginning, start}
+use Rattle.rules.specs.Steps.{Step}
+use Rattle.rules.specs.Replies.{Reply as Fed, fed}
+use Rattle.rules.specs.Counts.{Counted, CountedAt}
+use Rattle.rules.proofs.Demands.{counts-kept}
+use Rattle.follows.specs.Seen.{sessionOf, withOf, next, after, isTaken, asks, step}
+use Rattle.follows.specs.Stands.{Stands, startedAt}
+use Rattle.follows.specs.Follows.{stateAt}
+use Rattle.follows.specs.InRun.{InRun}
+use Rattle.follows.proofs.Follows.{replies, follows}
+use Rattle.follows.proofs.Kept.{session-kept}
+use Rattle.raimsklo.specs.Answers.{plainOf, answerOf}
+use Rattle.raimsklo.specs.Calls.{Buffers, Called, Problem, isKind, kindOf, questionOf, startOf, replyOf}
+use Rattle.calls.specs.Run.{Begins, ReplyCall, lentFor, answered}
+use Rattle.calls.specs.Follow.{treeOf, saidBy, saidAt, fedAs, isAnswer, isSized}
+use Rattle.calls.proofs.Turns.{isOver, Well, resume-well}
+use Rattle.calls.proofs.Said.{fits, says-node}
+use Rattle.calls.proofs.Keeps.{over-or-not, unless, Runs, Keeps, keeps-next}
+use Rattle.calls.proofs.Answers.{lentOf, reply-sizes, reply-refused, reply-taken}
+use Rattle.calls.proofs.Start.{given, from, begun-run, begun-is, begun-keeps}
+
+-- a phase that takes a reply is not the last
+pub not-over : (phase : Phase) (kind : Kind) (len n : ℕ) → isAsked phase kind len n ≡ true → isOver phase ≡ false
+not-over phase kind len n h = by (over-or-not phase)
+  where
+    by : (isOver phase ≡ false) ⊎ (phase ≡ Phase.Finished) → isOver phase ≡ false
+    by (inl e) = e
+    by (inr e) = absurd (true≢false (sym (rw e at h)))
+
+module _ (g : Given) (a : Start) (run : Runs g a) where
+  abbrev l₀ : Left
+  l₀ = startedAt g a
+
+  abbrev Reached : Left → Type 0
+  Reached l = (rs : List Fed) × (l ≡ after g l₀ rs)
+
+  after-one : (l : Left) (rs : List Fed) (r : Fed) → after g l (rs ++ (r ∷ [])) ≡ next g (after g l rs) r
+  unfolding after
+  after-one l [] r = refl
+  after-one l (q ∷ rs) r = after-one (next g l q) rs r
+
+  reached-next : (l : Left) (r : Fed) → Reached l → Reached (next g l r)
+  reached-next l r h = (h .0 ++ (r ∷ []), ap (λ (m : Left). next g m r) (h .1) ∙ sym (after-one l₀ (h .0) r))
+
+  in-run : (l : Left) → Reached l → InRun g l
+  in-run l h = rw (h .1) (session-kept g a (run .ok) (h .0))
+
+  few : (l : Left) → Reached l → l .turn .common .nst < 2 ^ 64
+  few l h =
+      let z = fed (g .s .n) (start g a) [] (h .0) in
+      let k = counted (z .play) (z .steps) (counts-kept g a (run .ok .settings) (h .0)) in
+      let e = follows g a (run .ok .settings) .held (h .0) .common in
+      rw (h .1, e) (omega (arith, k .steps, run .ok .settings .maxsteps .1))
+    where
+      counted : (p : Play) (xs : List Step) → CountedAt g p xs → Counted (g .s) (stateAt p .c)
+      counted (ret e) xs h = h
+      counted (ask q x k) xs h = h
+      counted (tell r x k) xs h = h
+      counted (say e p) xs h = absurd h
+
+  pub record At (t : Play) (l : Left) (x : Called) : Type 0 where
+    pub stands : Stands g t l
+    pub reached : Reached l
+    pub work : x .lent .work ≡ l .work
+    pub pivots : x .lent .pivots ≡ l .ipiv
+    pub keeps : Keeps g l (x .lent .session)
+
+  -- ---- a reply
+
+  abbrev pub leaves : Called → ReplyCall → ℕ → Called
+  leaves x r number = record { reply = plainOf number 0 zeroF zeroF; lent = lentFor x r }
+
+  pub data Outcome (t : Play) (l : Left) (x : Called) (r : ReplyCall) : Type 0 where
+    unsized : isSized (g .s .n) r ≡ false → answered x r ≡ leaves x r 3 → Outcome t l x r
+    refused : isSized (g .s .n) r ≡ true → isAnswer (g .s .n) t r ≡ false → answered x r ≡ leaves x r 14
+        → Outcome t l x r
+    taken : isSized (g .s .n) r ≡ true → isAnswer (g .s .n) t r ≡ true
+        → At (step t (fedAs r)) (next g l (fedAs r)) (answered x r)
+        → answered x r .reply ≡ answerOf (next g l (fedAs r) .turn .question)
+        → Well 0 (next g l (fedAs r) .turn)
+        → saidBy (answered x r) ≡ saidAt (g .s .n) (step t (fedAs r)) (r .question) → Outcome t l x r
+
+  module _ (t : Play) (l : Left) (x : Called) (r : ReplyCall) (time : Fit (r .time)) (at : At t l x) where
+    -- what is lent
+    lent-is : lentFor x r ≡ lentOf l (x .lent .session) (r .question)
+    lent-is = rw (at .work, at .pivots)
+
+    abbrev found : Called
+    found = replyOf (r .kind) (r .numbers) (r .time) (lentOf l (x .lent .session) (r .question))
+
+    answered-is : answered x r ≡ found
+    answered-is = rw (at .work, at .pivots)
+
+    takes : isTaken g l (fedAs r) ≡ asks (g .s .n) t (fedAs r)
+    takes = fits g t l (at .stands) .holds .takes (fedAs r)
+
+    module _ (sized : isSized (g .s .n) r ≡ true) (known : isKind (r .kind) ≡ true)
+        (asked : asks (g .s .n) t (fedAs r) ≡ true) where
+      abbrev m : Left
+      m = next g l (fedAs r)
+
+      abbrev is-taken : isTaken g l (fedAs r) ≡ true
+      is-taken = takes ∙ asked
+
+      running : isOver (l .turn .phase) ≡ false
+      running = not-over (l .turn .phase) (kindOf (r .kind)) (length (r .numbers)) (g .s .n) is-taken
+
+      well : Well 0 (m .turn)
+      well =
+          resume-well 0 (sessionOf g l) (r .numbers) (r .time) (withOf g l) (at .keeps .found running .ialth)
+          (kindOf (r .kind)) is-taken
+
+      stands : Stands g (step t (fedAs r)) m
+      stands = replies g t l (fedAs r) (at .stands) asked
+
+      reached : Reached m
+      reached = reached-next l (fedAs r) (at .reached)
+
+      keeps : Keeps g m (encodeOf (sessionOf g m) (x .lent .session))
+      keeps =
+          keeps-next g a run l (x .lent .session) (at .keeps) (fedAs r) time (well .low) (in-run m reached)
+          (few m reached)
+
+      abbrev put : List Float
+      put = questionOf (g .s) (m .turn .phase) (m .turn .common) (m .work) (r .question)
+
+      answered-taken : answered x r ≡ record {
+        reply = answerOf (m .turn .question);
+        lent = lentOf m (encodeOf (sessionOf g m) (x .lent .session)) put;
+      }
+      answered-taken = answered-is ∙ reply-taken g a run l (x .lent .session) (at .keeps) r sized running known well
+
+      says-it : saidBy (answered x r) ≡ saidAt (g .s .n) (step t (fedAs r)) (r .question)
+      says-it =
+          ap (λ (y : Called). saidBy y) answered-taken
+          ∙ says-node g (step t (fedAs r)) m (r .question) stands well
+          (λ e. unless (m .turn .phase) e (in-run m reached) .ranges .orders .nq .1)
+          (omega (arith, keeps .lent .sized)) (eqb-true (length (r .question)) (14 * g .s .n + 6) sized)
+
+      at-next : At (step t (fedAs r)) m (answered x r)
+      at-next =
+          rw answered-taken
+          (record { stands = stands; reached = reached; work = refl; pivots = refl; keeps = keeps })
+
+    call-at : (b c : Bool) → isSized (g .s .n) r ≡ b → isAnswer (g .s .n) t r ≡ c → Outcome t l x r
+    call-at false c s e =
+        unsized s (answered-is ∙ reply-sizes g a run l (x .lent .session) (at .keeps) r s ∙ rw lent-is)
+    call-at true false s e =
+        let off : isKind (r .kind) && isTaken g l (fedAs r) ≡ false = rw takes e in
+        refused s e (answered-is ∙ reply-refused g a run l (x .lent .session) (at .keeps) r s off ∙ rw lent-is)
+    call-at true true s e =
+        let h = both (isKind (r .kind)) (asks (g .s .n) t (fedAs r)) e in
+        taken s e (at-next s (h .0) (h .1)) (ap (λ (y : Called). y .reply) (answered-taken s (h .0) (h .1)))
+        (well s (h .0) (h .1)) (says-it s (h .0) (h .1))
+
+    pub call : Outcome t l x r
+    call = call-at (isSized (g .s .n) r) (isAnswer (g .s .n) t r) refl refl
+
+  -- ---- a refused reply leaves the run where it stands
+
+  pub at-leaves : {t : Play} {l : Left} {x : Called} (r : ReplyCall) (number : ℕ) → At t l x
+      → At t l (leaves x r number)
+  at-leaves r number at = record {
+    stands = at .stands;
+    reached = at .reached;
+    work = at .work;
+    pivots = at .pivots;
+    keeps = at .keeps;
+  }
+
+-- ---- the start
+
+part-put : (at n : ℕ) (l s : List Float) → at ≤ length l → length s ≡ n → part at n (putPart at n l s) ≡ s
+part-put at n l s h e =
+    let rest = drop n (drop at l) in
+    ap (take n) (drop-at (take at l) (s ++ rest) at (length-take-le at l h)) ∙ take-at s rest n e
+
+module _ (p : Problem) (b : Buffers) (begins : Begins p b) where
+  abbrev g : Given
+  g = given p b begins
+
+  abbrev a : Start
+  a = from p b begins
+
+  pub begun-at : At g a (begun-run p b begins) (treeOf p b) (startedAt g a) (startOf p b)
+  unfolding after
+  begun-at =
+      rw (begun-is p b begins)
+      (record {
+        stands = follows g a (begun-run p b begins .ok .settings) .stands;
+        reached = ([], refl);
+        work = refl;
+        pivots = refl;
+        keeps = begun-keeps p b begins;
+      })
+
+  pub begun-says : saidBy (startOf p b) ≡ saidAt (g .s .n) (treeOf p b) (b .question)
+  unfolding start beginning initialOf settingsOf
+  begun-says =
+      let n = length (p .y0) in
+      let zeros = replicate (n * n + 19 * n) zeroF in
+      let long : length zeros ≡ n * n + 19 * n = length-replicate _ _ in
+      let e = part-put (17 * n) n zeros (p .y0) (omega arith) refl in
+      ap (λ (y : Called). saidBy y) (begun-is p b begins) ∙ rw e

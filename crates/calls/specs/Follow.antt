@@ -1,0 +1,152 @@
+-- Demand 2 for the calls: what the calls of a run answer and leave in the question is what the tree of the step rules
+-- says, fed the start's arguments and the replies not refused, bit for bit (`calls-follow` in proofs/Follow.antt).
+-- No call of a run returns 13; a refused reply returns 3 or 14 and changes nothing.
+use mathlib.Core.Bool.{Bool, true, false, cond, not, _&&_}
+use mathlib.Core.List.{List, [], _∷_, map}
+use mathlib.Core.Logic.{_⊎_}
+use mathlib.Core.Path.{_≡_}
+use Prim.Native.Nat.{ℕ, _+_, _*_}
+use lib.Dec.{eqb}
+use lib.ListN.{length}
+use lib.Ieee.{Float}
+use Rattle.loops.specs.Part.{putPart}
+use Rattle.numbers.specs.Float.{zeroF}
+use Rattle.refusals.specs.Start.{settingsOf, firstStepOf}
+use Rattle.session.specs.Fields.{Fit}
+use Rattle.rules.specs.Play.{Given, Report, Play}
+use Rattle.rules.specs.Rules.{start}
+use Rattle.rules.specs.Replies.{Reply as Fed}
+use Rattle.follows.specs.Seen.{Shown, wantsDerivative, wantsJacobian, reports, ends, refusesStep, refusesWeight}
+use Rattle.follows.specs.Seen.{refuses, stuck, shownAt, asks, step, stepIf, keepIf}
+use Rattle.follows.specs.Follows.{stateAt}
+use Rattle.raimsklo.specs.declared.answers.Reply.{Reply}
+use Rattle.raimsklo.specs.Answers.{plainOf, endOf}
+use Rattle.raimsklo.specs.Calls.{Buffers, Called, Problem, lengthsOf, isKind, kindOf, startOf}
+use Rattle.calls.specs.Run.{ReplyCall, TimesFit, lentFor, answered, callsOf, lastOf, isRefusal, takenOf}
+
+-- ---- the tree of a run, from the start's arguments
+
+abbrev pub givenOf : Problem → Buffers → Given
+givenOf p b = record {
+  s = settingsOf (p .x0) (p .xend) (p .options) (lengthsOf p b);
+  rtol = p .rtol;
+  atol = p .atol;
+}
+
+abbrev pub treeOf : Problem → Buffers → Play
+treeOf p b = start (givenOf p b) (record { x0 = p .x0; h = firstStepOf (p .options); y0 = p .y0 })
+
+-- ---- what a call says: the numbers returned, and the question slice
+
+pub record Said : Type 0 where
+  pub reply : Reply
+  pub question : List Float
+
+abbrev pub says : Reply → List Float → Said
+says a q = record { reply = a; question = q }
+
+abbrev pub saidBy : Called → Said
+saidBy x = says (x .reply) (x .lent .question)
+
+-- a step's report has a snapshot, the first has none
+abbrev pub isStep : List Float → Bool
+isStep [] = false
+isStep (v ∷ l) = true
+
+-- 102 the first report, 103 a step's, with the order of its snapshot
+abbrev pub reportedAs : ℕ → Report → Reply
+reportedAs order r = record {
+  number = cond (isStep (r .snapshot)) 103 102;
+  index = 0; value = zeroF; time = r .time; previous = r .previous; count = r .count;
+  order = cond (isStep (r .snapshot)) order 0;
+  h = zeroF; nfe = 0; nje = 0; nlu = 0; total = 0; accepted = 0; rejected = 0;
+}
+
+-- what the tree shows, said by a call that was lent the question q: the state stands first (in a difference column the
+-- perturbed one), a report's snapshot from n on, and the rest is as lent; an end leaves the question
+abbrev pub saidOf : ℕ → ℕ → Shown → List Float → Said
+saidOf n order (wantsDerivative t v) q = says (plainOf 100 0 zeroF t) (putPart 0 n q v)
+saidOf n order (wantsJacobian t v) q = says (plainOf 101 0 zeroF t) (putPart 0 n q v)
+saidOf n order (reports r) q =
+    says (reportedAs order r) (putPart n (length (r .snapshot)) (putPart 0 n q (r .y)) (r .snapshot))
+saidOf n order (ends e) q = says (endOf e) q
+saidOf n order (refusesStep h) q = says (plainOf 11 0 h zeroF) q
+saidOf n order (refusesWeight i) q = says (plainOf 12 i zeroF zeroF) q
+saidOf n order refuses q = says (plainOf 14 0 zeroF zeroF) q
+saidOf n order stuck q = says (plainOf 0 0 zeroF zeroF) q -- never seen
+
+abbrev pub saidAt : ℕ → Play → List Float → Said
+saidAt n t q = saidOf n (stateAt t .c .nq) (shownAt t) q
+
+-- ---- the tree's answers to replies; t is where it stands
+
+abbrev pub fedAs : ReplyCall → Fed
+fedAs r = record { kind = kindOf (r .kind); numbers = r .numbers; time = r .time }
+
+-- of the kind and length asked
+abbrev pub isAnswer : ℕ → Play → ReplyCall → Bool
+isAnswer n t r = isKind (r .kind) && asks n t (fedAs r)
+
+-- with a question slice of 14·n + 6 numbers
+abbrev pub isSized : ℕ → ReplyCall → Bool
+isSized n r = eqb (length (r .question)) (14 * n + 6)
+
+-- 3: question length; 14: a reply of another kind or length than asked, or the run has ended
+abbrev pub saidTo : ℕ → Play → ReplyCall → Said
+saidTo n t r =
+    cond (isSized n r)
+    (cond (isAnswer n t r) (saidAt n (step t (fedAs r)) (r .question)) (says (plainOf 14 0 zeroF zeroF) (r .question)))
+    (says (plainOf 3 0 zeroF zeroF) (r .question))
+
+-- where the tree stands then; a refused reply is passed over
+abbrev pub nextOf : ℕ → Play → ReplyCall → Play
+nextOf n t r = stepIf (isSized n r && isAnswer n t r) t (fedAs r)
+
+-- the answers to any list, refused ones included
+unfoldable pub toldBy : ℕ → Play → List ReplyCall → List Said
+toldBy n t [] = []
+toldBy n t (r ∷ rs) = saidTo n t r ∷ toldBy n (nextOf n t r) rs
+
+-- the tree fed a list
+unfoldable pub fedTo : ℕ → Play → List ReplyCall → List Said
+fedTo n t [] = []
+fedTo n t (r ∷ rs) = saidAt n (step t (fedAs r)) (r .question) ∷ fedTo n (step t (fedAs r)) rs
+
+-- where the tree stands after any list, refused ones included
+unfoldable pub standsAt : ℕ → Play → List ReplyCall → Play
+standsAt n t [] = t
+standsAt n t (r ∷ rs) = standsAt n (nextOf n t r) rs
+
+-- what the calls that were not refused say
+unfoldable pub heardOf : Called → List ReplyCall → List Said
+heardOf x [] = []
+heardOf x (r ∷ rs) =
+    keepIf (not (isRefusal (answered x r .reply))) (saidBy (answered x r)) (heardOf (answered x r) rs)
+
+-- ---- the claim
+
+-- a refused reply: by 3 or 14, with everything that was lent as it was
+pub record Refused (x : Called) (r : ReplyCall) : Type 0 where
+  pub number : (answered x r .reply .number ≡ 3) ⊎ (answered x r .reply .number ≡ 14)
+  pub unchanged : answered x r .lent ≡ lentFor x r
+
+pub record CallsFollow (p : Problem) (b : Buffers) : Type 0 where
+  -- the start
+  pub first : saidBy (startOf p b) ≡ saidAt (length (p .y0)) (treeOf p b) (b .question)
+  -- any replies, refused ones included
+  pub answers : (rs : List ReplyCall) → TimesFit rs
+      → map saidBy (callsOf (startOf p b) rs) ≡ toldBy (length (p .y0)) (treeOf p b) rs
+  -- the replies not refused, fed to the tree
+  pub taken : (rs : List ReplyCall) → TimesFit rs
+      → heardOf (startOf p b) rs ≡ fedTo (length (p .y0)) (treeOf p b) (takenOf (startOf p b) rs)
+  -- work and pivots are the tree's
+  pub work : (rs : List ReplyCall) → TimesFit rs
+      → lastOf (startOf p b) rs .lent .work ≡ stateAt (standsAt (length (p .y0)) (treeOf p b) rs) .w
+  pub pivots : (rs : List ReplyCall) → TimesFit rs
+      → lastOf (startOf p b) rs .lent .pivots ≡ stateAt (standsAt (length (p .y0)) (treeOf p b) rs) .p
+  -- refused ones change nothing
+  pub refused : (rs : List ReplyCall) (r : ReplyCall) → TimesFit rs → Fit (r .time)
+      → isRefusal (answered (lastOf (startOf p b) rs) r .reply) ≡ true → Refused (lastOf (startOf p b) rs) r
+  -- no session of a run is out of range
+  pub never-13 : (rs : List ReplyCall) (r : ReplyCall) → TimesFit rs → Fit (r .time)
+      → answered (lastOf (startOf p b) rs) r .reply .number ≡ 13 → ⊥

@@ -1,0 +1,5 @@
+pub mod Run
+pub mod Follow
+pub mod Refused
+pub mod Demands
+pub mod Sums

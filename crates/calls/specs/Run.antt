@@ -1,0 +1,77 @@
+-- A run as a list of calls (01-scope, 'What the host sees'): one accepted start and any replies, refused ones included,
+-- each given work, pivots and session exactly as the call before left them, and a question slice lent anew.
+-- start and reply are `startOf` and `replyOf` of crate raimsklo, which the contracts of the two functions cite.
+use mathlib.Core.Bool.{Bool, not, _||_}
+use mathlib.Core.List.{List, [], _∷_}
+use mathlib.Core.Path.{_≡_}
+use Prim.Native.Nat.{ℕ, _≤_}
+use lib.Dec.{eqb}
+use lib.ListN.{length}
+use lib.Ieee.{Float}
+use Rattle.session.specs.Fields.{Fit}
+use Rattle.session.specs.Session.{ListFits}
+use Rattle.follows.specs.Seen.{keepIf}
+use Rattle.raimsklo.specs.declared.answers.Reply.{Reply}
+use Rattle.raimsklo.specs.Calls.{Buffers, Called, Problem, startOf, replyOf}
+
+-- ---- the start
+
+-- the floats that a start is given are of the format binary64: every f64 is, so this asks nothing of a host
+pub record FloatsGiven (p : Problem) : Type 0 where
+  pub x0 : Fit (p .x0)
+  pub xend : Fit (p .xend)
+  pub smallest : Fit (p .options .«min_step»)
+  pub first : Fit (p .options .«first_step»)
+  pub rtol : ListFits (p .rtol)
+  pub atol : ListFits (p .atol)
+
+-- accepted: y0 is not empty, and the first derivative is wanted (100)
+pub record Begins (p : Problem) (b : Buffers) : Type 0 where
+  pub some : 1 ≤ length (p .y0)
+  pub wanted : startOf p b .reply .number ≡ 100
+  pub floats : FloatsGiven p
+
+-- ---- the replies
+
+-- kind (1 derivative, 2 Jacobian, 3 continue, 4 interrupt, 5 modified), numbers, time, and the question slice lent
+pub record ReplyCall : Type 0 where
+  pub kind : ℕ
+  pub numbers : List Float
+  pub time : Float
+  pub question : List Float
+
+-- every time is of the format, as every f64 is
+abbrev pub TimesFit : List ReplyCall → Type 0
+TimesFit [] = Unit {0}
+TimesFit (r ∷ rs) = Fit (r .time) × TimesFit rs
+
+-- ---- the calls; x is the call before
+
+abbrev pub lentFor : Called → ReplyCall → Buffers
+lentFor x r = record {
+  work = x .lent .work;
+  pivots = x .lent .pivots;
+  session = x .lent .session;
+  question = r .question;
+}
+
+abbrev pub answered : Called → ReplyCall → Called
+answered x r = replyOf (r .kind) (r .numbers) (r .time) (lentFor x r)
+
+unfoldable pub callsOf : Called → List ReplyCall → List Called
+callsOf x [] = []
+callsOf x (r ∷ rs) = answered x r ∷ callsOf (answered x r) rs
+
+unfoldable pub lastOf : Called → List ReplyCall → Called
+lastOf x [] = x
+lastOf x (r ∷ rs) = lastOf (answered x r) rs
+
+-- ---- without the refused ones
+
+-- a reply is refused by 3, 13 or 14; one answered by an end, by 11 or by 12 was taken
+abbrev pub isRefusal : Reply → Bool
+isRefusal a = eqb (a .number) 3 || (eqb (a .number) 13 || eqb (a .number) 14)
+
+unfoldable pub takenOf : Called → List ReplyCall → List ReplyCall
+takenOf x [] = []
+takenOf x (r ∷ rs) = keepIf (not (isRefusal (answered x r .reply))) r (takenOf (answered x r) rs)

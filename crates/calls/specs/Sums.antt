@@ -1,0 +1,180 @@
+-- The sums worked by hand of 01-scope, (1) to (12), as one table (`sums` in proofs/Sums.antt). (8) to (12) go through
+-- the calls: a start on any slices of the right lengths, and a host that gives derivatives and continues at reports.
+-- What a sum does not name has the Rust's default.
+use mathlib.Core.Bool.{true, false}
+use mathlib.Core.List.{List, [], _∷_}
+use mathlib.Core.Path.{_≡_}
+use Prim.Native.Nat.{ℕ}
+use lib.ListN.{length, replicate}
+use lib.Ieee.{Float, nan}
+use Rattle.loops.specs.Part.{part}
+use Rattle.numbers.specs.Float.{lit, zeroF, oneF, uround, d0·5, d2, d5, d100}
+use Rattle.root.specs.Root.{rootOf}
+use Rattle.coefficients.specs.Table.{elcoOf, tescoOf}
+use Rattle.vectors.specs.Norm.{vmnormOf}
+use Rattle.dense.specs.Factor.{factorOf}
+use Rattle.dense.specs.Solve.{solveOf}
+use Rattle.interpolation.specs.Evaluate.{left, interpolateOf}
+use Rattle.common.specs.Layout.{column}
+use Rattle.refusals.specs.declared.Options.{Options}
+use Rattle.follows.specs.Sums.{problem8, problem10, problem11, problem12, Act, gives, continues}
+use Rattle.follows.specs.Sums as Follows
+use Rattle.raimsklo.specs.declared.answers.Reply.{Reply}
+use Rattle.raimsklo.specs.Calls.{Buffers, Called, Problem, startOf}
+use Rattle.calls.specs.Run.{ReplyCall, answered}
+
+abbrev pub d3 : Float
+d3 = lit 0x4008_0000_0000_0000
+
+abbrev pub d4·5 : Float
+d4·5 = lit 0x4012_0000_0000_0000
+
+abbrev pub d6 : Float
+d6 = lit 0x4018_0000_0000_0000
+
+abbrev pub d8 : Float
+d8 = lit 0x4020_0000_0000_0000
+
+abbrev pub d0·75 : Float
+d0·75 = lit 0x3fe8_0000_0000_0000
+
+abbrev pub d1·75 : Float
+d1·75 = lit 0x3ffc_0000_0000_0000
+
+-- ---- a problem of one state through the calls
+
+-- the smallest step is given where it is not 0, the first always is
+abbrev pub optionsOf : Follows.Problem → ℕ → Options
+optionsOf c smallest = record {
+  «max_steps» = c .maxsteps; mxordn = 12; mxords = 5; maxcor = c .maxcor; msbp = 20; mxncf = c .mxncf; banded = 0;
+  supplied = 0; «has_max_step» = 0; «has_min_step» = smallest; «has_first_step» = 1;
+  «max_step» = zeroF; «min_step» = c .hmin; «first_step» = c .first;
+}
+
+abbrev pub problemOf : Follows.Problem → ℕ → Problem
+problemOf c smallest = record {
+  x0 = zeroF; xend = c .xend; y0 = c .y0 ∷ []; rtol = c .rtol ∷ []; atol = c .atol ∷ [];
+  options = optionsOf c smallest;
+}
+
+-- slices for one state
+pub record Lent (b : Buffers) : Type 0 where
+  pub work : length (b .work) ≡ 20
+  pub pivots : length (b .pivots) ≡ 1
+  pub session : length (b .session) ≡ 1448
+  pub question : length (b .question) ≡ 20
+
+abbrev pub replyWith : ℕ → List Float → Float → ReplyCall
+replyWith kind numbers time = record {
+  kind = kind; numbers = numbers; time = time; question = replicate 20 zeroF;
+}
+
+-- a derivative; or continue, with the state that stands first in the question and the report's time
+abbrev pub actedBy : Called → Act → Called
+actedBy x (gives f) = answered x (replyWith 1 (f ∷ []) zeroF)
+actedBy x continues = answered x (replyWith 3 (part 0 1 (x .lent .question)) (x .reply .time))
+
+unfoldable pub hostedBy : Called → List Act → Called
+hostedBy x [] = x
+hostedBy x (a ∷ acts) = hostedBy (actedBy x a) acts
+
+-- ---- the table of (8) to (12)
+
+-- what the last call returns, and the state then, column 0
+pub record Result : Type 0 where
+  pub reply : Reply
+  pub y : List Float
+
+pub record Row : Type 0 where
+  pub problem : Follows.Problem
+  pub smallest : ℕ
+  pub acts : List Act
+  pub result : Result
+
+unfoldable pub resultOf : Buffers → Row → Result
+resultOf b r =
+    let x = hostedBy (startOf (problemOf (r .problem) (r .smallest)) b) (r .acts) in
+    record { reply = x .reply; y = column 1 0 (x .lent .work) }
+
+-- number, h, derivatives, steps (total, accepted, rejected), y; no Jacobian and no factoring
+abbrev pub ended : ℕ → Float → ℕ → ℕ → ℕ → ℕ → Float → Result
+ended number h nfe total accepted rejected v = record {
+  reply = record {
+    number = number; index = 0; value = zeroF; time = zeroF; previous = zeroF; count = 0; order = 0;
+    h = h; nfe = nfe; nje = 0; nlu = 0; total = total; accepted = accepted; rejected = rejected;
+  };
+  y = v ∷ [];
+}
+
+abbrev pub row8 : Row
+row8 = record {
+  problem = problem8; smallest = 0;
+  acts = gives zeroF ∷ continues ∷ gives zeroF ∷ continues ∷ [];
+  result = ended 110 oneF 2 1 1 0 d2;
+}
+
+abbrev pub row9 : Row
+row9 = record {
+  problem = problem8; smallest = 0;
+  acts = gives zeroF ∷ continues ∷ gives nan ∷ continues ∷ [];
+  result = ended 110 oneF 2 1 1 0 nan;
+}
+
+abbrev pub row10 : Row
+row10 = record {
+  problem = problem10; smallest = 0;
+  acts = gives zeroF ∷ continues ∷ gives zeroF ∷ continues ∷ [];
+  result = ended 112 oneF 2 1 1 0 d2;
+}
+
+abbrev pub row11 : Row
+row11 = record {
+  problem = problem11; smallest = 0;
+  acts = gives zeroF ∷ continues ∷ gives d100 ∷ [];
+  result = ended 114 oneF 2 0 0 0 zeroF;
+}
+
+abbrev pub row12 : Row
+row12 = record {
+  problem = problem12; smallest = 1;
+  acts = gives zeroF ∷ continues ∷ gives d100 ∷ gives d100 ∷ [];
+  result = ended 113 oneF 3 0 0 1 zeroF;
+}
+
+-- ---- the whole table
+
+-- a snapshot of one state at order 1: time 1, columns 2 and 0.5
+abbrev pub snapshot : Float → List Float
+snapshot h = oneF ∷ oneF ∷ oneF ∷ h ∷ d0·5 ∷ uround ∷ d2 ∷ d0·5 ∷ []
+
+pub record Sums : Type 0 where
+  -- (1) Adams order 1: 1, 1; order 2: 0.5, 1, 0.5
+  pub one : (elcoOf 1 1 0 ≡ oneF) × (elcoOf 1 1 1 ≡ oneF)
+      × (elcoOf 1 2 0 ≡ d0·5) × (elcoOf 1 2 1 ≡ oneF) × (elcoOf 1 2 2 ≡ d0·5)
+  -- (2) BDF order 2 error entries: 1, 4.5, 6
+  pub two : (tescoOf 2 2 0 ≡ oneF) × (tescoOf 2 2 1 ≡ d4·5) × (tescoOf 2 2 2 ≡ d6)
+  -- (3) norm of (NaN, 3) with (1, 2): 6
+  pub three : vmnormOf (nan ∷ d3 ∷ []) (oneF ∷ d2 ∷ []) ≡ record { value = d6 }
+  -- (4) columns (0, 2), (1, 3) factor to (2, 0), (3, 1), and (1, 5) solves to (1, 1)
+  pub four : ((p q : ℕ) → factorOf 2 (zeroF ∷ d2 ∷ oneF ∷ d3 ∷ []) (p ∷ q ∷ [])
+      ≡ record { a = d2 ∷ zeroF ∷ d3 ∷ oneF ∷ []; ipiv = 1 ∷ 1 ∷ []; ok = true })
+      × (solveOf 2 2 (1 ∷ 1 ∷ []) 0 (oneF ∷ d5 ∷ d2 ∷ zeroF ∷ d3 ∷ oneF ∷ [])
+      ≡ record { work = oneF ∷ oneF ∷ d2 ∷ zeroF ∷ d3 ∷ oneF ∷ []; ok = true })
+  -- (5) 1 by 1 zero is refused, NaN passes
+  pub five : ((ipiv : List ℕ) → factorOf 1 (zeroF ∷ []) ipiv ≡ record { a = zeroF ∷ []; ipiv = ipiv; ok = false })
+      × ((p : ℕ) → factorOf 1 (nan ∷ []) (p ∷ []) ≡ record { a = nan ∷ []; ipiv = 0 ∷ []; ok = true })
+  -- (6) root 3 of 8 is 2; root 13 of 1 is 1
+  pub six : (rootOf d8 3 ≡ record { value = d2 }) × (rootOf oneF 13 ≡ record { value = oneF })
+  -- (7) snapshot n 1, nq 1, t 1, h 0.5, columns 2 and 0.5: at 0.75 the pose is 1.75; with h 0 refused 17
+  pub seven : (y : Float) → (interpolateOf d0·75 (snapshot d0·5) (y ∷ []) ≡ left 0 (d1·75 ∷ []))
+      × (interpolateOf d0·75 (snapshot zeroF) (y ∷ []) ≡ left 17 (y ∷ []))
+  -- (8) derivatives 0: success, h 1, 2 derivatives, steps 1, 1, 0
+  pub eight : (b : Buffers) → Lent b → resultOf b row8 ≡ row8 .result
+  -- (9) second derivative NaN there: success, y NaN
+  pub nine : (b : Buffers) → Lent b → resultOf b row9 ≡ row9 .result
+  -- (10) (8) with end 2, max_steps 1: needs more steps
+  pub ten : (b : Buffers) → Lent b → resultOf b row10 ≡ row10 .result
+  -- (11) derivatives 0, 100: poor, steps 0, 0, 0
+  pub eleven : (b : Buffers) → Lent b → resultOf b row11 ≡ row11 .result
+  -- (12) derivatives 0, 100, 100: too small, steps 0, 0, 1
+  pub twelve : (b : Buffers) → Lent b → resultOf b row12 ≡ row12 .result
