@@ -13,7 +13,7 @@ mod answers;
 mod start;
 mod reply;
 
-use answers::Reply;
+pub use answers::Reply;
 use refusals::Lengths;
 use refusals::Options;
 
