@@ -1,11 +1,13 @@
-// The rig: a chain of 32 links, whose angles are the states 0 to 31 and whose speeds are 32 to 63. A spring holds each link
-// to both its neighbours, the first one to a root that is turned by 1.2·t/(1 + t²). Each has drag, and gravity by the
-// first two terms of the sine.
+// The rig: a chain of 32 links, whose angles are the states 0 to 31 and whose speeds are 32 to 63. A spring holds each
+// link to both its neighbours, the first one to a root that is turned by 1.2·t/(1 + t²). Each has drag, and gravity by
+// the first two terms of the sine.
 ghost use Prim.Native.Nat.{_<_, _≤_};
 ghost use lib.ListN.{length};
 
 const SPRING: f64 = 80.0;
+
 const DRAG: f64 = 40.0;
+
 const GRAVITY: f64 = 9.81;
 
 // Every link is held aside, at rest.

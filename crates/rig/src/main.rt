@@ -14,6 +14,7 @@ use refusals::Options;
 // The most derivatives that a step of the second family asks for with mxncf 10 and maxcor 3, beside those of its
 // Jacobians, of which there are at most 19: (mxncf + 12)·maxcor + 7, and mxncf + 9.
 const CAP: usize = 73;
+
 const JACOBIANS: usize = 19;
 
 // What was seen of the reports: how many, the largest count, how many were wrong, and the last one's time.
@@ -151,7 +152,15 @@ fn replied(
         return raimsklo::raimsklo_reply(2, columns, asked.time, work, pivots, session, question);
     }
     fill_in(asked, question, numbers);
-    raimsklo::raimsklo_reply(kind(asked.number), numbers, asked.time, work, pivots, session, question)
+    raimsklo::raimsklo_reply(
+        kind(asked.number),
+        numbers,
+        asked.time,
+        work,
+        pivots,
+        session,
+        question,
+    )
 }
 
 fn start(
@@ -165,7 +174,18 @@ fn start(
     requires { ⌜ 64 ≤ length (now numbers) ⌝ }
 {
     chain::first_pose(numbers);
-    raimsklo::raimsklo_start(0.0, 2.0, numbers, &[0.001], &[0.0001], options, work, pivots, session, question)
+    raimsklo::raimsklo_start(
+        0.0,
+        2.0,
+        numbers,
+        &[0.001],
+        &[0.0001],
+        options,
+        work,
+        pivots,
+        session,
+        question,
+    )
 }
 
 fn drive(
@@ -181,7 +201,12 @@ fn drive(
     requires { ⌜ (length (now numbers) ≡ 64) × (length (now columns) ≡ 4096) × (length (now question) ≡ 902) ⌝ }
 {
     let mut r = start(options, numbers, work, pivots, session, question);
-    let mut w = Watch { reports: 0, most: 0, wrong: 0, time: 0.0 };
+    let mut w = Watch {
+        reports: 0,
+        most: 0,
+        wrong: 0,
+        time: 0.0,
+    };
     for _ in 0..100000usize {
         if !is_asked(r.number) {
             break;

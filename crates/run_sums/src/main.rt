@@ -73,7 +73,15 @@ fn replied(
     question: &mut [f64],
 ) -> Reply {
     let x = number(sum, asked.number, i, question);
-    raimsklo::raimsklo_reply(kind(asked.number), &[x], asked.time, work, pivots, session, question)
+    raimsklo::raimsklo_reply(
+        kind(asked.number),
+        &[x],
+        asked.time,
+        work,
+        pivots,
+        session,
+        question,
+    )
 }
 
 // One of these sums takes 100000 steps.
@@ -97,12 +105,29 @@ fn go_on(
     Outcome { end: r, pose: pose }
 }
 
-fn run(sum: Sum, work: &mut [f64], pivots: &mut [usize], session: &mut [u8], question: &mut [f64]) -> Outcome {
+fn run(
+    sum: Sum,
+    work: &mut [f64],
+    pivots: &mut [usize],
+    session: &mut [u8],
+    question: &mut [f64],
+) -> Outcome {
     let y0 = [sum.y0];
     let rtol = [sum.rtol];
     let atol = [sum.atol];
     let o = sum.options;
-    let r = raimsklo::raimsklo_start(0.0, sum.xend, &y0, &rtol, &atol, o, work, pivots, session, question);
+    let r = raimsklo::raimsklo_start(
+        0.0,
+        sum.xend,
+        &y0,
+        &rtol,
+        &atol,
+        o,
+        work,
+        pivots,
+        session,
+        question,
+    );
     go_on(sum, r, work, pivots, session, question)
 }
 
@@ -181,7 +206,14 @@ fn eight() -> Sum {
     let mut o = raimsklo::raimsklo_defaults();
     o.has_first_step = 1;
     o.first_step = 1.0;
-    Sum { xend: 1.0, y0: 2.0, rtol: 0.5, atol: 0.0, later: 0.0, options: o }
+    Sum {
+        xend: 1.0,
+        y0: 2.0,
+        rtol: 0.5,
+        atol: 0.0,
+        later: 0.0,
+        options: o,
+    }
 }
 
 fn nine() -> Sum {
@@ -205,7 +237,14 @@ fn eleven() -> Sum {
     o.mxncf = 1;
     o.has_first_step = 1;
     o.first_step = 1.0;
-    Sum { xend: 1.0, y0: 0.0, rtol: 0.0, atol: 1.0, later: 100.0, options: o }
+    Sum {
+        xend: 1.0,
+        y0: 0.0,
+        rtol: 0.0,
+        atol: 1.0,
+        later: 100.0,
+        options: o,
+    }
 }
 
 fn twelve() -> Sum {
@@ -248,8 +287,14 @@ fn main() {
     line(b"(10): ", ten());
     line(b"(11): ", eleven());
     line(b"(12): ", twelve());
-    line(b"start equal to end, no first step: ", without_first_step(empty()));
+    line(
+        b"start equal to end, no first step: ",
+        without_first_step(empty()),
+    );
     line(b"start equal to end, first step 1: ", empty());
-    line(b"start equal to end, first step 1, minimum step 2: ", with_min_step(empty(), 2.0));
+    line(
+        b"start equal to end, first step 1, minimum step 2: ",
+        with_min_step(empty(), 2.0),
+    );
     line(b"(8), minimum step 2: ", with_min_step(eight(), 2.0));
 }

@@ -8,13 +8,13 @@ use Rattle.rig.proofs.drive.Statement.{statement}
 use Rattle.rig.proofs.drive.Tie as tie
 
 abbrev Inv-loop : tie.InvT-loop
-Inv-loop cap numbers₀ columns₀ work₀ pivots₀ session₀ question₀ r₀ w₀ counter₀ numbers columns work pivots session question r w counter =
+Inv-loop _ _ _ work₀ pivots₀ session₀ _ _ _ _ numbers columns work pivots session question _ w counter =
     (counter ≤ 100000) × (w .reports ≤ counter) × (w .wrong ≤ counter)
     × (length numbers ≡ 64) × (length columns ≡ 4096) × (length question ≡ 902)
     × (length work ≡ length work₀) × (length pivots ≡ length pivots₀) × (length session ≡ length session₀)
 
 abbrev μ-loop : tie.MeasureT-loop
-μ-loop cap numbers₀ columns₀ work₀ pivots₀ session₀ question₀ r₀ w₀ counter₀ numbers columns work pivots session question r w counter = 100000 - counter
+μ-loop _ _ _ _ _ _ _ _ _ _ _ _ _ _ _ _ _ _ counter = 100000 - counter
 
 start-requires : tie.Need-start-requires Inv-loop μ-loop
 start-requires c κs = search needs

@@ -1,4 +1,5 @@
--- `go_on` is safe and ends: each turn keeps the lengths of what is lent, and there are at most 1000000. Assumes nothing.
+-- `go_on` is safe and ends: each turn keeps the lengths of what is lent, and there are at most 1000000.
+-- Assumes nothing.
 use Prim.Native.Nat.{_-_, _≤_}
 use mathlib.Core.Path.{_≡_}
 use native.Mathlib.Omega.{arith}
@@ -8,12 +9,12 @@ use Rattle.run_sums.proofs.go_on.Statement.{statement}
 use Rattle.run_sums.proofs.go_on.Tie as tie
 
 abbrev Inv-loop : tie.InvT-loop
-Inv-loop sum work₀ pivots₀ session₀ question₀ r₀ pose₀ i₀ work pivots session question r pose i =
+Inv-loop _ work₀ pivots₀ session₀ question₀ _ _ _ work pivots session question _ _ i =
     (i ≤ 1000000) × (length work ≡ length work₀) × (length pivots ≡ length pivots₀)
     × (length session ≡ length session₀) × (length question ≡ length question₀)
 
 abbrev μ-loop : tie.MeasureT-loop
-μ-loop sum work₀ pivots₀ session₀ question₀ r₀ pose₀ i₀ work pivots session question r pose i = 1000000 - i
+μ-loop _ _ _ _ _ _ _ _ _ _ _ _ _ _ i = 1000000 - i
 
 loop-holds : tie.Need-loop-holds Inv-loop μ-loop
 loop-holds c = omega arith

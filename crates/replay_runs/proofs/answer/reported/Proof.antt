@@ -1,0 +1,32 @@
+-- `reported` meets its contract: the order is at most 12, so that the snapshot's columns are at most 13 times n.
+-- Assumes nothing.
+use Prim.Native.Nat.{_+_, _*_, _≤_}
+use native.Mathlib.Nat.{mul-le-mul-right}
+use native.Mathlib.Omega.{arith}
+use borrow.Author.Needs.{needs}
+use Rattle.replay_runs.proofs.answer.reported.Statement.{statement}
+use Rattle.replay_runs.proofs.answer.reported.Tie as tie
+
+add-result : tie.Need-add-result
+add-result c = search needs
+
+add-result-2 : tie.Need-add-result-2
+add-result-2 c = search needs
+
+mul-result : tie.Need-mul-result
+mul-result c =
+    let most : (c .args .order + 1) * c .args .n ≤ 13 * c .args .n = mul-le-mul-right (c .args .n) (omega arith) in
+    omega arith
+
+add-result-3 : tie.Need-add-result-3
+add-result-3 c =
+    let most : (c .args .order + 1) * c .args .n ≤ 13 * c .args .n = mul-le-mul-right (c .args .n) (omega arith) in
+    omega arith
+
+returns : tie.Need-returns
+returns c =
+    let most : (c .args .order + 1) * c .args .n ≤ 13 * c .args .n = mul-le-mul-right (c .args .n) (omega arith) in
+    omega arith
+
+pub reported-spec : {M : Type 1} → statement M
+reported-spec = tie.close (tie.spec add-result add-result-2 mul-result add-result-3 returns)

@@ -1,0 +1,61 @@
+// The stored words: counts, and floats by their patterns. Behind the end every word is 0.
+ghost use Prim.Native.Nat.{_≤_};
+ghost use mathlib.Core.Path.{_≡_};
+ghost use lib.ListN.{length};
+
+pub fn word(words: &[u64], at: usize) -> u64 {
+    if at < words.len() {
+        return words[at];
+    }
+    0
+}
+
+pub fn count(words: &[u64], at: usize) -> usize {
+    word(words, at) as usize
+}
+
+// A count that is at most so much.
+pub fn limited(words: &[u64], at: usize, most: usize) -> usize
+    ensures { λ r. ⌜ r ≤ most ⌝ }
+{
+    let n = count(words, at);
+    if n < most {
+        return n;
+    }
+    most
+}
+
+pub fn float(words: &[u64], at: usize) -> f64 {
+    numbers::from_bits(word(words, at))
+}
+
+// The 4096 floats from there on: as many as a reply can have.
+pub fn floats(words: &[u64], at: usize) -> [f64; 4096]
+    requires { ⌜ at ≤ 2000000 ⌝ }
+    ensures { λ r. ⌜ length r ≡ 4096 ⌝ }
+{
+    let mut out = [0.0; 4096];
+    for i in 0..4096usize {
+        out[i] = float(words, at + i);
+    }
+    out
+}
+
+pub fn is_count(words: &[u64], at: usize, n: usize) -> bool {
+    word(words, at) == n as u64
+}
+
+pub fn is_float(words: &[u64], at: usize, x: f64) -> bool {
+    word(words, at) == numbers::to_bits(x)
+}
+
+pub fn are_floats(words: &[u64], at: usize, list: &[f64]) -> bool
+    requires { ⌜ (at ≤ 2000000) × (length (now list) ≤ 5000) ⌝ }
+{
+    for i in 0..list.len() {
+        if !is_float(words, at + i, list[i]) {
+            return false;
+        }
+    }
+    true
+}
