@@ -3,25 +3,14 @@
 A line for each run: solver, problem, tolerance, derivatives, Jacobians, steps, rejected (- where unknown), and the end.
 """
 
-import math
+import os
+import sys
 
 from scipy.integrate import solve_ivp
 
-LINKS = 12
+sys.path.insert(0, os.path.join(os.path.dirname(os.path.abspath(__file__)), "../examples/python"))
 
-
-def tail(t, y):
-    angle, speed = y[:LINKS], y[LINKS:]
-    out = [0.0] * (2 * LINKS)
-    for i in range(LINKS):
-        above = 0.6 * math.sin(2.0 * t) if i == 0 else angle[i - 1]
-        stiff, mass = 900.0 * 0.8**i, 0.9**i
-        pull = stiff * (above - angle[i])
-        if i + 1 < LINKS:
-            pull -= 0.8 * stiff * (angle[i] - angle[i + 1])
-        out[i] = speed[i]
-        out[LINKS + i] = (pull - 6.0 * speed[i]) / mass - 9.81 * math.sin(angle[i])
-    return out
+from rigs import tail  # noqa: E402
 
 
 def vdp(t, y):
