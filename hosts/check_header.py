@@ -1,4 +1,4 @@
-"""Holds include/raimsklo.h, the Rust crate and the Python package to the exports of the Rattle library.
+"""Holds include/raimsklo.h, the Rust crate, the Python package and the comparison to the exports of the Rattle library.
 
 Each exported function must stand in the header with the same arguments in the same order, a slice being a pointer and a
 length; and the two structs must have the same fields, in the same order, everywhere.
@@ -86,13 +86,14 @@ def main():
         rust_name = "Options" if name == "Options" else "Answer"
         there = re.findall(r"^\s*(?:pub )?(\w+): (\w+),", struct(rust, rust_name), flags=re.M)
         same(f"{name} in the Rust crate", fields, [(n, KINDS[k]) for n, k in there])
+        same(f"{name} in the comparison", fields, fields_of(struct("oracle/runs/src/calls.rs", name), KINDS))
         text = read("hosts/python/raimsklo/library.py")
         inside = re.search(r"class %s\(Structure\):(.*?)\]\n" % rust_name, text, flags=re.S).group(1)
         kinds = {"c_size_t": "size_t", "c_double": "double"}
         same(f"{name} in the Python package", fields, [(n, kinds[k]) for n, k in re.findall(r'\("(\w+)", (\w+)\)', inside)])
     for line in wrong:
         print("differs: " + line)
-    print(f"header, Rust and Python against the exports: {len(ours)} functions, 2 structs, {len(wrong)} differ")
+    print(f"header, Rust, Python and the comparison against the exports: {len(ours)} functions, 2 structs, {len(wrong)} differ")
     return 1 if wrong else 0
 
 
