@@ -1,0 +1,193 @@
+-- `sixteen` meets its contract: each row of the code is that part of the list that `cfode`'s recurrences give, by
+-- computation. Assumes nothing.
+use mathlib.Core.Path.{_≡_, refl, sym}
+use mathlib.Core.Logic.{inl, inr}
+use Prim.Native.Nat.{ℕ, zero, suc, zero-le, _≤_}
+use native.Mathlib.Nat.{eq-or-lt-of-le}
+use native.Mathlib.Omega.{arith}
+use lib.Ieee.{ofBits}
+use Rattle.coefficients.specs.Cfode.{cfodeOf}
+use Rattle.coefficients.proofs.sixteen.Statement.{statement}
+use Rattle.coefficients.proofs.sixteen.Tie as tie
+
+-- r is none of the n numbers from 0 on
+abbrev Apart : ℕ → ℕ → Type 0
+Apart zero r = Unit
+Apart (suc n) r = Apart n r × (r ≡ n → ⊥)
+
+past : (n r : ℕ) → Apart n r → n ≤ r
+past zero r a = zero-le
+past (suc n) r a = elim (eq-or-lt-of-le (past n r (a .0))) [ inl e ↦ absurd (a .1 (sym e)) | inr l ↦ l ]
+
+returns : tie.Need-returns
+unfolding cfodeOf ofBits
+returns c =
+    let q : c .before .args .row ≡ 0 = omega arith in
+    rw q refl
+
+returns-2 : tie.Need-returns-2
+unfolding cfodeOf ofBits
+returns-2 c =
+    let q : c .before .args .row ≡ 1 = omega arith in
+    rw q refl
+
+returns-3 : tie.Need-returns-3
+unfolding cfodeOf ofBits
+returns-3 c =
+    let q : c .before .args .row ≡ 2 = omega arith in
+    rw q refl
+
+returns-4 : tie.Need-returns-4
+unfolding cfodeOf ofBits
+returns-4 c =
+    let q : c .before .args .row ≡ 3 = omega arith in
+    rw q refl
+
+returns-5 : tie.Need-returns-5
+unfolding cfodeOf ofBits
+returns-5 c =
+    let q : c .before .args .row ≡ 4 = omega arith in
+    rw q refl
+
+returns-6 : tie.Need-returns-6
+unfolding cfodeOf ofBits
+returns-6 c =
+    let q : c .before .args .row ≡ 5 = omega arith in
+    rw q refl
+
+returns-7 : tie.Need-returns-7
+unfolding cfodeOf ofBits
+returns-7 c =
+    let q : c .before .args .row ≡ 6 = omega arith in
+    rw q refl
+
+returns-8 : tie.Need-returns-8
+unfolding cfodeOf ofBits
+returns-8 c =
+    let q : c .before .args .row ≡ 7 = omega arith in
+    rw q refl
+
+returns-9 : tie.Need-returns-9
+unfolding cfodeOf ofBits
+returns-9 c =
+    let q : c .before .args .row ≡ 8 = omega arith in
+    rw q refl
+
+returns-10 : tie.Need-returns-10
+unfolding cfodeOf ofBits
+returns-10 c =
+    let q : c .before .args .row ≡ 9 = omega arith in
+    rw q refl
+
+returns-11 : tie.Need-returns-11
+unfolding cfodeOf ofBits
+returns-11 c =
+    let q : c .before .args .row ≡ 10 = omega arith in
+    rw q refl
+
+returns-12 : tie.Need-returns-12
+unfolding cfodeOf ofBits
+returns-12 c =
+    let q : c .before .args .row ≡ 11 = omega arith in
+    rw q refl
+
+returns-13 : tie.Need-returns-13
+unfolding cfodeOf ofBits
+returns-13 c =
+    let q : c .before .args .row ≡ 12 = omega arith in
+    rw q refl
+
+returns-14 : tie.Need-returns-14
+unfolding cfodeOf ofBits
+returns-14 c =
+    let q : c .before .args .row ≡ 13 = omega arith in
+    rw q refl
+
+returns-15 : tie.Need-returns-15
+unfolding cfodeOf ofBits
+returns-15 c =
+    let q : c .before .args .row ≡ 14 = omega arith in
+    rw q refl
+
+returns-16 : tie.Need-returns-16
+unfolding cfodeOf ofBits
+returns-16 c =
+    let q : c .before .args .row ≡ 15 = omega arith in
+    rw q refl
+
+returns-17 : tie.Need-returns-17
+unfolding cfodeOf ofBits
+returns-17 c =
+    let q : c .before .args .row ≡ 16 = omega arith in
+    rw q refl
+
+returns-18 : tie.Need-returns-18
+unfolding cfodeOf ofBits
+returns-18 c =
+    let q : c .before .args .row ≡ 17 = omega arith in
+    rw q refl
+
+returns-19 : tie.Need-returns-19
+unfolding cfodeOf ofBits
+returns-19 c =
+    let q : c .before .args .row ≡ 18 = omega arith in
+    rw q refl
+
+returns-20 : tie.Need-returns-20
+unfolding cfodeOf ofBits
+returns-20 c =
+    let q : c .before .args .row ≡ 19 = omega arith in
+    rw q refl
+
+returns-21 : tie.Need-returns-21
+unfolding cfodeOf ofBits
+returns-21 c =
+    let q : c .before .args .row ≡ 20 = omega arith in
+    rw q refl
+
+returns-22 : tie.Need-returns-22
+unfolding cfodeOf ofBits
+returns-22 c =
+    let q : c .before .args .row ≡ 21 = omega arith in
+    rw q refl
+
+returns-23 : tie.Need-returns-23
+unfolding cfodeOf ofBits
+returns-23 c =
+    let q : c .before .args .row ≡ 22 = omega arith in
+    rw q refl
+
+returns-24 : tie.Need-returns-24
+unfolding cfodeOf ofBits
+returns-24 c =
+    let q : c .before .args .row ≡ 23 = omega (arith, past 23 (c .before .args .row) (c .match .rest)) in
+    rw q refl
+
+pub sixteen-spec : {M : Type 1} → statement M
+sixteen-spec =
+    tie.close
+    (tie.spec
+    returns
+    returns-2
+    returns-3
+    returns-4
+    returns-5
+    returns-6
+    returns-7
+    returns-8
+    returns-9
+    returns-10
+    returns-11
+    returns-12
+    returns-13
+    returns-14
+    returns-15
+    returns-16
+    returns-17
+    returns-18
+    returns-19
+    returns-20
+    returns-21
+    returns-22
+    returns-23
+    returns-24)
