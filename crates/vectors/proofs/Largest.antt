@@ -1,5 +1,6 @@
 -- The maximum that ignores a NaN, and the norms that are made by it.
 --     max-larger                     it is one of the two, and at least each that is no NaN
+--     zero-number                    +0, from which the norms start, is no NaN
 --     max-above                      with 2^-52 it is never at most 0
 --     largest                        over a loop from +0 on: +0 or an entry, no NaN, and at least each that is no NaN
 --     norm-largest, fnorm-largest    the same of `vmnorm` and `fnorm_dense`
@@ -95,9 +96,13 @@ pub record Largest (x : ℕ → Float) (n : ℕ) (r : Float) : Type 0 where
   pub above : Ieee.le zeroF r ≡ true
   pub met : (r ≡ zeroF) ⊎ Met x n r
 
+pub zero-number : Number zeroF
+unfolding Ieee.ne Ieee.ofBits
+zero-number = refl
+
 nothing : (x : ℕ → Float) → Largest x 0 zeroF
-unfolding Ieee.le Ieee.ne Ieee.ofBits
-nothing x = record { number = refl; bounds = λ i b. absurd (omega arith); above = refl; met = inl refl }
+unfolding Ieee.le Ieee.ofBits
+nothing x = record { number = zero-number; bounds = λ i b. absurd (omega arith); above = refl; met = inl refl }
 
 module _ (x : ℕ → Float) where
   one-more : (k : ℕ) (s : Float) → Largest x k s → Largest x (k + 1) (maxOf s (x k))

@@ -1,7 +1,10 @@
 // Norms and weights: vmnorm, fnorm_dense, ewset, invert_weights, initial_step_size.
 ghost use mathlib.Core.Path.{_≡_};
+ghost use mathlib.Core.Bool.{false};
 ghost use Prim.Native.Nat.{_+_, _-_, _*_, _≤_, _<_};
 ghost use lib.ListN.{length};
+ghost use lib.Ieee as Ieee;
+ghost use Rattle.numbers.specs.Order.{maxOf};
 ghost use Rattle.vectors.specs.Tolerance.{List1OrN, toleranceOf};
 ghost use Rattle.vectors.specs.Norm.{vmnormOf, rowOf, fnormOf};
 ghost use Rattle.vectors.specs.Weights.{ewsetOf, ewsetLikeOf, invertOf, outcomeOf};
@@ -29,6 +32,18 @@ pub fn tolerance(list: &[f64], i: usize) -> f64
     list[i]
 }
 
+// The maximum of a number and x, which is ignored if it is a NaN: one test in the norms' chain, where `numbers::max`
+// has two.
+fn larger(m: f64, x: f64) -> f64
+    requires { ⌜ Ieee.ne m m ≡ false ⌝ }
+    ensures { λ r. ⌜ r ≡ maxOf m x ⌝ }
+{
+    if m < x {
+        return x;
+    }
+    m
+}
+
 // The largest |v|·w; NaN entries are skipped.
 pub fn vmnorm(v: &[f64], w: &[f64]) -> Norm
     requires { ⌜ length (now v) ≤ length (now w) ⌝ }
@@ -36,7 +51,7 @@ pub fn vmnorm(v: &[f64], w: &[f64]) -> Norm
 {
     let mut norm = 0.0;
     for i in 0..v.len() {
-        norm = numbers::max(norm, numbers::abs(v[i]) * w[i]);
+        norm = larger(norm, numbers::abs(v[i]) * w[i]);
     }
     Norm { value: norm }
 }
@@ -60,7 +75,7 @@ pub fn fnorm_dense(n: usize, a: &[f64], w: &[f64]) -> Norm
 {
     let mut an = 0.0;
     for i in 0..n {
-        an = numbers::max(an, row_sum(n, a, w, i) * w[i]);
+        an = larger(an, row_sum(n, a, w, i) * w[i]);
     }
     Norm { value: an }
 }
