@@ -6,9 +6,11 @@ use Prim.Native.Nat.{ℕ, zero, suc, _*_, _≤_, _<_}
 use native.Mathlib.Nat.{zero-mul, mul-pos, zero-lt-suc}
 use native.Mathlib.Omega.{arith}
 use lib.IntN.{ℤ}
+use lib.Dec.{T, lt→ltb}
 use lib.Ieee as Ieee
 use lib.Ieee.{Float, nan, inf, fin, binary64, up, down}
 use lib.Ieee.Fits.{up-pos}
+use lib.Ieee.Positive.{positive}
 use borrow.Author.Tests.{lt-ltb, ne-eqb, le-leb, lt-leb}
 use Rattle.numbers.specs.Float.{lit, zeroF}
 use Rattle.root.specs.Root.{bitsOf, valueOf, rootOf}
@@ -59,6 +61,17 @@ of-positive (fin true zero e) k g h = differs h
 of-positive (fin false zero e) k g h = differs (simp zero-mul at h)
 of-positive (fin true (suc m) e) k g h = differs h
 of-positive (fin false (suc m) e) k g h = refl
+
+-- such an x is finite and above 0
+pub is-positive : (x : Float) → Ieee.eq x (lit infinityBits) ≡ false → Ieee.lt zeroF x ≡ true → T (positive x)
+unfolding Ieee.eq Ieee.lt Ieee.ofBits
+is-positive nan g h = differs h
+is-positive (inf true) g h = differs h
+is-positive (inf false) g h = differs (sym g)
+is-positive (fin true zero e) g h = differs h
+is-positive (fin false zero e) g h = differs (simp zero-mul at h)
+is-positive (fin true (suc m) e) g h = differs h
+is-positive (fin false (suc m) e) g h = lt→ltb 0 (suc m) (zero-lt-suc m)
 
 pub of-other : (x : Float) (k : ℕ) → Ieee.eq x zeroF ≡ false → Ieee.eq x (lit infinityBits) ≡ false
     → Ieee.lt zeroF x ≡ false → nan ≡ valueOf x k

@@ -3,7 +3,7 @@ use native.Mathlib.Omega.{arith}
 use lib.Ieee.{nanBits}
 use borrow.Author.Needs.{needs}
 use Rattle.numbers.proofs.Bits.{zero-over-zero}
-use Rattle.root.proofs.Cases.{accepted, too-low, too-high, of-zero, of-infinity, of-positive, of-other}
+use Rattle.root.proofs.Cases.{accepted, too-low, too-high, of-zero, of-infinity, of-positive, of-other, is-positive}
 use Rattle.root.proofs.root.Statement.{statement}
 use Rattle.root.proofs.root.Tie as tie
 
@@ -31,25 +31,38 @@ returns-4 c =
     let a = c .before .before .before .before .args in
     rw (accepted (a .x) (a .k) (omega arith) (omega arith), ← of-infinity (a .x) (a .k) (c .if4 .taken))
 
-root-bits-requires : tie.Need-root-bits-requires
-root-bits-requires c κs = search needs
+guess-requires : tie.Need-guess-requires
+guess-requires c κs = (omega arith, omega arith)
+
+settle-requires : tie.Need-settle-requires
+settle-requires c κs =
+    let w = c .before .before in
+    is-positive (w .before .before .before .before .args .x) (w .if4 .left) (c .before .if5 .taken)
 
 from-bits-requires : tie.Need-from-bits-requires
 from-bits-requires c κs = search needs
 
 returns-5 : tie.Need-returns-5
 returns-5 c =
-    let w = c .before .before .before in
+    let t = c .before .before .before in
+    let w = t .before in
     let a = w .before .before .before .before .args in
-    rw (accepted (a .x) (a .k) (omega arith) (omega arith), c .from-bits .ensures, c .before .root-bits .ensures,
-    ← of-positive (a .x) (a .k) (w .if4 .left) (c .before .before .if5 .taken))
+    rw (
+      accepted (a .x) (a .k) (omega arith) (omega arith),
+      c .from-bits .ensures,
+      c .before .settle .ensures,
+      ← of-positive (a .x) (a .k) (w .if4 .left) (t .if5 .taken),
+    )
 
 returns-6 : tie.Need-returns-6
 returns-6 c =
     let w = c .before .before in
     let a = w .before .before .before .args in
-    rw (accepted (a .x) (a .k) (omega arith) (omega arith), zero-over-zero,
-    ← of-other (a .x) (a .k) (w .if3 .left) (c .before .if4 .left) (c .if5 .left))
+    rw (
+      accepted (a .x) (a .k) (omega arith) (omega arith),
+      zero-over-zero,
+      ← of-other (a .x) (a .k) (w .if3 .left) (c .before .if4 .left) (c .if5 .left),
+    )
 
 pub root-spec : {M : Type 1} → statement M
 root-spec =
@@ -60,7 +73,8 @@ root-spec =
     returns-3
     float-from-bits-if4
     returns-4
-    root-bits-requires
+    guess-requires
+    settle-requires
     from-bits-requires
     returns-5
     returns-6)
