@@ -1,6 +1,6 @@
 // The coefficients of both families, as `cfode` computes them, and the stability limits SM1.
 // One table of 384 numbers: for each family 12 orders of 13 numbers (elco) and 12 of 3 (tesco). Unset ones are 0.
-// It stands in rows of 16: a use of a constant array writes the whole array to the stack.
+// It stands in rows of 16 that are read by `match`: an index would write a whole array to the stack at each use.
 ghost use mathlib.Core.Path.{_≡_};
 ghost use Prim.Native.Nat.{_*_, _≤_, _<_};
 ghost use lib.ListN.{getD};
@@ -202,13 +202,37 @@ fn sixteen(row: usize) -> [f64; 16]
     }
 }
 
+// Entry i of a row.
+fn entry(row: [f64; 16], i: usize) -> f64
+    requires { ⌜ i < 16 ⌝ }
+    ensures { λ r. ⌜ r ≡ getD row i nan ⌝ }
+{
+    match i {
+        0 => row[0],
+        1 => row[1],
+        2 => row[2],
+        3 => row[3],
+        4 => row[4],
+        5 => row[5],
+        6 => row[6],
+        7 => row[7],
+        8 => row[8],
+        9 => row[9],
+        10 => row[10],
+        11 => row[11],
+        12 => row[12],
+        13 => row[13],
+        14 => row[14],
+        _ => row[15],
+    }
+}
+
 // Entry i of the table.
 pub fn coefficient(i: usize) -> f64
     requires { ⌜ i < 384 ⌝ }
     ensures { λ r. ⌜ r ≡ getD cfodeOf i nan ⌝ }
 {
-    let row = sixteen(i / 16);
-    row[i % 16]
+    entry(sixteen(i / 16), i % 16)
 }
 
 // Coefficient i of the given order in the table in force: 0 none yet, all zeros; 1 Adams; 2 BDF.

@@ -14,22 +14,20 @@ use Rattle.coefficients.proofs.coefficient.Tie as tie
 sixteen-requires : tie.Need-sixteen-requires
 sixteen-requires c κs = search needs
 
-mul-result : tie.Need-mul-result
-mul-result c = search needs
-
-array-read-result : tie.Need-array-read-result
-array-read-result c = search needs
+entry-requires : tie.Need-entry-requires
+entry-requires c κs = search needs
 
 returns : tie.Need-returns
 returns c =
-    let i = c .before .args .i in
+    let i = c .before .before .args .i in
     let q : 16 * (i / 16) + i % 16 ≡ i = omega arith in
     rw (
-      c .sixteen .ensures,
+      c .entry .ensures,
+      c .before .sixteen .ensures,
       getD-take 16 (drop (16 * (i / 16)) cfodeOf) (i % 16) nan (omega arith),
       getD-drop (16 * (i / 16)) cfodeOf (i % 16) nan,
       q,
     )
 
 pub coefficient-spec : {M : Type 1} → statement M
-coefficient-spec = tie.close (tie.spec sixteen-requires mul-result array-read-result returns)
+coefficient-spec = tie.close (tie.spec sixteen-requires entry-requires returns)

@@ -1,23 +1,12 @@
 -- `sixteen` meets its contract: each row of the code is that part of the list that `cfode`'s recurrences give, by
 -- computation. Assumes nothing.
-use mathlib.Core.Path.{_≡_, refl, sym}
-use mathlib.Core.Logic.{inl, inr}
-use Prim.Native.Nat.{ℕ, zero, suc, zero-le, _≤_}
-use native.Mathlib.Nat.{eq-or-lt-of-le}
+use mathlib.Core.Path.{_≡_, refl}
 use native.Mathlib.Omega.{arith}
 use lib.Ieee.{ofBits}
 use Rattle.coefficients.specs.Cfode.{cfodeOf}
+use Rattle.coefficients.proofs.Keys.{past}
 use Rattle.coefficients.proofs.sixteen.Statement.{statement}
 use Rattle.coefficients.proofs.sixteen.Tie as tie
-
--- r is none of the n numbers from 0 on
-abbrev Apart : ℕ → ℕ → Type 0
-Apart zero r = Unit
-Apart (suc n) r = Apart n r × (r ≡ n → ⊥)
-
-past : (n r : ℕ) → Apart n r → n ≤ r
-past zero r a = zero-le
-past (suc n) r a = elim (eq-or-lt-of-le (past n r (a .0))) [ inl e ↦ absurd (a .1 (sym e)) | inr l ↦ l ]
 
 returns : tie.Need-returns
 unfolding cfodeOf ofBits
