@@ -7,8 +7,7 @@ use lib.Ieee.{Float, binary64}
 use Rattle.numbers.specs.Float.{_⊕_, _⊖_, _⊗_, _⊘_, whole}
 use Rattle.root.specs.Root.{powerOf}
 
--- A pattern's upper half is near to 2^20 (log₂ x + 1023), best where 1023 is less by 0.047. Here it is the upper half of
--- the root's: (log₂ x) / k.
+-- The upper half of a pattern is nearly 2^20 (log₂ x + 1023 - 0.047). This is it for (log₂ x) / k, and 0 below it.
 unfoldable pub startOf : Float → ℕ → ℕ
 startOf x k = (Ieee.toBits binary64 x / 0x1_0000_0000 + 0x3fef_4000 * (k - 1)) / k % 0x8000_0000 * 0x1_0000_0000
 
