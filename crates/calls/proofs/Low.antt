@@ -17,9 +17,9 @@ use Rattle.common.specs.declared.Common.{Common}
 use Rattle.common.specs.Rules.{firstCallInitOf, resetOf, tinyOf}
 use Rattle.history.specs.Columns.{correctColumnsOf}
 use Rattle.history.specs.Steps.{adjustOf, predictedOf}
-use Rattle.corrector.specs.declared.Correction.{Correction}
-use Rattle.corrector.specs.Verdict.{judgeOf}
-use Rattle.corrector.proofs.Laws.{same-judge}
+use Rattle.verdict.specs.declared.Correction.{Correction}
+use Rattle.verdict.specs.Verdict.{judgeOf}
+use Rattle.verdict.proofs.Laws.{same-judge}
 use Rattle.attempt.specs.Attempt.{retractedOf, retractedWork, repredictOf, unconvergedOf as missedOf, poorOf}
 use Rattle.attempt.specs.Attempt.{quarteredOf, noConvergenceAt, noConvergenceOf, tenthOf, missedAt}
 use Rattle.attempt.specs.Attempt.{overshotOf, failedOf, loweredOf}

@@ -31,8 +31,8 @@ use Rattle.history.specs.Columns.{predictColumnsOf, retractColumnsOf, scaleColu
 use Rattle.history.specs.Columns.{correctColumnsOf, copyOf, slopeOf, fillOf, scalePartOf}
 use Rattle.history.specs.Steps.{limitedOf, adjustOf, staleOf, predictedOf}
 use Rattle.interpolation.proofs.Examples.{sum-7}
+use Rattle.verdict.specs.Verdict.{judgeOf, ratedOf, dconOf, estimatedOf, convergedOf, giveUpOf, furtherOf, testedOf}
 use Rattle.corrector.specs.Iterate.{openOf, adamsResidualOf, adamsUpdateOf, adamsOf, correctOf}
-use Rattle.corrector.specs.Verdict.{judgeOf, ratedOf, dconOf, estimatedOf, convergedOf, giveUpOf, furtherOf, testedOf}
 use Rattle.attempt.specs.Attempt as Attempt
 use Rattle.acceptance.specs.Accept as Accept
 use Rattle.machine.specs.declared.Status.the-variants.{Success, NeedsMoreSteps, StepTooSmall, PoorConvergence}

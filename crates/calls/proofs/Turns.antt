@@ -20,9 +20,9 @@ use Rattle.vectors.specs.declared.Weights.the-variants.{Inverted, Refused}
 use Rattle.common.specs.declared.Settings.{Settings}
 use Rattle.common.specs.declared.Common.{Common}
 use Rattle.common.specs.Record.{with-tn, with-column}
-use Rattle.corrector.specs.declared.Pass.{Pass}
-use Rattle.corrector.specs.declared.Pass.the-variants as Pass
-use Rattle.corrector.specs.Jacobian.{beginOf, suppliedOf, finishedOf as factorsOf}
+use Rattle.jacobian.specs.Jacobian.{beginOf, suppliedOf, finishedOf as factorsOf}
+use Rattle.verdict.specs.declared.Pass.{Pass}
+use Rattle.verdict.specs.declared.Pass.the-variants as Pass
 use Rattle.corrector.specs.Iterate.{openOf, correctOf}
 use Rattle.attempt.specs.declared.Next.{Next}
 use Rattle.attempt.specs.declared.Next.the-variants as Next

@@ -1,3 +1,1 @@
-pub mod Jacobian
 pub mod Iterate
-pub mod Verdict

@@ -14,12 +14,12 @@ use Rattle.common.specs.declared.Common.{Common}
 use Rattle.common.specs.declared.MethodFamily.{MethodFamily}
 use Rattle.common.specs.declared.MethodFamily.the-variants.{Adams, Bdf}
 use Rattle.common.specs.Record.{isBdf}
-use Rattle.corrector.specs.declared.Correction.{Correction}
-use Rattle.corrector.specs.declared.Verdict.{Verdict}
-use Rattle.corrector.specs.Jacobian.{beginOf, finishedOf}
+use Rattle.jacobian.specs.Jacobian.{beginOf, finishedOf}
+use Rattle.verdict.specs.declared.Correction.{Correction}
+use Rattle.verdict.specs.declared.Verdict.{Verdict}
+use Rattle.verdict.specs.Verdict.{rmOf, ratedOf, dconOf, pdestOf, estimatedOf, convergedOf, giveUpOf, strays}
+use Rattle.verdict.specs.Verdict.{furtherOf, testedOf, ratedVerdict, solvedVerdict, judgeOf}
 use Rattle.corrector.specs.Iterate.{openOf, Corrected, adamsOf, bdfOf, bdfResidualOf, correctIn, correctOf}
-use Rattle.corrector.specs.Verdict.{rmOf, ratedOf, dconOf, pdestOf, estimatedOf, convergedOf, giveUpOf, strays}
-use Rattle.corrector.specs.Verdict.{furtherOf, testedOf, ratedVerdict, solvedVerdict, judgeOf}
 use Rattle.session.specs.Fields.{Fit}
 use Rattle.fits.proofs.Floats.{either, literal, product, quotient, maximum}
 use Rattle.fits.proofs.Sizes.{norm}

@@ -19,11 +19,12 @@ use Rattle.common.specs.declared.Common.{Common}
 use Rattle.common.specs.Limits.{mxncfOf, maxordOf}
 use Rattle.common.specs.Rules.{icount20, firstCallInitOf, resetOf}
 use Rattle.history.specs.Steps.{InRange, adjustOf}
-use Rattle.corrector.specs.declared.Correction.{Correction}
-use Rattle.corrector.specs.Jacobian.{finishedOf}
+use Rattle.jacobian.specs.Jacobian.{finishedOf}
+use Rattle.jacobian.proofs.Laws.{SameStep}
+use Rattle.verdict.specs.declared.Correction.{Correction}
+use Rattle.verdict.specs.Verdict.{judgeOf}
+use Rattle.verdict.proofs.Laws.{same-judge, judged}
 use Rattle.corrector.specs.Iterate.{openOf}
-use Rattle.corrector.specs.Verdict.{judgeOf}
-use Rattle.corrector.proofs.Laws.{SameStep, same-judge, judged}
 use Rattle.attempt.specs.declared.Next.the-variants.{Pass, Restep}
 use Rattle.attempt.specs.Attempt.{noConvergenceOf, failedOf, restepOf}
 use Rattle.attempt.proofs.Laws.{Kept, unconverged, failed, restepped}

@@ -18,9 +18,8 @@ use Rattle.common.specs.Layout.{column}
 use Rattle.common.specs.Record.{with-tn, with-column}
 use Rattle.history.specs.Columns.{copyOf, slopeOf}
 use Rattle.history.proofs.Laws.{length-copy, length-slope}
-use Rattle.corrector.specs.Jacobian.{finishedOf}
-use Rattle.corrector.proofs.Laws.{length-supplied, length-restore}
-use Rattle.corrector.proofs.Laws.{length-finished, length-finished-ipiv, finished-below}
+use Rattle.jacobian.specs.Jacobian.{finishedOf}
+use Rattle.jacobian.proofs.Laws.{length-supplied, length-restore, length-finished, length-finished-ipiv, finished-below}
 use Rattle.attempt.proofs.Laws.{restepped}
 use Rattle.machine.specs.declared.Answer.{Answer}
 use Rattle.machine.specs.declared.Answer.the-variants.{Continue, Interrupt, Modified}

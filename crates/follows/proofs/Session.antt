@@ -23,10 +23,11 @@ use Rattle.common.specs.declared.Common.{Common}
 use Rattle.common.specs.Layout.{ewt}
 use Rattle.history.specs.Steps.{predictedOf}
 use Rattle.history.proofs.Laws.{length-copy, length-slope, length-fill, length-predict, length-rescale}
-use Rattle.corrector.specs.declared.Pass.{Pass}
-use Rattle.corrector.specs.declared.Pass.the-variants as Pass
-use Rattle.corrector.specs.Jacobian.{beginOf}
-use Rattle.corrector.proofs.Laws.{length-perturb, length-iteration}
+use Rattle.jacobian.specs.Jacobian.{beginOf}
+use Rattle.jacobian.proofs.Laws.{length-perturb}
+use Rattle.verdict.specs.declared.Pass.{Pass}
+use Rattle.verdict.specs.declared.Pass.the-variants as Pass
+use Rattle.corrector.proofs.Laws.{length-iteration}
 use Rattle.attempt.specs.declared.Next.{Next}
 use Rattle.attempt.specs.declared.Next.the-variants as Next
 use Rattle.attempt.proofs.Laws.{unconverged, failed}

@@ -15,12 +15,13 @@ use Rattle.common.specs.declared.Settings.{Settings}
 use Rattle.common.specs.declared.Common.{Common}
 use Rattle.common.specs.Record.{with-tn, with-column}
 use Rattle.history.specs.Steps.{InRange}
-use Rattle.corrector.specs.declared.Correction.{Correction}
-use Rattle.corrector.specs.Jacobian.{finishedOf}
+use Rattle.jacobian.specs.Jacobian.{finishedOf}
+use Rattle.jacobian.proofs.Laws.{SameStep, same-finished, length-finished, length-finished-ipiv, finished-below}
+use Rattle.verdict.specs.declared.Correction.{Correction}
+use Rattle.verdict.specs.Verdict.{judgeOf}
+use Rattle.verdict.proofs.Laws.{same-judge, judged}
 use Rattle.corrector.specs.Iterate.{openOf}
-use Rattle.corrector.specs.Verdict.{judgeOf}
-use Rattle.corrector.proofs.Laws.{SameStep, same-open, open-flags, same-judge, judged, same-finished}
-use Rattle.corrector.proofs.Laws.{length-finished, length-finished-ipiv, finished-below}
+use Rattle.corrector.proofs.Laws.{same-open, open-flags}
 use Rattle.acceptance.proofs.Ranges.{Ready}
 use Rattle.machine.specs.Ranges.{Accepted, Orders, Ranges, Lent}
 use Rattle.machine.specs.Requires.{Inside}

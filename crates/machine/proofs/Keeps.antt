@@ -22,12 +22,13 @@ use Rattle.common.specs.Record.{with-tn, with-h, with-total, with-column, with-
 use Rattle.common.specs.Rules.{resetOf, firstCallInitOf}
 use Rattle.history.specs.Steps.{adjustOf, predictedOf}
 use Rattle.history.proofs.Laws.{length-rescale, length-predict}
-use Rattle.corrector.specs.declared.Correction.{Correction}
-use Rattle.corrector.specs.Jacobian.{beginOf, finishedOf}
+use Rattle.jacobian.specs.Jacobian.{beginOf, finishedOf}
+use Rattle.jacobian.proofs.Laws.{SameStep, same-begin, begin-flags, counted, same-finished, finished-flags}
+use Rattle.verdict.specs.declared.Correction.{Correction}
+use Rattle.verdict.specs.Verdict.{judgeOf}
+use Rattle.verdict.proofs.Laws.{same-judge, judged}
 use Rattle.corrector.specs.Iterate.{openOf}
-use Rattle.corrector.specs.Verdict.{judgeOf}
-use Rattle.corrector.proofs.Laws.{SameStep, same-begin, begin-flags, same-open, open-flags, same-judge, judged, counted}
-use Rattle.corrector.proofs.Laws.{same-finished, finished-flags}
+use Rattle.corrector.proofs.Laws.{same-open, open-flags}
 use Rattle.attempt.specs.declared.Next.the-variants.{Pass, Restep}
 use Rattle.attempt.specs.Attempt.{Moved, noConvergenceOf, failedOf, restepOf}
 use Rattle.attempt.proofs.Laws.{unconverged, failed, restepped}

@@ -22,11 +22,12 @@ use Rattle.common.specs.Layout.{ewt}
 use Rattle.common.specs.Record.{with-tn, with-column}
 use Rattle.history.specs.Columns.{copyOf, slopeOf}
 use Rattle.history.proofs.Laws.{length-copy, length-fill, length-slope}
-use Rattle.corrector.specs.declared.Pass.{Pass}
-use Rattle.corrector.specs.declared.Pass.the-variants as Pass
-use Rattle.corrector.specs.Jacobian.{beginOf, finishedOf as factorsOf}
+use Rattle.jacobian.specs.Jacobian.{beginOf, finishedOf as factorsOf}
+use Rattle.jacobian.proofs.Laws.{length-perturb, length-restore, length-supplied}
+use Rattle.verdict.specs.declared.Pass.{Pass}
+use Rattle.verdict.specs.declared.Pass.the-variants as Pass
 use Rattle.corrector.specs.Iterate.{openOf}
-use Rattle.corrector.proofs.Laws.{length-perturb, length-restore, length-supplied, length-iteration}
+use Rattle.corrector.proofs.Laws.{length-iteration}
 use Rattle.attempt.specs.declared.Next.{Next}
 use Rattle.attempt.specs.declared.Next.the-variants as Next
 use Rattle.attempt.specs.Attempt.{errorOf}

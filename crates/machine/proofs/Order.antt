@@ -16,11 +16,11 @@ use Rattle.vectors.specs.declared.Weights.the-variants.{Inverted, Refused}
 use Rattle.common.specs.declared.Settings.{Settings}
 use Rattle.common.specs.declared.Common.{Common}
 use Rattle.common.specs.Record.{with-tn, with-column}
-use Rattle.corrector.specs.declared.Pass.{Pass}
-use Rattle.corrector.specs.declared.Pass.the-variants as Pass
-use Rattle.corrector.specs.Jacobian.{beginOf, finishedOf as factorsOf}
+use Rattle.jacobian.specs.Jacobian.{beginOf, finishedOf as factorsOf}
+use Rattle.jacobian.proofs.Laws.{same-begin}
+use Rattle.verdict.specs.declared.Pass.{Pass}
+use Rattle.verdict.specs.declared.Pass.the-variants as Pass
 use Rattle.corrector.specs.Iterate.{openOf}
-use Rattle.corrector.proofs.Laws.{same-begin}
 use Rattle.attempt.specs.declared.Next.{Next}
 use Rattle.attempt.specs.declared.Next.the-variants as Next
 use Rattle.attempt.specs.Attempt.{errorOf}

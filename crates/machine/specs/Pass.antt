@@ -17,13 +17,13 @@ use Rattle.common.specs.declared.Common.{Common}
 use Rattle.common.specs.Layout.{column, ewt}
 use Rattle.common.specs.Record.{isBdf, with-total, with-column}
 use Rattle.history.specs.Columns.{copyOf, fillOf}
-use Rattle.corrector.specs.declared.Pass.{Pass}
-use Rattle.corrector.specs.declared.Pass.the-variants as Pass
-use Rattle.corrector.specs.declared.Verdict.{Verdict}
-use Rattle.corrector.specs.Jacobian.{beginOf, perturbOf, restoreOf, finishedOf as factorsOf}
-use Rattle.corrector.specs.Jacobian as Jacobian
+use Rattle.jacobian.specs.Jacobian.{beginOf, perturbOf, restoreOf, finishedOf as factorsOf}
+use Rattle.jacobian.specs.Jacobian as Jacobian
+use Rattle.verdict.specs.declared.Pass.{Pass}
+use Rattle.verdict.specs.declared.Pass.the-variants as Pass
+use Rattle.verdict.specs.declared.Verdict.{Verdict}
+use Rattle.verdict.specs.Verdict.{judgeOf}
 use Rattle.corrector.specs.Iterate.{openOf, Corrected, correctOf}
-use Rattle.corrector.specs.Verdict.{judgeOf}
 use Rattle.attempt.specs.declared.Next.{Next}
 use Rattle.attempt.specs.declared.Next.the-variants as Next
 use Rattle.attempt.specs.Attempt.{Attempt, noConvergenceOf, errorOf, failedOf}

@@ -25,7 +25,7 @@ use attempt::Next;
 use common::Common;
 use common::MethodFamily;
 use common::Settings;
-use corrector::Pass;
+use verdict::Pass;
 
 // What the run waits for.
 pub enum Phase {
@@ -349,7 +349,7 @@ fn iterate(s: Settings, c: Common, rtol: &[f64], atol: &[f64], work: &mut [f64],
     let w = 13 * n;
     let we = 14 * n;
     let pnorm = vectors::vmnorm(&work[0..n], &work[w..we]).value;
-    let verdict = corrector::judge(s, c, x, pnorm);
+    let verdict = verdict::judge(s, c, x, pnorm);
     let pass = verdict.pass;
     let d = verdict.common;
     match pass {
@@ -382,7 +382,7 @@ fn factored(s: Settings, c: Common, rtol: &[f64], atol: &[f64], work: &mut [f64]
     ensures { λ r. ⌜ leaving (now (ipiv .exit)) (kept r (now (work .exit)))
         ≡ factoredOf s c (now (rtol .entry)) (now (atol .entry)) (now (ipiv .entry)) (now (work .entry)) ⌝ }
 {
-    let f = corrector::finish_jacobian(s, c, work, ipiv);
+    let f = jacobian::finish_jacobian(s, c, work, ipiv);
     let done = f.done;
     let d = f.common;
     if done {
@@ -400,7 +400,7 @@ fn ask_column(s: Settings, c: Common, j: usize, work: &mut [f64]) -> Turn
     requires { ⌜ 19 * s .n ≤ length (now work) ⌝ }
     ensures { λ r. ⌜ kept r (now (work .exit)) ≡ askColumnOf s c j (now (work .entry)) ⌝ }
 {
-    corrector::perturb(s, c, work, j);
+    jacobian::perturb(s, c, work, j);
     let mut d = c;
     d.column = j;
     ask_in_step(d, Phase::DifferenceColumn)
@@ -413,7 +413,7 @@ fn begin_jacobian(s: Settings, c: Common, work: &mut [f64]) -> Turn
     requires { ⌜ 19 * s .n ≤ length (now work) ⌝ }
     ensures { λ r. ⌜ kept r (now (work .exit)) ≡ beginJacobianOf s c (now (work .entry)) ⌝ }
 {
-    let d = corrector::begin_jacobian(c);
+    let d = jacobian::begin_jacobian(c);
     let meth = c.meth;
     if common::is_bdf(meth) {
         let supplied = s.supplied;
@@ -458,7 +458,7 @@ fn jacobian(s: Settings, c: Common, rtol: &[f64], atol: &[f64], f: &[f64], work:
         ≡ jacobianOf s c (now (rtol .entry)) (now (atol .entry)) (now (f .entry))
             (now (ipiv .entry)) (now (work .entry)) ⌝ }
 {
-    corrector::store_jacobian(s, c, work, f);
+    jacobian::store_jacobian(s, c, work, f);
     factored(s, c, rtol, atol, work, ipiv)
 }
 
@@ -476,7 +476,7 @@ fn column(s: Settings, c: Common, rtol: &[f64], atol: &[f64], f: &[f64], work: &
 {
     history::store(work, 15 * s.n, f);
     let j = c.column;
-    corrector::store_column(s, c, work, j);
+    jacobian::store_column(s, c, work, j);
     if j + 1 < s.n {
         return ask_column(s, c, j + 1, work);
     }

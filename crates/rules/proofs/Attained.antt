@@ -22,8 +22,8 @@ use Rattle.common.specs.Rules.{firstCallInitOf, resetOf}
 use Rattle.history.specs.Columns.{predictColumnsOf, retractColumnsOf, scaleColumnOf, rescaleColumnsOf}
 use Rattle.history.specs.Columns.{copyOf, slopeOf, fillOf}
 use Rattle.history.specs.Steps.{limitedOf, adjustOf, staleOf, predictedOf}
+use Rattle.verdict.specs.Verdict.{judgeOf, ratedOf, dconOf, estimatedOf, convergedOf, giveUpOf, furtherOf, testedOf}
 use Rattle.corrector.specs.Iterate.{openOf, adamsResidualOf, adamsUpdateOf, adamsOf, correctOf}
-use Rattle.corrector.specs.Verdict.{judgeOf, ratedOf, dconOf, estimatedOf, convergedOf, giveUpOf, furtherOf, testedOf}
 use Rattle.attempt.specs.Attempt.{retractedOf, repredictOf, errorOf, shrunkOf, tenthOf, missedAt, missedOf, overshotOf}
 use Rattle.attempt.specs.Attempt.{failedOf, restepOf}
 use Rattle.machine.specs.declared.Answer.the-variants.{Continue}

@@ -11,8 +11,8 @@ use lib.Ieee.{Float}
 use Rattle.vectors.specs.declared.Weights.{Weights}
 use Rattle.vectors.specs.declared.Weights.the-variants.{Inverted, Refused}
 use Rattle.common.specs.declared.Settings.{Settings}
-use Rattle.corrector.specs.declared.Pass.{Pass}
-use Rattle.corrector.specs.declared.Pass.the-variants.{Converged, Retry, NoConvergence, Further}
+use Rattle.verdict.specs.declared.Pass.{Pass}
+use Rattle.verdict.specs.declared.Pass.the-variants.{Converged, Retry, NoConvergence, Further}
 use Rattle.attempt.specs.declared.Next.{Next}
 use Rattle.attempt.specs.declared.Next.the-variants as Next
 use Rattle.machine.specs.declared.Answer.{Answer}

@@ -15,11 +15,12 @@ use Rattle.common.specs.declared.MethodFamily.the-variants.{Bdf}
 use Rattle.common.specs.declared.Settings.{Settings}
 use Rattle.common.specs.declared.Common.{Common}
 use Rattle.common.specs.Record.{with-column, with-nje}
-use Rattle.corrector.specs.declared.Pass.{Pass}
-use Rattle.corrector.specs.declared.Pass.the-variants.{Converged, Retry, NoConvergence, Further}
-use Rattle.corrector.specs.Jacobian.{beginOf}
-use Rattle.corrector.proofs.Laws.{SameStep, same-begin, begin-flags, same-open, open-flags, same-judge, judged}
-use Rattle.corrector.proofs.Laws.{counted, same-finished, finished-flags}
+use Rattle.jacobian.specs.Jacobian.{beginOf}
+use Rattle.jacobian.proofs.Laws.{SameStep, same-begin, begin-flags, counted, same-finished, finished-flags}
+use Rattle.verdict.specs.declared.Pass.{Pass}
+use Rattle.verdict.specs.declared.Pass.the-variants.{Converged, Retry, NoConvergence, Further}
+use Rattle.verdict.proofs.Laws.{same-judge, judged}
+use Rattle.corrector.proofs.Laws.{same-open, open-flags}
 use Rattle.machine.specs.Pass.{isSupplied}
 use Rattle.rules.specs.Play.{Given, State, Play}
 use Rattle.rules.specs.Pass.{askedInStep, stored, Outcome, converged, toRetry, unconverged}

@@ -15,7 +15,7 @@ use Rattle.common.specs.declared.MethodFamily.the-variants.{Adams, Bdf}
 use Rattle.common.specs.declared.Settings.{Settings}
 use Rattle.common.specs.declared.Common.{Common}
 use Rattle.common.specs.Rules.{icount20}
-use Rattle.corrector.proofs.Laws.{SameStep}
+use Rattle.jacobian.proofs.Laws.{SameStep}
 use Rattle.machine.specs.Ranges.{Accepted}
 use Rattle.rules.specs.Play.{Given, State, Limits, Play}
 use Rattle.rules.specs.Rules.{limitsOf}

@@ -1,5 +1,6 @@
 -- A corrector pass: one derivative, a Jacobian if one is due, which by differences is one derivative a column, and then
--- at most maxcor - 1 further derivatives. The matrix, the iteration and its verdict are those of crate corrector.
+-- at most maxcor - 1 further derivatives. The matrix, the iteration and its verdict are those of crates jacobian,
+-- corrector and verdict.
 -- `on` is what comes after. A bound of a recursion is its first argument: further derivatives, columns.
 use mathlib.Core.Bool.{Bool, true, false}
 use mathlib.Core.List.{List}
@@ -13,9 +14,9 @@ use Rattle.common.specs.declared.Common.{Common}
 use Rattle.common.specs.Layout.{y, yfd}
 use Rattle.common.specs.Record.{with-nfe, with-count, with-column}
 use Rattle.history.specs.Columns.{copyOf, fillOf}
-use Rattle.corrector.specs.declared.Pass.{Pass}
-use Rattle.corrector.specs.declared.Pass.the-variants.{Converged, Retry, NoConvergence, Further}
-use Rattle.corrector.specs.Jacobian.{beginOf, perturbOf, restoreOf, suppliedOf, Factored, finishedOf as factorsOf}
+use Rattle.jacobian.specs.Jacobian.{beginOf, perturbOf, restoreOf, suppliedOf, Factored, finishedOf as factorsOf}
+use Rattle.verdict.specs.declared.Pass.{Pass}
+use Rattle.verdict.specs.declared.Pass.the-variants.{Converged, Retry, NoConvergence, Further}
 use Rattle.corrector.specs.Iterate.{openOf, correctOf}
 use Rattle.attempt.specs.Attempt.{Moved}
 use Rattle.machine.specs.Pass.{verdictOf, withDerivative, isSupplied}

@@ -2,7 +2,7 @@
 use native.Mathlib.Omega.{arith}
 use borrow.Author.Needs.{needs}
 use Rattle.corrector.specs.Iterate.{adamsOf}
-use Rattle.corrector.proofs.Shared.{order-used}
+use Rattle.verdict.proofs.Shared.{order-used}
 use Rattle.corrector.proofs.correct_adams.Statement.{statement}
 use Rattle.corrector.proofs.correct_adams.Tie as tie
 

@@ -5,7 +5,8 @@ use native.Mathlib.Omega.{arith}
 use borrow.Author.Needs.{needs}
 use Rattle.dense.specs.Solve.{solveOf}
 use Rattle.corrector.specs.Iterate.{bdfOf}
-use Rattle.corrector.proofs.Shared.{order-used, ok-done, ok-singular}
+use Rattle.jacobian.proofs.Shared.{ok-done, ok-singular}
+use Rattle.verdict.proofs.Shared.{order-used}
 use Rattle.corrector.proofs.correct_bdf.Statement.{statement}
 use Rattle.corrector.proofs.correct_bdf.Tie as tie
 

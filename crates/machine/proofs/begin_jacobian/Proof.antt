@@ -5,7 +5,7 @@ use mathlib.Core.Bool.{false}
 use mathlib.Core.Logic.{⊎-elim}
 use native.Mathlib.Omega.{arith}
 use borrow.Author.Needs.{needs}
-use Rattle.corrector.specs.Jacobian.{beginOf}
+use Rattle.jacobian.specs.Jacobian.{beginOf}
 use Rattle.machine.specs.Pass.{beginJacobianOf, beginJacobianAt, isSupplied}
 use Rattle.machine.proofs.begin_jacobian.Statement.{statement}
 use Rattle.machine.proofs.begin_jacobian.Tie as tie

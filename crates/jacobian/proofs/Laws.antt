@@ -1,0 +1,157 @@
+-- What callers need of the definitions.
+--     length-..               work and pivots keep their lengths
+--     finished-below          a factoring leaves every pivot below n if all were before
+--     SameStep                the fields of the record that a corrector pass leaves alone, whatever the floats
+--     same-begin, same-finished     what changes of these fields, if anything
+--     in-range-..             what stays in range
+-- Assumes nothing.
+use mathlib.Core.Path.{_≡_, refl, _∙_}
+use mathlib.Core.List.{List}
+use mathlib.Core.Bool.{Bool, true, false, cond}
+use Prim.Native.Nat.{ℕ, _+_, _*_, _^_, _≤_, _<_}
+use native.Mathlib.Omega.{arith}
+use lib.ListN.{length, getD, length-set}
+use lib.Ieee.{Float, nan}
+use Rattle.loops.specs.Part.{length-part, length-putPart}
+use Rattle.numbers.specs.Float.{_⊕_, _⊖_, _⊗_, oneF}
+use Rattle.dense.proofs.Laws.{Below, length-factor-a, length-factor-ipiv, factor-below}
+use Rattle.common.specs.declared.Settings.{Settings}
+use Rattle.common.specs.declared.Common.{Common}
+use Rattle.common.specs.Record.{with-nje, with-nslp, with-nlu}
+use Rattle.common.specs.Layout.{matrix}
+use Rattle.history.specs.Steps.{InRange}
+use Rattle.history.proofs.Laws.{length-stores, same-range}
+use Rattle.jacobian.specs.Jacobian.{beginOf, minusHl0, perturbOf, columnOf, restoreOf, suppliedOf}
+use Rattle.jacobian.specs.Jacobian.{identityOf, factoredOf, inForce, finishedOf}
+
+-- ---- lengths
+
+module _ (s : Settings) (c : Common) (work : List Float) where
+  pub length-perturb : (j : ℕ) → length (perturbOf s c j work) ≡ length work
+  unfolding perturbOf
+  length-perturb j = simp length-set
+
+  pub length-supplied : (jac : List Float) → length (suppliedOf s c jac work) ≡ length work
+  unfolding suppliedOf
+  length-supplied jac =
+      length-stores (λ i. 19 * s .n + i) (λ i t. minusHl0 c ⊗ getD jac i nan) 0 (length jac) work
+
+pub length-column : (n j : ℕ) (fac : Float) (work : List Float) → length (columnOf n j fac work) ≡ length work
+unfolding columnOf
+length-column n j fac work =
+    length-stores (λ i. 19 * n + (i + j * n)) (λ i t. (getD t (15 * n + i) nan ⊖ getD t (14 * n + i) nan) ⊗ fac)
+    0 n work
+
+pub length-restore : (s : Settings) (c : Common) (j : ℕ) (work : List Float)
+    → length (restoreOf s c j work) ≡ length work
+unfolding restoreOf
+length-restore s c j work = simp length-set (length-column (s .n) j _ work)
+
+pub length-identity : (n : ℕ) (work : List Float) → length (identityOf n work) ≡ length work
+unfolding identityOf
+length-identity n work =
+    length-stores (λ i. 19 * n + (i + i * n)) (λ i t. getD t (19 * n + (i + i * n)) nan ⊕ oneF) 0 n work
+
+module _ (s : Settings) (c : Common) (work : List Float) (ipiv : List ℕ) where
+  pub length-finished : s .n * s .n + 19 * s .n ≤ length work → length (finishedOf s c work ipiv .work) ≡ length work
+  unfolding finishedOf
+  length-finished room =
+      let n = s .n in
+      let w = identityOf n work in
+      let fits : 19 * n + n * n ≤ length w = omega (arith, length-identity n work) in
+      let a = factoredOf n w ipiv .a in
+      let same = length-factor-a n (matrix n w) ipiv ∙ length-part (19 * n) (n * n) w fits in
+      length-putPart (19 * n) (n * n) w fits a same ∙ length-identity n work
+
+  pub length-finished-ipiv : length (finishedOf s c work ipiv .ipiv) ≡ length ipiv
+  unfolding finishedOf
+  length-finished-ipiv = length-factor-ipiv (s .n) (matrix (s .n) (identityOf (s .n) work)) ipiv
+
+  pub finished-below : Below (s .n) ipiv → Below (s .n) (finishedOf s c work ipiv .ipiv)
+  unfolding finishedOf
+  finished-below p = factor-below (s .n) (matrix (s .n) (identityOf (s .n) work)) ipiv p
+
+-- ---- the record
+
+-- d has the family, order, places, counts and time of c
+pub record SameStep (c d : Common) : Type 0 where
+  pub meth : d .meth ≡ c .meth
+  pub nq : d .nq ≡ c .nq
+  pub lmax : d .lmax ≡ c .lmax
+  pub nqnyh : d .nqnyh ≡ c .nqnyh
+  pub table : d .table ≡ c .table
+  pub ialth : d .ialth ≡ c .ialth
+  pub icount : d .icount ≡ c .icount
+  pub nslp : d .nslp ≡ c .nslp
+  pub nst : d .nst ≡ c .nst
+  pub nfe : d .nfe ≡ c .nfe
+  pub nje : d .nje ≡ c .nje
+  pub nlu : d .nlu ≡ c .nlu
+  pub rejected : d .rejected ≡ c .rejected
+  pub total : d .total ≡ c .total
+  pub count : d .count ≡ c .count
+  pub kflag : d .kflag ≡ c .kflag
+  pub ncf : d .ncf ≡ c .ncf
+  pub column : d .column ≡ c .column
+  pub setup : d .setup ≡ c .setup
+  pub tn : d .tn ≡ c .tn
+  pub h : d .h ≡ c .h
+  pub told : d .told ≡ c .told
+
+-- c, with the fields of d that a pass may change
+abbrev pub moved : Common → Common → Common
+moved d c = record {
+      tn = c .tn; h = c .h; hu = c .hu; told = c .told; rc = d .rc; el0 = c .el0; conit = c .conit; rmax = c .rmax;
+      pdest = d .pdest; pdlast = d .pdlast; pdnorm = d .pdnorm; convrate = d .convrate; pnorm = c .pnorm;
+      rate = d .rate; delp = d .delp; meth = c .meth; nq = c .nq; lmax = c .lmax; nqnyh = c .nqnyh; ialth = c .ialth;
+      icount = c .icount; table = c .table; nslp = c .nslp; nst = c .nst; nfe = c .nfe; nje = c .nje; nlu = c .nlu;
+      rejected = c .rejected; total = c .total; count = c .count; kflag = c .kflag; ncf = c .ncf; m = d .m;
+      column = c .column; due = d .due; jcur = d .jcur; setup = c .setup;
+}
+
+pub same-moved : (c d : Common) → SameStep c (moved d c)
+same-moved c d =
+    record {
+      meth = refl; nq = refl; lmax = refl; nqnyh = refl; table = refl; ialth = refl; icount = refl; nslp = refl;
+      nst = refl; nfe = refl; nje = refl; nlu = refl; rejected = refl; total = refl; count = refl; kflag = refl;
+      ncf = refl; column = refl; setup = refl; tn = refl; h = refl; told = refl;
+    }
+
+pub in-range-same : {s : Settings} {c : Common} (d : Common) → SameStep c d → InRange s c → InRange s d
+in-range-same d q p = same-range d (q .nq) (q .table) (q .nqnyh) (q .nslp) p
+
+pub same-begin : (c : Common) → SameStep (with-nje (c .nje + 1) c) (beginOf c)
+unfolding beginOf
+same-begin c = same-moved (with-nje (c .nje + 1) c) (beginOf c)
+
+pub same-in-force : (c : Common) (norm : Float) (done : Bool)
+    → SameStep (with-nslp (c .nst) (with-nlu (cond done (c .nlu + 1) (c .nlu)) c)) (inForce c norm done)
+same-in-force c norm done = same-moved _ (inForce c norm done)
+
+-- jcur, due and m: a Jacobian that begins is current and no longer due
+pub begin-flags : (c : Common) → (beginOf c .jcur ≡ true) × (beginOf c .due ≡ false) × (beginOf c .m ≡ c .m)
+unfolding beginOf
+begin-flags c = (refl, refl, refl)
+
+pub in-range-begin : (s : Settings) (c : Common) → InRange s c → InRange s (beginOf c)
+unfolding beginOf
+in-range-begin s c p = same-range _ refl refl refl refl p
+
+module _ (s : Settings) (c : Common) (work : List Float) (ipiv : List ℕ) where
+  -- the record after the factoring: nslp is nst, and nlu is raised where the factoring went through
+  abbrev pub counted : Common
+  counted = with-nslp (c .nst) (with-nlu (cond (finishedOf s c work ipiv .done) (c .nlu + 1) (c .nlu)) c)
+
+  pub same-finished : SameStep counted (finishedOf s c work ipiv .common)
+  unfolding finishedOf
+  same-finished = same-in-force c _ (finishedOf s c work ipiv .done)
+
+  pub finished-flags : (finishedOf s c work ipiv .common .jcur ≡ c .jcur)
+      × (finishedOf s c work ipiv .common .due ≡ c .due) × (finishedOf s c work ipiv .common .m ≡ c .m)
+  unfolding finishedOf
+  finished-flags = (refl, refl, refl)
+
+  pub in-range-finished : c .nst < 2 ^ 62 → InRange s c → InRange s (finishedOf s c work ipiv .common)
+  unfolding finishedOf
+  in-range-finished few p =
+      record { n = p .n; order = p .order; table = p .table; used = p .used; steps = (few, p .steps .1) }

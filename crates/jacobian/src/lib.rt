@@ -1,0 +1,158 @@
+// The Jacobian of the corrector, `prja` in its parts: the matrix by differences or from the host, its norm and factors.
+ghost use mathlib.Core.Path.{_≡_};
+ghost use Prim.Native.Nat.{_+_, _*_, _^_, _≤_, _<_};
+ghost use lib.ListN.{length};
+ghost use Rattle.jacobian.specs.Jacobian.{beginOf, r0Of, incrementOf, perturbOf, columnOf, restoreOf};
+ghost use Rattle.jacobian.specs.Jacobian.{suppliedOf, identityOf, factoredOf, inForce, Factored, finishedOf};
+ghost use Rattle.loops.specs.Part.{putPart};
+use common::Common;
+use common::Settings;
+
+pub struct Factoring {
+    pub done: bool,
+    pub common: Common,
+}
+
+// A Jacobian begins: it is counted, and made in this pass.
+pub fn begin_jacobian(c: Common) -> Common
+    requires { ⌜ c .nje < 2 ^ 63 ⌝ }
+    ensures { λ r. ⌜ r ≡ beginOf c ⌝ }
+{
+    let mut d = c;
+    d.nje = c.nje + 1;
+    d.jcur = true;
+    d.due = false;
+    d
+}
+
+// The least increment of a difference column, before its weight.
+fn r0(s: Settings, c: Common, work: &[f64]) -> f64
+    requires { ⌜ (s .n ≤ 64) × (19 * s .n ≤ length (now work)) ⌝ }
+    ensures { λ r. ⌜ r ≡ r0Of s c (now (work .entry)) ⌝ }
+{
+    let n = s.n;
+    let a = 14 * n;
+    let b = 15 * n;
+    let w = 13 * n;
+    let fac = vectors::vmnorm(&work[a..b], &work[w..a]).value;
+    let count = n as u32;
+    let r = 1000.0 * numbers::abs(c.h) * 2.220446049250313e-16 * count as f64 * fac;
+    if r == 0.0 {
+        return 1.0;
+    }
+    r
+}
+
+// The increment of state j in its difference column.
+fn increment(s: Settings, c: Common, work: &[f64], j: usize) -> f64
+    requires { ⌜ (s .n ≤ 64) × (19 * s .n ≤ length (now work)) × (j < s .n) ⌝ }
+    ensures { λ r. ⌜ r ≡ incrementOf s c (now (work .entry)) j ⌝ }
+{
+    let n = s.n;
+    let r = r0(s, c, work);
+    numbers::max(1.4901161193847656e-8 * numbers::abs(work[17 * n + j]), r / work[13 * n + j])
+}
+
+// State j of y_fd is moved by its increment.
+pub fn perturb(s: Settings, c: Common, work: &mut [f64], j: usize)
+    requires { ⌜ (s .n ≤ 64) × (19 * s .n ≤ length (now work)) × (j < s .n) ⌝ }
+    ensures { λ _. ⌜ now (work .exit) ≡ perturbOf s c j (now (work .entry)) ⌝ }
+{
+    let n = s.n;
+    let r = increment(s, c, work, j);
+    work[18 * n + j] = work[17 * n + j] + r;
+}
+
+// Column j of the matrix from the derivative in ftem at the moved state.
+fn difference_column(work: &mut [f64], n: usize, j: usize, fac: f64)
+    requires { ⌜ (j * n + n ≤ n * n) × (n * n + 19 * n ≤ length (now work)) ⌝ }
+    ensures { λ _. ⌜ now (work .exit) ≡ columnOf n j fac (now (work .entry)) ⌝ }
+{
+    for i in 0..n {
+        work[19 * n + (i + j * n)] = (work[15 * n + i] - work[14 * n + i]) * fac;
+    }
+}
+
+// The derivative at the moved state is taken: its column is stored, and state j of y_fd is put back.
+pub fn store_column(s: Settings, c: Common, work: &mut [f64], j: usize)
+    requires { ⌜ (s .n ≤ 64) × (s .n * s .n + 19 * s .n ≤ length (now work)) × (j < s .n) ⌝ }
+    ensures { λ _. ⌜ now (work .exit) ≡ restoreOf s c j (now (work .entry)) ⌝ }
+{
+    let n = s.n;
+    let fac = -(c.h * c.el0) / increment(s, c, work, j);
+    difference_column(work, n, j, fac);
+    work[18 * n + j] = work[17 * n + j];
+}
+
+// The host's Jacobian, column by column, scaled into the matrix.
+pub fn store_jacobian(s: Settings, c: Common, work: &mut [f64], jac: &[f64])
+    requires { ⌜ (s .n ≤ 64) × (19 * s .n + length (now jac) ≤ length (now work)) ⌝ }
+    ensures { λ _. ⌜ now (work .exit) ≡ suppliedOf s c (now (jac .entry)) (now (work .entry)) ⌝ }
+{
+    let at = 19 * s.n;
+    let scale = -(c.h * c.el0);
+    for i in 0..jac.len() {
+        work[at + i] = scale * jac[i];
+    }
+}
+
+// The identity added to the matrix.
+fn add_identity(work: &mut [f64], n: usize)
+    requires { ⌜ n * n + 19 * n ≤ length (now work) ⌝ }
+    ensures { λ _. ⌜ now (work .exit) ≡ identityOf n (now (work .entry)) ⌝ }
+{
+    for i in 0..n {
+        work[19 * n + (i + i * n)] += 1.0;
+    }
+}
+
+// The matrix replaced by its factors. False where a pivot was zero.
+fn factor(work: &mut [f64], n: usize, ipiv: &mut [usize]) -> bool
+    requires { ⌜ (n * n + 19 * n ≤ length (now work)) × (n ≤ length (now ipiv)) ⌝ }
+    ensures { λ r. ⌜ (now (work .exit) ≡ putPart (19 * n) (n * n) (now (work .entry))
+        (factoredOf n (now (work .entry)) (now (ipiv .entry)) .a))
+        × (now (ipiv .exit) ≡ factoredOf n (now (work .entry)) (now (ipiv .entry)) .ipiv)
+        × (r ≡ factoredOf n (now (work .entry)) (now (ipiv .entry)) .ok) ⌝ }
+{
+    let a = 19 * n;
+    let e = a + n * n;
+    match dense::dense_lu_factor(&mut work[a..e], n, ipiv) {
+        dense::Outcome::Done => true,
+        dense::Outcome::Singular => false,
+    }
+}
+
+// The record with a Jacobian of this norm in force; a factoring that went through is counted.
+fn in_force(c: Common, norm: f64, done: bool) -> Common
+    requires { ⌜ c .nlu < 2 ^ 63 ⌝ }
+    ensures { λ r. ⌜ r ≡ inForce c norm done ⌝ }
+{
+    let mut d = c;
+    d.pdnorm = norm / numbers::abs(c.h * c.el0);
+    d.rc = 1.0;
+    d.nslp = c.nst;
+    d.convrate = 0.7;
+    if done {
+        d.nlu = c.nlu + 1;
+    }
+    d
+}
+
+// The matrix's norm, the identity and the factors; a Jacobian is in force from here.
+pub fn finish_jacobian(s: Settings, c: Common, work: &mut [f64], ipiv: &mut [usize]) -> Factoring
+    requires { ⌜ (s .n ≤ 64) × (s .n * s .n + 19 * s .n ≤ length (now work)) × (s .n ≤ length (now ipiv)) ⌝ }
+    requires { ⌜ c .nlu < 2 ^ 63 ⌝ }
+    ensures { λ r. ⌜ _≡_ {A = Factored}
+        (record { done = r .done; common = r .common; work = now (work .exit); ipiv = now (ipiv .exit) })
+        (finishedOf s c (now (work .entry)) (now (ipiv .entry))) ⌝ }
+{
+    let n = s.n;
+    let a = 19 * n;
+    let e = a + n * n;
+    let w = 13 * n;
+    let we = 14 * n;
+    let norm = vectors::fnorm_dense(n, &work[a..e], &work[w..we]).value;
+    add_identity(work, n);
+    let done = factor(work, n, ipiv);
+    Factoring { done: done, common: in_force(c, norm, done) }
+}

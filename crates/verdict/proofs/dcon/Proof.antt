@@ -1,0 +1,18 @@
+-- `dcon` meets its contract: the sum with what its callees give. Assumes nothing.
+use borrow.Author.Needs.{needs}
+use Rattle.verdict.specs.Verdict.{dconOf}
+use Rattle.verdict.proofs.dcon.Statement.{statement}
+use Rattle.verdict.proofs.dcon.Tie as tie
+
+min-requires : tie.Need-min-requires
+min-requires c κs = search needs
+
+tesco-requires : tie.Need-tesco-requires
+tesco-requires c κs = search needs
+
+returns : tie.Need-returns
+unfolding dconOf
+returns c = rw (c .before .tesco .ensures, c .before .before .min .ensures)
+
+pub dcon-spec : {M : Type 1} → statement M
+dcon-spec = tie.close (tie.spec min-requires tesco-requires returns)
