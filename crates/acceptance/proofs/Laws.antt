@@ -20,11 +20,12 @@ use Rattle.common.specs.Layout.{ewt}
 use Rattle.common.specs.Rules.{icount20}
 use Rattle.history.specs.Columns.{scalePartOf, correctColumnsOf}
 use Rattle.history.proofs.Laws.{length-scale-part, length-correct}
-use Rattle.acceptance.specs.declared.Branch.the-variants.{FamilyChanged}
-use Rattle.acceptance.specs.Order.{Settled}
+use Rattle.order.specs.declared.Branch.the-variants.{FamilyChanged}
+use Rattle.order.specs.Order.{Settled}
+use Rattle.order.proofs.Ranges.{Ready, same-ready}
+use Rattle.order.proofs.Moves.{Moves}
 use Rattle.acceptance.specs.Accept.{correctedOf, acceptOf, closedOf}
-use Rattle.acceptance.proofs.Ranges.{Ready, same-ready}
-use Rattle.acceptance.proofs.Moves.{Moves, test-moves}
+use Rattle.acceptance.proofs.Moves.{test-moves}
 
 -- ---- an accepted step
 

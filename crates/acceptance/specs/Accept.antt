@@ -15,12 +15,12 @@ use Rattle.common.specs.declared.Common.{Common}
 use Rattle.common.specs.Layout.{ewt}
 use Rattle.common.specs.Record.{with-kflag, with-m, with-nst, with-hu, with-icount, with-ialth}
 use Rattle.history.specs.Columns.{correctColumnsOf, scalePartOf}
-use Rattle.acceptance.specs.declared.Branch.{Branch}
-use Rattle.acceptance.specs.declared.Branch.the-variants.{Unchanged, FamilyChanged, CoefficientGap}
-use Rattle.acceptance.specs.declared.Change.{Change}
-use Rattle.acceptance.specs.declared.Change.the-variants.{Stay, Gap, To}
-use Rattle.acceptance.specs.Family.{Moved, changeOf, changedOf}
-use Rattle.acceptance.specs.Order.{Settled, chooseOrderOf}
+use Rattle.family.specs.declared.Change.{Change}
+use Rattle.family.specs.declared.Change.the-variants.{Stay, Gap, To}
+use Rattle.family.specs.Family.{Moved, changeOf, changedOf}
+use Rattle.order.specs.declared.Branch.{Branch}
+use Rattle.order.specs.declared.Branch.the-variants.{Unchanged, FamilyChanged, CoefficientGap}
+use Rattle.order.specs.Order.{Settled, chooseOrderOf}
 
 -- the accepted count is raised first
 unfoldable pub correctedOf : Common → Common

@@ -1,4 +1,1 @@
-pub mod Size
-pub mod Family
-pub mod Order
 pub mod Accept

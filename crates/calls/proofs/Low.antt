@@ -24,14 +24,14 @@ use Rattle.attempt.specs.Attempt.{retractedOf, retractedWork, repredictOf, unco
 use Rattle.attempt.specs.Attempt.{quarteredOf, noConvergenceAt, noConvergenceOf, tenthOf, missedAt}
 use Rattle.attempt.specs.Attempt.{overshotOf, failedOf, loweredOf}
 use Rattle.attempt.specs.Attempt as Attempt
-use Rattle.acceptance.specs.declared.Branch.{Branch}
-use Rattle.acceptance.specs.declared.Change.{Change}
-use Rattle.acceptance.specs.declared.Change.the-variants.{Stay, Gap, To}
-use Rattle.acceptance.specs.declared.Factors.{Factors}
-use Rattle.acceptance.specs.declared.Proposal.{Proposal}
-use Rattle.acceptance.specs.Family.{changeOf, changedOf}
-use Rattle.acceptance.specs.Order.{Settled, heldOf, settledOf, raiseOf, lowerOf, sameLargest, chooseOf}
-use Rattle.acceptance.specs.Order.{forgottenOf, factorsOf as sizesOf, limitedFactorsOf, raisedLeftOf, chooseOrderOf}
+use Rattle.family.specs.declared.Change.{Change}
+use Rattle.family.specs.declared.Change.the-variants.{Stay, Gap, To}
+use Rattle.family.specs.declared.Proposal.{Proposal}
+use Rattle.family.specs.Family.{changeOf, changedOf}
+use Rattle.order.specs.declared.Branch.{Branch}
+use Rattle.order.specs.declared.Factors.{Factors}
+use Rattle.order.specs.Order.{Settled, heldOf, settledOf, raiseOf, lowerOf, sameLargest, chooseOf}
+use Rattle.order.specs.Order.{forgottenOf, factorsOf as sizesOf, limitedFactorsOf, raisedLeftOf, chooseOrderOf}
 use Rattle.acceptance.specs.Accept.{correctedOf, countedDown, keepFamilyOf, testedOf, testFamilyOf, acceptOf}
 use Rattle.machine.specs.Begin.{setupOf}
 use Rattle.fits.proofs.Floats.{either}

@@ -12,15 +12,15 @@ use Rattle.common.specs.declared.Common.{Common}
 use Rattle.common.specs.Record.{isBdf, with-nq}
 use Rattle.common.specs.Rules.{resetOf}
 use Rattle.history.specs.Columns.{correctColumnsOf}
-use Rattle.acceptance.specs.declared.Branch.{Branch}
-use Rattle.acceptance.specs.declared.Change.{Change}
-use Rattle.acceptance.specs.declared.Change.the-variants.{Stay, Gap, To}
-use Rattle.acceptance.specs.declared.Factors.{Factors}
-use Rattle.acceptance.specs.declared.Move.{Move}
-use Rattle.acceptance.specs.declared.Proposal.{Proposal}
-use Rattle.acceptance.specs.Family.{changeOf, changedOf}
-use Rattle.acceptance.specs.Order.{Settled, heldOf, atOrder, settledOf, raiseOf, lowerOf, sameLargest, chooseOf}
-use Rattle.acceptance.specs.Order.{forgottenOf, factorsOf, limitedFactorsOf, raisedLeftOf, chooseOrderOf}
+use Rattle.family.specs.declared.Change.{Change}
+use Rattle.family.specs.declared.Change.the-variants.{Stay, Gap, To}
+use Rattle.family.specs.declared.Move.{Move}
+use Rattle.family.specs.declared.Proposal.{Proposal}
+use Rattle.family.specs.Family.{changeOf, changedOf}
+use Rattle.order.specs.declared.Branch.{Branch}
+use Rattle.order.specs.declared.Factors.{Factors}
+use Rattle.order.specs.Order.{Settled, heldOf, atOrder, settledOf, raiseOf, lowerOf, sameLargest, chooseOf}
+use Rattle.order.specs.Order.{forgottenOf, factorsOf, limitedFactorsOf, raisedLeftOf, chooseOrderOf}
 use Rattle.acceptance.specs.Accept.{correctedOf, countedDown, keepFamilyOf, testedOf, testFamilyOf, acceptOf}
 use Rattle.session.specs.Fields.{Fit}
 use Rattle.fits.proofs.Floats.{either, literal}

@@ -35,8 +35,8 @@ use Rattle.machine.specs.Pass as Pass
 use Rattle.machine.specs.Reports as Reports
 use Rattle.machine.specs.Resume.{takenOf, resumeOf}
 use Rattle.rules.specs.Rules.{beginning}
-use Rattle.acceptance.specs.Size.{sizeOf}
-use Rattle.acceptance.specs.Order as Order
+use Rattle.family.specs.Size.{sizeOf}
+use Rattle.order.specs.Order as Order
 use Rattle.numbers.specs.Float.{zeroF, oneF, d0·5, d2}
 use Rattle.machine.specs.declared.Answer.the-variants.{Continue}
 use Rattle.machine.specs.declared.Status.{Status}

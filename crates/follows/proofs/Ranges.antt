@@ -28,8 +28,8 @@ use Rattle.corrector.specs.Iterate.{openOf}
 use Rattle.attempt.specs.declared.Next.the-variants.{Pass, Restep}
 use Rattle.attempt.specs.Attempt.{noConvergenceOf, failedOf, restepOf}
 use Rattle.attempt.proofs.Laws.{Kept, unconverged, failed, restepped}
+use Rattle.order.proofs.Ranges.{Ready}
 use Rattle.acceptance.specs.Accept.{acceptOf}
-use Rattle.acceptance.proofs.Ranges.{Ready}
 use Rattle.acceptance.proofs.Laws.{accept-keeps}
 use Rattle.machine.specs.Ranges.{Accepted, Orders}
 use Rattle.machine.specs.Begin.{isCut, cutOf, setupOf, preparedAt, preparedOf}

@@ -31,8 +31,8 @@ use Rattle.corrector.proofs.Laws.{length-iteration}
 use Rattle.attempt.specs.declared.Next.{Next}
 use Rattle.attempt.specs.declared.Next.the-variants as Next
 use Rattle.attempt.proofs.Laws.{unconverged, failed}
-use Rattle.acceptance.specs.declared.Branch.{Branch}
-use Rattle.acceptance.specs.declared.Branch.the-variants as Branch
+use Rattle.order.specs.declared.Branch.{Branch}
+use Rattle.order.specs.declared.Branch.the-variants as Branch
 use Rattle.acceptance.proofs.Laws.{length-accept, length-closed}
 use Rattle.machine.specs.declared.Answer.the-variants.{Modified}
 use Rattle.machine.specs.declared.Phase.{Phase}

@@ -15,8 +15,8 @@ use Rattle.vectors.specs.declared.Weights.the-variants.{Inverted, Refused}
 use Rattle.common.specs.Limits.{mxncfOf}
 use Rattle.attempt.specs.declared.Next.{Next}
 use Rattle.attempt.specs.declared.Next.the-variants as Next
-use Rattle.acceptance.specs.declared.Branch.{Branch}
-use Rattle.acceptance.specs.declared.Branch.the-variants as Branch
+use Rattle.order.specs.declared.Branch.{Branch}
+use Rattle.order.specs.declared.Branch.the-variants as Branch
 use Rattle.machine.specs.declared.Answer.{Answer}
 use Rattle.machine.specs.declared.Answer.the-variants.{Continue, Interrupt, Modified}
 use Rattle.machine.specs.declared.Phase.the-variants as Phase

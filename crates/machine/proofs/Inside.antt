@@ -22,7 +22,7 @@ use Rattle.verdict.specs.Verdict.{judgeOf}
 use Rattle.verdict.proofs.Laws.{same-judge, judged}
 use Rattle.corrector.specs.Iterate.{openOf}
 use Rattle.corrector.proofs.Laws.{same-open, open-flags}
-use Rattle.acceptance.proofs.Ranges.{Ready}
+use Rattle.order.proofs.Ranges.{Ready}
 use Rattle.machine.specs.Ranges.{Accepted, Orders, Ranges, Lent}
 use Rattle.machine.specs.Requires.{Inside}
 use Rattle.machine.specs.Reports.{restartOf}

@@ -32,8 +32,8 @@ use Rattle.corrector.proofs.Laws.{same-open, open-flags}
 use Rattle.attempt.specs.declared.Next.the-variants.{Pass, Restep}
 use Rattle.attempt.specs.Attempt.{Moved, noConvergenceOf, failedOf, restepOf}
 use Rattle.attempt.proofs.Laws.{unconverged, failed, restepped}
+use Rattle.order.proofs.Ranges.{Ready}
 use Rattle.acceptance.specs.Accept.{acceptOf}
-use Rattle.acceptance.proofs.Ranges.{Ready}
 use Rattle.acceptance.proofs.Laws.{accept-keeps}
 use Rattle.machine.specs.declared.Phase.{Phase}
 use Rattle.machine.specs.Ranges.{Accepted, Orders}

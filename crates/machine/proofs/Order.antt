@@ -25,8 +25,8 @@ use Rattle.attempt.specs.declared.Next.{Next}
 use Rattle.attempt.specs.declared.Next.the-variants as Next
 use Rattle.attempt.specs.Attempt.{errorOf}
 use Rattle.attempt.proofs.Laws.{unconverged, failed, restepped}
-use Rattle.acceptance.specs.declared.Branch.{Branch}
-use Rattle.acceptance.specs.declared.Branch.the-variants as Branch
+use Rattle.order.specs.declared.Branch.{Branch}
+use Rattle.order.specs.declared.Branch.the-variants as Branch
 use Rattle.acceptance.proofs.Laws.{accept-keeps}
 use Rattle.machine.specs.declared.Answer.{Answer}
 use Rattle.machine.specs.declared.Answer.the-variants.{Continue, Interrupt, Modified}

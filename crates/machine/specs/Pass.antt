@@ -28,9 +28,9 @@ use Rattle.attempt.specs.declared.Next.{Next}
 use Rattle.attempt.specs.declared.Next.the-variants as Next
 use Rattle.attempt.specs.Attempt.{Attempt, noConvergenceOf, errorOf, failedOf}
 use Rattle.attempt.specs.Attempt as Attempt
-use Rattle.acceptance.specs.declared.Branch.{Branch}
-use Rattle.acceptance.specs.declared.Branch.the-variants.{Unchanged, SmallGain, Lowered, Kept as KeptOrder, Raised}
-use Rattle.acceptance.specs.declared.Branch.the-variants.{HeldBySm1, FamilyChanged, CoefficientGap}
+use Rattle.order.specs.declared.Branch.{Branch}
+use Rattle.order.specs.declared.Branch.the-variants.{Unchanged, SmallGain, Lowered, Kept as KeptOrder, Raised}
+use Rattle.order.specs.declared.Branch.the-variants.{HeldBySm1, FamilyChanged, CoefficientGap}
 use Rattle.acceptance.specs.Accept.{acceptOf, closedOf}
 use Rattle.machine.specs.declared.Phase.the-variants.{JacobianAsked, DifferenceColumn, FurtherDerivative}
 use Rattle.machine.specs.declared.Phase.the-variants.{Restep, Report}

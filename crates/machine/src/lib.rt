@@ -20,11 +20,11 @@ ghost use Rattle.machine.specs.Reports.{takenOf, firstReportOf, firstMod
 ghost use Rattle.machine.specs.Reports.{inverted, modifiedOf};
 ghost use Rattle.machine.specs.Resume.{With, isAsked, resumeOf};
 
-use acceptance::Branch;
 use attempt::Next;
 use common::Common;
 use common::MethodFamily;
 use common::Settings;
+use order::Branch;
 use verdict::Pass;
 
 // What the run waits for.

@@ -5,7 +5,7 @@ use native.Mathlib.Omega.{arith}
 use borrow.Author.Needs.{needs}
 use borrow.Author.Tests.{lt-ltb, le-ltb}
 use Rattle.acceptance.specs.Accept.{changedFamily, testFamilyOf, testedOf}
-use Rattle.acceptance.proofs.Ranges.{orderWithin, change-within}
+use Rattle.family.proofs.Ranges.{orderWithin, change-within}
 use Rattle.acceptance.proofs.test_family.Statement.{statement}
 use Rattle.acceptance.proofs.test_family.Tie as tie
 
