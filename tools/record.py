@@ -95,7 +95,7 @@ COUNTS, FLOATS = 34, 19
 
 
 def phases():
-    text = open("crates/machine/src/lib.rt").read()
+    text = open("crates/turns/src/lib.rt").read()
     return re.findall(r"(\w+),", re.search(r"pub enum Phase \{(.*?)\n\}", text, re.S).group(1))
 
 
@@ -174,7 +174,7 @@ use crate::states::phase_number;
 use common::Common;
 use common::MethodFamily;
 use common::Settings;
-use machine::Session;
+use turns::Session;
 
 // The least value of each word.
 {table("LOWEST", [(bounds(r[2])[0], r[2]) for r in counts])}
@@ -285,7 +285,7 @@ use Rattle.common.specs.declared.MethodFamily.{{MethodFamily}}
 use Rattle.common.specs.declared.MethodFamily.the-variants.{{Adams}}
 use Rattle.common.specs.declared.Settings.{{Settings}}
 use Rattle.common.specs.declared.Common.{{Common}}
-use Rattle.machine.specs.declared.Session.{{Session}}
+use Rattle.turns.specs.declared.Session.{{Session}}
 use Rattle.session.specs.States.{{flagNumber, flagOf, familyNumber, familyOf, phaseNumber}}
 
 -- ---- words 0 to {COUNTS - 1}, and words {COUNTS} to {COUNTS + FLOATS - 1}
@@ -373,9 +373,9 @@ use lib.Ieee.{{ofBits, fits}}
 use Rattle.numbers.specs.Float.{{zeroF}}
 use Rattle.common.specs.declared.MethodFamily.{{MethodFamily}}
 use Rattle.common.specs.declared.MethodFamily.the-variants.{{Adams, Bdf}}
-use Rattle.machine.specs.declared.Phase.{{Phase}}
-use Rattle.machine.specs.declared.Phase.the-variants as Phase
-use Rattle.machine.specs.declared.Session.{{Session}}
+use Rattle.turns.specs.declared.Phase.{{Phase}}
+use Rattle.turns.specs.declared.Phase.the-variants as Phase
+use Rattle.turns.specs.declared.Session.{{Session}}
 use Rattle.session.specs.States.{{flagNumber, familyNumber, phaseNumber}}
 use Rattle.session.specs.Fields.{{countsOf, floatsOf, CountsFit, FloatsFit, Fit}}
 

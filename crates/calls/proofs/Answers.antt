@@ -13,11 +13,11 @@ use lib.Ieee.{Float}
 use lib.ListN.{length}
 use borrow.Author.Tests.{eq-eqb, ne-eqb, le-ltb}
 use Rattle.numbers.specs.Float.{zeroF}
-use Rattle.machine.specs.declared.Phase.{Phase}
-use Rattle.machine.specs.declared.Phase.the-variants as Phase
-use Rattle.machine.specs.declared.Question.{Question}
-use Rattle.machine.specs.declared.Question.the-variants as Question
-use Rattle.machine.specs.Turns.{Left}
+use Rattle.turns.specs.declared.Phase.{Phase}
+use Rattle.turns.specs.declared.Phase.the-variants as Phase
+use Rattle.turns.specs.declared.Question.{Question}
+use Rattle.turns.specs.declared.Question.the-variants as Question
+use Rattle.turns.specs.Turns.{Left}
 use Rattle.machine.specs.Resume.{unasked}
 use Rattle.session.specs.Session.{encodeOf, decodeOf, finishedIn}
 use Rattle.refusals.specs.declared.Refusal.{Refusal}

@@ -11,12 +11,12 @@ use native.Mathlib.Omega.{arith}
 use lib.Dec.{eqb}
 use lib.Ieee.{Float}
 use Rattle.common.specs.declared.Common.{Common}
-use Rattle.machine.specs.declared.Answer.{Answer}
-use Rattle.machine.specs.declared.Question.{Question}
-use Rattle.machine.specs.declared.Question.the-variants as Question
-use Rattle.machine.specs.declared.Status.{Status}
-use Rattle.machine.specs.declared.Status.the-variants as Status
-use Rattle.machine.specs.Turns.{Left}
+use Rattle.turns.specs.declared.Answer.{Answer}
+use Rattle.turns.specs.declared.Question.{Question}
+use Rattle.turns.specs.declared.Question.the-variants as Question
+use Rattle.turns.specs.declared.Status.{Status}
+use Rattle.turns.specs.declared.Status.the-variants as Status
+use Rattle.turns.specs.Turns.{Left}
 use Rattle.session.specs.Session.{decodeOf}
 use Rattle.session.proofs.Within.{both}
 use Rattle.rules.specs.Play.{Given, derivativeAt, jacobianAt, Ending, Play, ret, ask, tell, say}

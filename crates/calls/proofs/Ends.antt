@@ -8,8 +8,8 @@ use mathlib.Core.Path.{_≡_, refl, sym, ap, _∙_}
 use Prim.Native.Nat.{ℕ, suc}
 use native.Mathlib.Omega.{arith}
 use lib.ListN.{length}
-use Rattle.machine.specs.declared.Question.the-variants as Question
-use Rattle.machine.specs.Turns.{Left}
+use Rattle.turns.specs.declared.Question.the-variants as Question
+use Rattle.turns.specs.Turns.{Left}
 use Rattle.refusals.specs.Start.{settingsOf}
 use Rattle.session.specs.Fields.{Fit}
 use Rattle.session.proofs.Within.{both}

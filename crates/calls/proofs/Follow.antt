@@ -8,12 +8,12 @@ use mathlib.Core.Path.{_≡_, refl, sym, ap, _∙_}
 use Prim.Native.Nat.{ℕ}
 use native.Mathlib.Omega.{arith}
 use lib.Dec.{eqb}
-use Rattle.machine.specs.declared.Phase.{Phase}
-use Rattle.machine.specs.declared.Question.{Question}
-use Rattle.machine.specs.declared.Question.the-variants as Question
-use Rattle.machine.specs.declared.Status.{Status}
-use Rattle.machine.specs.declared.Status.the-variants as Status
-use Rattle.machine.specs.Turns.{Left}
+use Rattle.turns.specs.declared.Phase.{Phase}
+use Rattle.turns.specs.declared.Question.{Question}
+use Rattle.turns.specs.declared.Question.the-variants as Question
+use Rattle.turns.specs.declared.Status.{Status}
+use Rattle.turns.specs.declared.Status.the-variants as Status
+use Rattle.turns.specs.Turns.{Left}
 use Rattle.common.specs.declared.Common.{Common}
 use Rattle.refusals.specs.Start.{settingsOf}
 use Rattle.rules.specs.Play.{Given, Play}

@@ -14,11 +14,11 @@ use Rattle.loops.specs.Part.{part, putPart, length-part}
 use Rattle.numbers.specs.Float.{zeroF}
 use Rattle.common.specs.declared.Common.{Common}
 use Rattle.common.specs.Layout.{y}
-use Rattle.machine.specs.declared.Answer.the-variants.{Continue}
-use Rattle.machine.specs.declared.Phase.{Phase}
-use Rattle.machine.specs.declared.Question.{Question}
-use Rattle.machine.specs.declared.Question.the-variants as Question
-use Rattle.machine.specs.Turns.{Left}
+use Rattle.turns.specs.declared.Answer.the-variants.{Continue}
+use Rattle.turns.specs.declared.Phase.{Phase}
+use Rattle.turns.specs.declared.Question.{Question}
+use Rattle.turns.specs.declared.Question.the-variants as Question
+use Rattle.turns.specs.Turns.{Left}
 use Rattle.session.specs.Fields.{Fit}
 use Rattle.session.proofs.Within.{both}
 use Rattle.rules.specs.Play.{Given, Play}

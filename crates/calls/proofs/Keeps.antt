@@ -14,12 +14,12 @@ use lib.Dec.{lit<}
 use lib.Ieee.{Float}
 use lib.ListN.{length, getD}
 use Rattle.loops.specs.Part.{part}
-use Rattle.machine.specs.declared.Phase.{Phase}
-use Rattle.machine.specs.declared.Phase.the-variants as Phase
-use Rattle.machine.specs.declared.Session.{Session}
-use Rattle.machine.specs.Ranges.{Lent}
-use Rattle.machine.specs.Requires.{Resumes, UnlessFinished}
-use Rattle.machine.specs.Turns.{Left}
+use Rattle.turns.specs.declared.Phase.{Phase}
+use Rattle.turns.specs.declared.Phase.the-variants as Phase
+use Rattle.turns.specs.declared.Session.{Session}
+use Rattle.turns.specs.Ranges.{Lent}
+use Rattle.turns.specs.Requires.{Resumes, UnlessFinished}
+use Rattle.turns.specs.Turns.{Left}
 use Rattle.machine.proofs.Lengths.{resume-lent}
 use Rattle.session.specs.Fields.{Fit, FloatsFit, Fits}
 use Rattle.session.specs.Session.{encodeOf, decodeOf, rtolSlots, atolSlots, storedN, finishedIn, OneOrN}

@@ -13,7 +13,7 @@ use lib.ListN.{length}
 use borrow.Author.Tests.{eqb-true, eqb-false, ne-eqb}
 use Rattle.numbers.specs.Float.{zeroF}
 use Rattle.common.specs.declared.Settings.{Settings}
-use Rattle.machine.specs.declared.Turn.{Turn}
+use Rattle.turns.specs.declared.Turn.{Turn}
 use Rattle.machine.specs.Resume.{With, isAsked}
 use Rattle.session.specs.Session.{decodeOf, rtolOf, atolOf}
 use Rattle.refusals.specs.declared.Refusal.{Refusal}

@@ -17,11 +17,11 @@ use Rattle.common.specs.declared.Common.{Common}
 use Rattle.common.specs.Layout.{y}
 use Rattle.interpolation.specs.Snapshot.{snapshotOf}
 use Rattle.interpolation.proofs.Roundtrip.{header, size, snapshot-is}
-use Rattle.machine.specs.declared.Phase.{Phase}
-use Rattle.machine.specs.declared.Phase.the-variants as Phase
-use Rattle.machine.specs.declared.Question.{Question}
-use Rattle.machine.specs.declared.Question.the-variants as Question
-use Rattle.machine.specs.Turns.{Left}
+use Rattle.turns.specs.declared.Phase.{Phase}
+use Rattle.turns.specs.declared.Phase.the-variants as Phase
+use Rattle.turns.specs.declared.Question.{Question}
+use Rattle.turns.specs.declared.Question.the-variants as Question
+use Rattle.turns.specs.Turns.{Left}
 use Rattle.rules.specs.Play.{Given, Play, ret, ask, tell, say, derivativeAt, jacobianAt}
 use Rattle.rules.specs.Play.{finished, stepRefused, weightRefused, exhausted}
 use Rattle.follows.specs.Seen.{shownAs}

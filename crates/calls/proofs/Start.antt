@@ -21,9 +21,9 @@ use Rattle.loops.specs.Part.{putPart}
 use Rattle.numbers.specs.Float.{zeroF}
 use Rattle.vectors.specs.Tolerance.{List1OrN}
 use Rattle.history.specs.Columns.{fillAt, fillOf}
-use Rattle.machine.specs.declared.Session.{Session}
-use Rattle.machine.specs.Reports.{initialOf}
-use Rattle.machine.specs.Requires.{Resumes}
+use Rattle.turns.specs.declared.Session.{Session}
+use Rattle.turns.specs.Requires.{Resumes}
+use Rattle.reports.specs.Reports.{initialOf}
 use Rattle.refusals.specs.declared.Refusal.{Refusal}
 use Rattle.refusals.specs.Start.{isNegative, startRefusalOf, settingsOf, firstStepOf}
 use Rattle.refusals.specs.Accepted.{Started}

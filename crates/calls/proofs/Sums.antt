@@ -35,11 +35,11 @@ use Rattle.verdict.specs.Verdict.{judgeOf, ratedOf, dconOf, estimatedOf, conver
 use Rattle.corrector.specs.Iterate.{openOf, adamsResidualOf, adamsUpdateOf, adamsOf, correctOf}
 use Rattle.attempt.specs.Attempt as Attempt
 use Rattle.acceptance.specs.Accept as Accept
-use Rattle.machine.specs.declared.Status.the-variants.{Success, NeedsMoreSteps, StepTooSmall, PoorConvergence}
-use Rattle.machine.specs.Turns.{askedInStepOf, finishedOf}
-use Rattle.machine.specs.Begin as Begin
-use Rattle.machine.specs.Pass as Pass
-use Rattle.machine.specs.Reports as Reports
+use Rattle.turns.specs.declared.Status.the-variants.{Success, NeedsMoreSteps, StepTooSmall, PoorConvergence}
+use Rattle.turns.specs.Turns.{askedInStepOf, finishedOf}
+use Rattle.turns.specs.Begin as Begin
+use Rattle.passes.specs.Pass as Pass
+use Rattle.reports.specs.Reports as Reports
 use Rattle.machine.specs.Resume.{takenOf, resumeOf}
 use Rattle.refusals.specs.declared.Lengths.{Lengths}
 use Rattle.refusals.specs.Refusal.{alsoOf, inOrder, orElse}

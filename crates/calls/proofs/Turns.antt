@@ -31,26 +31,26 @@ use Rattle.attempt.specs.Attempt as Attempt
 use Rattle.order.specs.declared.Branch.{Branch}
 use Rattle.order.specs.declared.Branch.the-variants as Branch
 use Rattle.acceptance.specs.Accept.{acceptOf, closedOf}
-use Rattle.machine.specs.declared.Answer.{Answer}
-use Rattle.machine.specs.declared.Answer.the-variants.{Continue, Interrupt, Modified}
-use Rattle.machine.specs.declared.Kind.{Kind}
-use Rattle.machine.specs.declared.Kind.the-variants as Kind
-use Rattle.machine.specs.declared.Phase.{Phase}
-use Rattle.machine.specs.declared.Phase.the-variants as Phase
-use Rattle.machine.specs.declared.Question.{Question}
-use Rattle.machine.specs.declared.Question.the-variants as Question
-use Rattle.machine.specs.declared.Session.{Session}
-use Rattle.machine.specs.declared.Turn.{Turn}
-use Rattle.machine.specs.Turns.{Kept, Left, askedOf, askedInStepOf, finishedOf}
-use Rattle.machine.specs.Begin.{isCut, cutOf, preparedAt, preparedOf, predictedAt, openPassOf}
-use Rattle.machine.specs.Begin.{beganOf, isGoing, goOnAt, goOnOf}
-use Rattle.machine.specs.Begin as Begin
-use Rattle.machine.specs.Pass.{attemptedAt, reportedOf, closedAt, closeOf, acceptedAt, acceptedOf, convergedAt}
-use Rattle.machine.specs.Pass.{convergedOf, unconvergedOf, concludedAt, verdictOf, iterateOf, iterationsOf, factoredAt}
-use Rattle.machine.specs.Pass.{factoredOf, askColumnOf, isSupplied, beginJacobianAt, beginJacobianOf, withDerivative}
-use Rattle.machine.specs.Pass.{openedAt, openedOf, jacobianOf, columnAt, columnOf, furtherOf, restepOf}
-use Rattle.machine.specs.Reports.{sizedAt, sizedOf, firstStepOf, weightedAt, firstDerivativeOf, firstReportOf}
-use Rattle.machine.specs.Reports.{firstModifiedOf, afterReportOf, restartOf, modifiedOf}
+use Rattle.turns.specs.declared.Answer.{Answer}
+use Rattle.turns.specs.declared.Answer.the-variants.{Continue, Interrupt, Modified}
+use Rattle.turns.specs.declared.Kind.{Kind}
+use Rattle.turns.specs.declared.Kind.the-variants as Kind
+use Rattle.turns.specs.declared.Phase.{Phase}
+use Rattle.turns.specs.declared.Phase.the-variants as Phase
+use Rattle.turns.specs.declared.Question.{Question}
+use Rattle.turns.specs.declared.Question.the-variants as Question
+use Rattle.turns.specs.declared.Session.{Session}
+use Rattle.turns.specs.declared.Turn.{Turn}
+use Rattle.turns.specs.Turns.{Kept, Left, askedOf, askedInStepOf, finishedOf, withDerivative}
+use Rattle.turns.specs.Begin.{isCut, cutOf, preparedAt, preparedOf, predictedAt, openPassOf}
+use Rattle.turns.specs.Begin.{beganOf, isGoing, goOnAt, goOnOf}
+use Rattle.turns.specs.Begin as Begin
+use Rattle.passes.specs.Pass.{attemptedAt, reportedOf, closedAt, closeOf, acceptedAt, acceptedOf, convergedAt}
+use Rattle.passes.specs.Pass.{convergedOf, unconvergedOf, concludedAt, verdictOf, iterateOf, iterationsOf, factoredAt}
+use Rattle.passes.specs.Pass.{factoredOf, askColumnOf, isSupplied, beginJacobianAt, beginJacobianOf}
+use Rattle.passes.specs.Pass.{openedAt, openedOf, jacobianOf, columnAt, columnOf, furtherOf, restepOf}
+use Rattle.reports.specs.Reports.{sizedAt, sizedOf, firstStepOf, weightedAt, firstDerivativeOf, firstReportOf}
+use Rattle.reports.specs.Reports.{firstModifiedOf, afterReportOf, restartOf, modifiedOf}
 use Rattle.machine.specs.Resume.{With, isAsked, unasked, takenOf, resumeOf}
 use Rattle.session.specs.States.{phaseNumber}
 use Rattle.calls.proofs.Low.{Low, small, adjust-low, setup-low, predicted-low, no-convergence-low, failed-low}

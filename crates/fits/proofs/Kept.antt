@@ -9,12 +9,12 @@ use lib.Ieee as Ieee
 use lib.Ieee.{Float}
 use Rattle.numbers.specs.Float.{_⊖_, zeroF, oneF}
 use Rattle.common.specs.declared.Settings.{Settings}
-use Rattle.machine.specs.declared.Session.{Session}
-use Rattle.machine.specs.declared.Kind.{Kind}
-use Rattle.machine.specs.declared.Kind.the-variants as Kind
-use Rattle.machine.specs.declared.Phase.{Phase}
-use Rattle.machine.specs.declared.Phase.the-variants as Phase
-use Rattle.machine.specs.Reports.{initialOf}
+use Rattle.turns.specs.declared.Session.{Session}
+use Rattle.turns.specs.declared.Kind.{Kind}
+use Rattle.turns.specs.declared.Kind.the-variants as Kind
+use Rattle.turns.specs.declared.Phase.{Phase}
+use Rattle.turns.specs.declared.Phase.the-variants as Phase
+use Rattle.reports.specs.Reports.{initialOf}
 use Rattle.machine.specs.Resume.{With, isAsked, takenOf, unasked, resumeOf}
 use Rattle.refusals.specs.declared.Options.{Options}
 use Rattle.refusals.specs.declared.Lengths.{Lengths}

@@ -26,18 +26,18 @@ use Rattle.attempt.specs.Attempt as Attempt
 use Rattle.order.specs.declared.Branch.{Branch}
 use Rattle.order.specs.declared.Branch.the-variants as Branch
 use Rattle.acceptance.specs.Accept.{acceptOf, closedOf}
-use Rattle.machine.specs.declared.Answer.{Answer}
-use Rattle.machine.specs.declared.Answer.the-variants.{Continue, Interrupt, Modified}
-use Rattle.machine.specs.Turns.{Kept, Left, askedOf, askedInStepOf, finishedOf}
-use Rattle.machine.specs.Begin.{isCut, cutOf, setupOf, preparedAt, preparedOf, enteredOf, predictedAt, openPassOf}
-use Rattle.machine.specs.Begin.{beganOf, isGoing, goOnAt, goOnOf}
-use Rattle.machine.specs.Begin as Begin
-use Rattle.machine.specs.Pass.{attemptedAt, reportedOf, closedAt, closeOf, acceptedAt, acceptedOf, convergedAt}
-use Rattle.machine.specs.Pass.{convergedOf, unconvergedOf, concludedAt, verdictOf, iterateOf, iterationsOf, factoredAt}
-use Rattle.machine.specs.Pass.{factoredOf, askColumnOf, isSupplied, beginJacobianAt, beginJacobianOf, withDerivative}
-use Rattle.machine.specs.Pass.{openedAt, openedOf, jacobianOf, columnAt, columnOf, furtherOf, restepOf}
-use Rattle.machine.specs.Reports.{sizedAt, sizedOf, firstStepOf, weightedAt, firstDerivativeOf, firstReportOf}
-use Rattle.machine.specs.Reports.{firstModifiedOf, afterReportOf, restartOf, modifiedOf}
+use Rattle.turns.specs.declared.Answer.{Answer}
+use Rattle.turns.specs.declared.Answer.the-variants.{Continue, Interrupt, Modified}
+use Rattle.turns.specs.Turns.{Kept, Left, askedOf, askedInStepOf, finishedOf, withDerivative}
+use Rattle.turns.specs.Begin.{isCut, cutOf, setupOf, preparedAt, preparedOf, enteredOf, predictedAt, openPassOf}
+use Rattle.turns.specs.Begin.{beganOf, isGoing, goOnAt, goOnOf}
+use Rattle.turns.specs.Begin as Begin
+use Rattle.passes.specs.Pass.{attemptedAt, reportedOf, closedAt, closeOf, acceptedAt, acceptedOf, convergedAt}
+use Rattle.passes.specs.Pass.{convergedOf, unconvergedOf, concludedAt, verdictOf, iterateOf, iterationsOf, factoredAt}
+use Rattle.passes.specs.Pass.{factoredOf, askColumnOf, isSupplied, beginJacobianAt, beginJacobianOf}
+use Rattle.passes.specs.Pass.{openedAt, openedOf, jacobianOf, columnAt, columnOf, furtherOf, restepOf}
+use Rattle.reports.specs.Reports.{sizedAt, sizedOf, firstStepOf, weightedAt, firstDerivativeOf, firstReportOf}
+use Rattle.reports.specs.Reports.{firstModifiedOf, afterReportOf, restartOf, modifiedOf}
 use Rattle.session.specs.Fields.{Fit}
 use Rattle.fits.proofs.Floats.{either, sum}
 use Rattle.fits.proofs.Sizes.{norm, initial-step, first-size}

@@ -17,7 +17,7 @@ use Rattle.coefficients.specs.Table.{elcoOf}
 use Rattle.vectors.specs.Norm.{normAt, vmnormOf}
 use Rattle.vectors.specs.FirstStep.{initialStepOf}
 use Rattle.common.specs.declared.Settings.{Settings}
-use Rattle.machine.specs.Reports.{firstSizeOf}
+use Rattle.reports.specs.Reports.{firstSizeOf}
 use Rattle.session.specs.Fields.{Fit}
 use Rattle.fits.proofs.Floats.{either, literal, difference, product, quotient, absolute, copysign, maximum}
 use Rattle.fits.proofs.Floats.{minimum}

@@ -1,9 +1,9 @@
 -- The session of an accepted start, and the session that a reply leaves: the settings stay.
 use lib.Ieee.{Float}
-use Rattle.machine.specs.declared.Session.{Session}
-use Rattle.machine.specs.declared.Phase.the-variants.{FirstDerivative}
-use Rattle.machine.specs.Reports.{initialOf}
-use Rattle.machine.specs.Turns.{Left}
+use Rattle.turns.specs.declared.Session.{Session}
+use Rattle.turns.specs.declared.Phase.the-variants.{FirstDerivative}
+use Rattle.turns.specs.Turns.{Left}
+use Rattle.reports.specs.Reports.{initialOf}
 use Rattle.refusals.specs.declared.Options.{Options}
 use Rattle.refusals.specs.declared.Lengths.{Lengths}
 use Rattle.refusals.specs.Start.{settingsOf, firstStepOf}

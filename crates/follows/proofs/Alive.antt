@@ -6,8 +6,8 @@ use mathlib.Core.Path.{_≡_}
 use Prim.Native.Nat.{ℕ, _*_}
 use lib.ListN.{length}
 use lib.Ieee.{Float}
-use Rattle.machine.specs.declared.Answer.{Answer}
-use Rattle.machine.specs.Ranges.{Accepted}
+use Rattle.turns.specs.declared.Answer.{Answer}
+use Rattle.turns.specs.Ranges.{Accepted}
 use Rattle.rules.specs.Play.{Given, derivativeAt, jacobianAt}
 use Rattle.rules.specs.Play.{finished, stepRefused, weightRefused, exhausted, Play, ret, ask, tell, say}
 use Rattle.rules.specs.Rules.{Start, start}

@@ -10,11 +10,11 @@ use lib.ListN.{length, replicate, length-replicate}
 use lib.Ieee.{Float}
 use borrow.Author.Tests.{eq-eqb}
 use Rattle.numbers.specs.Float.{zeroF}
-use Rattle.machine.specs.declared.Answer.the-variants.{Continue}
-use Rattle.machine.specs.declared.Phase.{Phase}
-use Rattle.machine.specs.declared.Phase.the-variants as Phase
-use Rattle.machine.specs.Ranges.{Accepted}
-use Rattle.machine.specs.Turns.{Left}
+use Rattle.turns.specs.declared.Answer.the-variants.{Continue}
+use Rattle.turns.specs.declared.Phase.{Phase}
+use Rattle.turns.specs.declared.Phase.the-variants as Phase
+use Rattle.turns.specs.Ranges.{Accepted}
+use Rattle.turns.specs.Turns.{Left}
 use Rattle.machine.specs.Resume.{isAsked}
 use Rattle.rules.specs.Play.{Given, Play, ret, ask, tell, say}
 use Rattle.rules.specs.Rules.{Start, start}

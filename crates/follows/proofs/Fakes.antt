@@ -29,18 +29,18 @@ use Rattle.verdict.specs.Verdict.{judgeOf, ratedOf, dconOf, estimatedOf, conver
 use Rattle.corrector.specs.Iterate.{openOf, adamsResidualOf, adamsUpdateOf, adamsOf, correctOf}
 use Rattle.attempt.specs.Attempt as Attempt
 use Rattle.acceptance.specs.Accept as Accept
-use Rattle.machine.specs.Turns.{askedInStepOf, finishedOf}
-use Rattle.machine.specs.Begin as Begin
-use Rattle.machine.specs.Pass as Pass
-use Rattle.machine.specs.Reports as Reports
-use Rattle.machine.specs.Resume.{takenOf, resumeOf}
+use Rattle.turns.specs.Turns.{askedInStepOf, finishedOf}
+use Rattle.turns.specs.Begin as Begin
+use Rattle.turns.specs.declared.Answer.the-variants.{Continue}
+use Rattle.turns.specs.declared.Status.{Status}
+use Rattle.turns.specs.declared.Status.the-variants.{Success, NeedsMoreSteps, PoorConvergence}
 use Rattle.rules.specs.Rules.{beginning}
 use Rattle.family.specs.Size.{sizeOf}
 use Rattle.order.specs.Order as Order
 use Rattle.numbers.specs.Float.{zeroF, oneF, d0·5, d2}
-use Rattle.machine.specs.declared.Answer.the-variants.{Continue}
-use Rattle.machine.specs.declared.Status.{Status}
-use Rattle.machine.specs.declared.Status.the-variants.{Success, NeedsMoreSteps, PoorConvergence}
+use Rattle.passes.specs.Pass as Pass
+use Rattle.reports.specs.Reports as Reports
+use Rattle.machine.specs.Resume.{takenOf, resumeOf}
 use Rattle.rules.specs.Play.{Given}
 use Rattle.rules.specs.Rules.{Start}
 use Rattle.rules.specs.Replies.{Reply}

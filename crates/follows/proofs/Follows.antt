@@ -11,10 +11,10 @@ use Prim.Native.Nat.{_*_}
 use lib.ListN.{length}
 use lib.Ieee.{Float}
 use borrow.Author.Tests.{eqb-true}
-use Rattle.machine.specs.declared.Kind.{Kind}
-use Rattle.machine.specs.declared.Kind.the-variants as Kind
-use Rattle.machine.specs.Ranges.{Accepted}
-use Rattle.machine.specs.Turns.{Left}
+use Rattle.turns.specs.declared.Kind.{Kind}
+use Rattle.turns.specs.declared.Kind.the-variants as Kind
+use Rattle.turns.specs.Ranges.{Accepted}
+use Rattle.turns.specs.Turns.{Left}
 use Rattle.machine.specs.Resume.{unasked}
 use Rattle.rules.specs.Play.{Given, End, derivativeAt, jacobianAt}
 use Rattle.rules.specs.Play.{finished, stepRefused, weightRefused, exhausted, Play, ret, ask, tell, say}

@@ -11,13 +11,13 @@ use lib.Ieee.{Float}
 use borrow.Author.Tests.{lt-ltb, le-ltb}
 use Rattle.verdict.specs.declared.Pass.{Pass}
 use Rattle.verdict.specs.declared.Pass.the-variants.{Converged, Retry, NoConvergence, Further}
-use Rattle.machine.specs.declared.Phase.the-variants as Phase
-use Rattle.machine.specs.Turns.{Left, leaving, askedInStepOf}
-use Rattle.machine.specs.Begin.{openPassOf}
-use Rattle.machine.specs.Pass.{concludedAt, iterateOf, iterationsOf, convergedOf, unconvergedOf, furtherOf}
-use Rattle.machine.specs.Pass.{factoredOf, askColumnOf, isSupplied, beginJacobianAt, beginJacobianOf}
-use Rattle.machine.specs.Pass.{openedAt, openedOf, jacobianOf, columnAt, columnOf}
-use Rattle.machine.specs.Pass as Machine
+use Rattle.turns.specs.declared.Phase.the-variants as Phase
+use Rattle.turns.specs.Turns.{Left, leaving, askedInStepOf}
+use Rattle.turns.specs.Begin.{openPassOf}
+use Rattle.passes.specs.Pass.{concludedAt, iterateOf, iterationsOf, convergedOf, unconvergedOf, furtherOf}
+use Rattle.passes.specs.Pass.{factoredOf, askColumnOf, isSupplied, beginJacobianAt, beginJacobianOf}
+use Rattle.passes.specs.Pass.{openedAt, openedOf, jacobianOf, columnAt, columnOf}
+use Rattle.passes.specs.Pass as Machine
 use Rattle.machine.specs.Resume.{takenOf}
 use Rattle.rules.specs.Play.{Given, State, Play}
 use Rattle.rules.specs.Pass.{Outcome, converged, toRetry, unconverged, iterated, further, turns, iterations}

@@ -31,9 +31,9 @@ use Rattle.attempt.proofs.Laws.{Kept, unconverged, failed, restepped}
 use Rattle.order.proofs.Ranges.{Ready}
 use Rattle.acceptance.specs.Accept.{acceptOf}
 use Rattle.acceptance.proofs.Laws.{accept-keeps}
-use Rattle.machine.specs.Ranges.{Accepted, Orders}
-use Rattle.machine.specs.Begin.{isCut, cutOf, setupOf, preparedAt, preparedOf}
-use Rattle.machine.specs.Reports.{initialOf}
+use Rattle.turns.specs.Ranges.{Accepted, Orders}
+use Rattle.turns.specs.Begin.{isCut, cutOf, setupOf, preparedAt, preparedOf}
+use Rattle.reports.specs.Reports.{initialOf}
 
 pub record Core : Type 0 where
   pub nq : ℕ

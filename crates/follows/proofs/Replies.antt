@@ -11,13 +11,13 @@ use lib.Dec.{eqb}
 use lib.ListN.{length}
 use lib.Ieee.{Float}
 use borrow.Author.Tests.{eq-eqb}
-use Rattle.machine.specs.declared.Answer.{Answer}
-use Rattle.machine.specs.declared.Kind.{Kind}
-use Rattle.machine.specs.declared.Kind.the-variants as Kind
-use Rattle.machine.specs.declared.Question.the-variants as Machine
-use Rattle.machine.specs.declared.Phase.{Phase}
-use Rattle.machine.specs.declared.Phase.the-variants as Phase
-use Rattle.machine.specs.Turns.{Left}
+use Rattle.turns.specs.declared.Answer.{Answer}
+use Rattle.turns.specs.declared.Kind.{Kind}
+use Rattle.turns.specs.declared.Kind.the-variants as Kind
+use Rattle.turns.specs.declared.Question.the-variants as Machine
+use Rattle.turns.specs.declared.Phase.{Phase}
+use Rattle.turns.specs.declared.Phase.the-variants as Phase
+use Rattle.turns.specs.Turns.{Left}
 use Rattle.machine.specs.Resume.{isDerivative, isAsked, unasked, takenOf, resumeOf}
 use Rattle.common.specs.Layout.{y}
 use Rattle.rules.specs.Play.{Given, State, derivativeAt, jacobianAt, Play, ask}

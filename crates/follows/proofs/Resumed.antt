@@ -21,20 +21,20 @@ use Rattle.history.proofs.Laws.{length-copy, length-slope}
 use Rattle.jacobian.specs.Jacobian.{finishedOf}
 use Rattle.jacobian.proofs.Laws.{length-supplied, length-restore, length-finished, length-finished-ipiv, finished-below}
 use Rattle.attempt.proofs.Laws.{restepped}
-use Rattle.machine.specs.declared.Answer.{Answer}
-use Rattle.machine.specs.declared.Answer.the-variants.{Continue, Interrupt, Modified}
-use Rattle.machine.specs.declared.Kind.{Kind}
-use Rattle.machine.specs.declared.Kind.the-variants as Kind
-use Rattle.machine.specs.declared.Phase.{Phase}
-use Rattle.machine.specs.declared.Phase.the-variants as Phase
-use Rattle.machine.specs.declared.Session.{Session}
-use Rattle.machine.specs.Ranges.{Accepted, Lent}
-use Rattle.machine.specs.Turns.{Kept, askedOf, finishedOf as endedOf}
-use Rattle.machine.specs.Pass.{factoredOf}
-use Rattle.machine.specs.Pass.{withDerivative, openedAt, openedOf}
-use Rattle.machine.specs.Pass.{jacobianOf, columnAt, columnOf, furtherOf, restepOf}
-use Rattle.machine.specs.Reports.{firstDerivativeOf, takenOf as storedOf}
-use Rattle.machine.specs.Reports.{firstReportOf, firstModifiedOf, afterReportOf, restartOf, modifiedOf}
+use Rattle.turns.specs.declared.Answer.{Answer}
+use Rattle.turns.specs.declared.Answer.the-variants.{Continue, Interrupt, Modified}
+use Rattle.turns.specs.declared.Kind.{Kind}
+use Rattle.turns.specs.declared.Kind.the-variants as Kind
+use Rattle.turns.specs.declared.Phase.{Phase}
+use Rattle.turns.specs.declared.Phase.the-variants as Phase
+use Rattle.turns.specs.declared.Session.{Session}
+use Rattle.turns.specs.Ranges.{Accepted, Lent}
+use Rattle.turns.specs.Turns.{Kept, askedOf, finishedOf as endedOf, withDerivative}
+use Rattle.passes.specs.Pass.{factoredOf}
+use Rattle.passes.specs.Pass.{openedAt, openedOf}
+use Rattle.passes.specs.Pass.{jacobianOf, columnAt, columnOf, furtherOf, restepOf}
+use Rattle.reports.specs.Reports.{firstDerivativeOf, takenOf as storedOf}
+use Rattle.reports.specs.Reports.{firstReportOf, firstModifiedOf, afterReportOf, restartOf, modifiedOf}
 use Rattle.machine.specs.Resume.{With, isDerivative, isAnswer, isAsked, unasked, firstAnsweredOf, answeredOf, takenOf}
 use Rattle.machine.specs.Resume.{resumeOf}
 use Rattle.follows.proofs.Ranges.{coreOf, Within, within-factored, within-column}

@@ -34,20 +34,20 @@ use Rattle.attempt.proofs.Laws.{unconverged, failed}
 use Rattle.order.specs.declared.Branch.{Branch}
 use Rattle.order.specs.declared.Branch.the-variants as Branch
 use Rattle.acceptance.proofs.Laws.{length-accept, length-closed}
-use Rattle.machine.specs.declared.Answer.the-variants.{Modified}
-use Rattle.machine.specs.declared.Phase.{Phase}
-use Rattle.machine.specs.declared.Phase.the-variants as Phase
-use Rattle.machine.specs.Ranges.{Accepted, Lent}
-use Rattle.machine.specs.Requires.{UnlessFinished}
-use Rattle.machine.specs.Turns.{Kept, Left, askedInStepOf, finishedOf as endedOf}
-use Rattle.machine.specs.Begin.{cutOf, preparedAt, preparedOf, isCut, openPassOf, predictedAt, beganOf}
-use Rattle.machine.specs.Begin.{goOnAt, goOnOf, isGoing}
-use Rattle.machine.specs.Begin as Begin
-use Rattle.machine.specs.Pass.{attemptedAt, reportedOf, closedAt, closeOf, acceptedAt, acceptedOf, convergedAt}
-use Rattle.machine.specs.Pass.{convergedOf}
-use Rattle.machine.specs.Pass.{unconvergedOf, concludedAt, iterateOf, iterationsOf, factoredAt}
-use Rattle.machine.specs.Pass.{askColumnOf, isSupplied, beginJacobianAt, beginJacobianOf, openedOf}
-use Rattle.machine.specs.Reports.{sizedAt, sizedOf, weightedAt, inverted}
+use Rattle.turns.specs.declared.Answer.the-variants.{Modified}
+use Rattle.turns.specs.declared.Phase.{Phase}
+use Rattle.turns.specs.declared.Phase.the-variants as Phase
+use Rattle.turns.specs.Ranges.{Accepted, Lent}
+use Rattle.turns.specs.Requires.{UnlessFinished}
+use Rattle.turns.specs.Turns.{Kept, Left, askedInStepOf, finishedOf as endedOf}
+use Rattle.turns.specs.Begin.{cutOf, preparedAt, preparedOf, isCut, openPassOf, predictedAt, beganOf}
+use Rattle.turns.specs.Begin.{goOnAt, goOnOf, isGoing}
+use Rattle.turns.specs.Begin as Begin
+use Rattle.passes.specs.Pass.{attemptedAt, reportedOf, closedAt, closeOf, acceptedAt, acceptedOf, convergedAt}
+use Rattle.passes.specs.Pass.{convergedOf}
+use Rattle.passes.specs.Pass.{unconvergedOf, concludedAt, iterateOf, iterationsOf, factoredAt}
+use Rattle.passes.specs.Pass.{askColumnOf, isSupplied, beginJacobianAt, beginJacobianOf, openedOf}
+use Rattle.reports.specs.Reports.{sizedAt, sizedOf, weightedAt, inverted}
 use Rattle.follows.proofs.Ranges.{coreOf, Within, within-open, within-judged, within-column}
 use Rattle.follows.proofs.Ranges.{within-unconverged, within-failed, failed-pass, failed-restep}
 use Rattle.follows.proofs.Ranges.{within-prepared, within-entered, within-another, within-accept}

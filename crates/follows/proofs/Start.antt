@@ -12,14 +12,14 @@ use Rattle.vectors.specs.declared.Weights.{Weights}
 use Rattle.vectors.specs.declared.Weights.the-variants.{Inverted, Refused}
 use Rattle.vectors.specs.Weights.{invertOf, outcomeOf}
 use Rattle.common.specs.Layout.{ewt}
-use Rattle.machine.specs.declared.Answer.{Answer}
-use Rattle.machine.specs.declared.Answer.the-variants.{Continue, Interrupt, Modified}
-use Rattle.machine.specs.declared.Phase.the-variants as Phase
-use Rattle.machine.specs.declared.Status.the-variants as Status
-use Rattle.machine.specs.Turns.{leaving, askedOf}
-use Rattle.machine.specs.Begin.{goOnOf, isGoing}
-use Rattle.machine.specs.Reports.{initialOf, sizedAt, sizedOf, weightedAt, firstDerivativeOf, inverted}
-use Rattle.machine.specs.Reports as Machine
+use Rattle.turns.specs.declared.Answer.{Answer}
+use Rattle.turns.specs.declared.Answer.the-variants.{Continue, Interrupt, Modified}
+use Rattle.turns.specs.declared.Phase.the-variants as Phase
+use Rattle.turns.specs.declared.Status.the-variants as Status
+use Rattle.turns.specs.Turns.{leaving, askedOf}
+use Rattle.turns.specs.Begin.{goOnOf, isGoing}
+use Rattle.reports.specs.Reports.{initialOf, sizedAt, sizedOf, weightedAt, firstDerivativeOf, inverted}
+use Rattle.reports.specs.Reports as Machine
 use Rattle.machine.specs.Resume.{takenOf}
 use Rattle.rules.specs.Play.{Given, State}
 use Rattle.rules.specs.Pass.{put-w}

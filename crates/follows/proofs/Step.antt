@@ -17,18 +17,18 @@ use Rattle.attempt.specs.declared.Next.{Next}
 use Rattle.attempt.specs.declared.Next.the-variants as Next
 use Rattle.order.specs.declared.Branch.{Branch}
 use Rattle.order.specs.declared.Branch.the-variants as Branch
-use Rattle.machine.specs.declared.Answer.{Answer}
-use Rattle.machine.specs.declared.Answer.the-variants.{Continue, Interrupt, Modified}
-use Rattle.machine.specs.declared.Phase.the-variants as Phase
-use Rattle.machine.specs.declared.Status.{Status}
-use Rattle.machine.specs.declared.Status.the-variants as Status
-use Rattle.machine.specs.Turns.{Left, kept, leaving, askedOf, askedInStepOf, finishedOf}
-use Rattle.machine.specs.Begin.{openPassOf, beganOf, openedOf, goOnAt, goOnOf, isGoing}
-use Rattle.machine.specs.Pass.{attemptedAt, reportedOf, closedAt, closeOf, acceptedAt, acceptedOf, convergedAt}
-use Rattle.machine.specs.Pass.{convergedOf}
-use Rattle.machine.specs.Pass.{unconvergedOf}
-use Rattle.machine.specs.Pass as Machine
-use Rattle.machine.specs.Reports.{afterReportOf, modifiedOf}
+use Rattle.turns.specs.declared.Answer.{Answer}
+use Rattle.turns.specs.declared.Answer.the-variants.{Continue, Interrupt, Modified}
+use Rattle.turns.specs.declared.Phase.the-variants as Phase
+use Rattle.turns.specs.declared.Status.{Status}
+use Rattle.turns.specs.declared.Status.the-variants as Status
+use Rattle.turns.specs.Turns.{Left, kept, leaving, askedOf, askedInStepOf, finishedOf}
+use Rattle.turns.specs.Begin.{openPassOf, beganOf, openedOf, goOnAt, goOnOf, isGoing}
+use Rattle.passes.specs.Pass.{attemptedAt, reportedOf, closedAt, closeOf, acceptedAt, acceptedOf, convergedAt}
+use Rattle.passes.specs.Pass.{convergedOf}
+use Rattle.passes.specs.Pass.{unconvergedOf}
+use Rattle.passes.specs.Pass as Machine
+use Rattle.reports.specs.Reports.{afterReportOf, modifiedOf}
 use Rattle.machine.specs.Resume.{takenOf}
 use Rattle.rules.specs.Play.{Given, State, Play, ret, finished}
 use Rattle.rules.specs.Pass.{converged, toRetry, unconverged, put-w}

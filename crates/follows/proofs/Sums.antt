@@ -20,10 +20,10 @@ use Rattle.verdict.specs.Verdict.{judgeOf, ratedOf, dconOf, estimatedOf, conver
 use Rattle.corrector.specs.Iterate.{openOf, adamsResidualOf, adamsUpdateOf, adamsOf, correctOf}
 use Rattle.attempt.specs.Attempt as Attempt
 use Rattle.acceptance.specs.Accept as Accept
-use Rattle.machine.specs.Turns.{askedInStepOf, finishedOf}
-use Rattle.machine.specs.Begin as Begin
-use Rattle.machine.specs.Pass as Pass
-use Rattle.machine.specs.Reports as Reports
+use Rattle.turns.specs.Turns.{askedInStepOf, finishedOf}
+use Rattle.turns.specs.Begin as Begin
+use Rattle.passes.specs.Pass as Pass
+use Rattle.reports.specs.Reports as Reports
 use Rattle.machine.specs.Resume.{takenOf, resumeOf}
 use Rattle.rules.specs.Rules.{beginning}
 use Rattle.follows.specs.Seen.{shownAs}

@@ -6,8 +6,8 @@ use mathlib.Core.Path.{_≡_}
 use Prim.Native.Nat.{ℕ, _+_}
 use lib.ListN.{length, getD}
 use lib.Ieee.{Float}
-use Rattle.machine.specs.declared.Status.{Status}
-use Rattle.machine.specs.declared.Status.the-variants.{PoorConvergence}
+use Rattle.turns.specs.declared.Status.{Status}
+use Rattle.turns.specs.declared.Status.the-variants.{PoorConvergence}
 use Rattle.rules.specs.Play.{Given}
 use Rattle.rules.specs.Rules.{Start, start}
 use Rattle.rules.specs.Replies.{Reply}

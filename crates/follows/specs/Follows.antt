@@ -5,9 +5,9 @@ use mathlib.Core.List.{List, []}
 use mathlib.Core.Path.{_≡_}
 use Prim.Native.Nat.{_≤_}
 use lib.ListN.{length}
-use Rattle.machine.specs.declared.Phase.the-variants.{Finished}
-use Rattle.machine.specs.declared.Question.the-variants.{Unasked}
-use Rattle.machine.specs.Turns.{Left}
+use Rattle.turns.specs.declared.Phase.the-variants.{Finished}
+use Rattle.turns.specs.declared.Question.the-variants.{Unasked}
+use Rattle.turns.specs.Turns.{Left}
 use Rattle.rules.specs.Play.{Given, State, Play, ret, ask, tell, say}
 use Rattle.rules.specs.Rules.{Start, start}
 use Rattle.rules.specs.Replies.{Reply, fed, AllAsked}

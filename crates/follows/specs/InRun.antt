@@ -6,9 +6,9 @@ use mathlib.Core.Path.{_≡_}
 use Prim.Native.Nat.{_-_}
 use lib.ListN.{length}
 use Rattle.vectors.specs.Tolerance.{List1OrN}
-use Rattle.machine.specs.Ranges.{Accepted}
-use Rattle.machine.specs.Requires.{Resumes, UnlessFinished}
-use Rattle.machine.specs.Turns.{Left}
+use Rattle.turns.specs.Ranges.{Accepted}
+use Rattle.turns.specs.Requires.{Resumes, UnlessFinished}
+use Rattle.turns.specs.Turns.{Left}
 use Rattle.rules.specs.Play.{Given}
 use Rattle.rules.specs.Rules.{Start}
 use Rattle.rules.specs.Replies.{Reply}

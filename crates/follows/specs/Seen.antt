@@ -10,14 +10,14 @@ use Rattle.loops.specs.Part.{part}
 use Rattle.numbers.specs.Float.{whole, uround}
 use Rattle.common.specs.declared.Common.{Common}
 use Rattle.common.specs.Layout.{y, yfd}
-use Rattle.machine.specs.declared.End.{End}
-use Rattle.machine.specs.declared.Phase.{Phase}
-use Rattle.machine.specs.declared.Phase.the-variants as Phase
-use Rattle.machine.specs.declared.Question.{Question as MachineQuestion}
-use Rattle.machine.specs.declared.Question.the-variants as Machine
-use Rattle.machine.specs.declared.Session.{Session}
-use Rattle.machine.specs.declared.Status.{Status}
-use Rattle.machine.specs.Turns.{Left}
+use Rattle.turns.specs.declared.End.{End}
+use Rattle.turns.specs.declared.Phase.{Phase}
+use Rattle.turns.specs.declared.Phase.the-variants as Phase
+use Rattle.turns.specs.declared.Question.{Question as MachineQuestion}
+use Rattle.turns.specs.declared.Question.the-variants as Machine
+use Rattle.turns.specs.declared.Session.{Session}
+use Rattle.turns.specs.declared.Status.{Status}
+use Rattle.turns.specs.Turns.{Left}
 use Rattle.machine.specs.Resume.{With, isAsked, resumeOf}
 use Rattle.rules.specs.Play.{Given, State, Question, derivativeAt, jacobianAt, Report}
 use Rattle.rules.specs.Play.{End as RulesEnd, finished, stepRefused, weightRefused, exhausted, Play, ret, ask, tell}

@@ -6,11 +6,11 @@ use mathlib.Core.Path.{_≡_}
 use Prim.Native.Nat.{_*_}
 use lib.ListN.{length}
 use lib.Ieee.{Float}
-use Rattle.machine.specs.declared.Answer.{Answer}
-use Rattle.machine.specs.declared.Kind.the-variants as Kind
-use Rattle.machine.specs.declared.Phase.the-variants.{FirstDerivative}
-use Rattle.machine.specs.declared.Question.the-variants as Machine
-use Rattle.machine.specs.Turns.{Left}
+use Rattle.turns.specs.declared.Answer.{Answer}
+use Rattle.turns.specs.declared.Kind.the-variants as Kind
+use Rattle.turns.specs.declared.Phase.the-variants.{FirstDerivative}
+use Rattle.turns.specs.declared.Question.the-variants as Machine
+use Rattle.turns.specs.Turns.{Left}
 use Rattle.rules.specs.Play.{Given, State, derivativeAt, jacobianAt}
 use Rattle.rules.specs.Play.{finished, stepRefused, weightRefused, exhausted, Play, ret, ask, tell, say}
 use Rattle.rules.specs.Rules.{Start, beginning}

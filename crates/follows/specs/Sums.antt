@@ -8,10 +8,10 @@ use lib.Ieee.{Float, nan}
 use Rattle.numbers.specs.Float.{_⊖_, _⊘_, zeroF, oneF, d0·5, d2, d100}
 use Rattle.numbers.specs.Sign.{absOf, signumOf}
 use Rattle.common.specs.Layout.{column, y}
-use Rattle.machine.specs.declared.Answer.the-variants.{Continue}
-use Rattle.machine.specs.declared.Status.{Status}
-use Rattle.machine.specs.declared.Status.the-variants.{Success, NeedsMoreSteps, StepTooSmall, PoorConvergence}
-use Rattle.machine.specs.Turns.{Left}
+use Rattle.turns.specs.declared.Answer.the-variants.{Continue}
+use Rattle.turns.specs.declared.Status.{Status}
+use Rattle.turns.specs.declared.Status.the-variants.{Success, NeedsMoreSteps, StepTooSmall, PoorConvergence}
+use Rattle.turns.specs.Turns.{Left}
 use Rattle.rules.specs.Play.{Given}
 use Rattle.rules.specs.Rules.{Start}
 use Rattle.follows.specs.Seen.{Shown, ends, shownBy, next}

@@ -1,5 +1,3 @@
-pub mod Inside
-pub mod Keeps
 pub mod Replies
 pub mod Lengths
 pub mod Order

@@ -12,14 +12,14 @@ use lib.ListN.{length}
 use denote.Enum.Declared.{tagOf}
 use types.Run.{OneOf, miss}
 use borrow.Author.Tests.{eqb-true}
-use Rattle.machine.specs.declared.Session.{Session}
-use Rattle.machine.specs.declared.Phase.{Phase}
-use Rattle.machine.specs.declared.Kind.{Kind}
-use Rattle.machine.specs.declared.Kind.the-variants.{Derivative, Jacobian, Report}
-use Rattle.machine.specs.Requires.{UnlessFinished}
+use Rattle.turns.specs.declared.Session.{Session}
+use Rattle.turns.specs.declared.Phase.{Phase}
+use Rattle.turns.specs.declared.Kind.{Kind}
+use Rattle.turns.specs.declared.Kind.the-variants.{Derivative, Jacobian, Report}
+use Rattle.turns.specs.Requires.{UnlessFinished}
+use Rattle.turns.proofs.Kind.{the-type as kinds}
 use Rattle.machine.specs.Resume.{With, isDerivative, isJacobian, isAnswer, isAsked, unasked, takenOf, resumeOf}
 use Rattle.machine.specs.Resume.{firstAnsweredOf, answeredOf}
-use Rattle.machine.proofs.Kind.{the-type as kinds}
 
 module _ (len n : ℕ) where
   pub derivative-length : (k : Kind) → isDerivative k len n ≡ true → len ≡ n

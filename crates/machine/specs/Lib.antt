@@ -1,7 +1,1 @@
-pub mod Ranges
-pub mod Requires
-pub mod Turns
-pub mod Begin
-pub mod Pass
-pub mod Reports
 pub mod Resume

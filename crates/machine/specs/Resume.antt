@@ -5,15 +5,15 @@ use Prim.Native.Nat.{ℕ, _*_}
 use lib.Dec.{eqb}
 use lib.ListN.{length}
 use lib.Ieee.{Float}
-use Rattle.machine.specs.declared.Session.{Session}
-use Rattle.machine.specs.declared.Phase.{Phase}
-use Rattle.machine.specs.declared.Phase.the-variants as Phase
-use Rattle.machine.specs.declared.Kind.{Kind}
-use Rattle.machine.specs.declared.Kind.the-variants.{Derivative, Jacobian, Report}
-use Rattle.machine.specs.declared.Question.the-variants.{Unasked}
-use Rattle.machine.specs.Turns.{Left, kept, leaving}
-use Rattle.machine.specs.Pass.{openedOf, jacobianOf, columnOf, furtherOf, restepOf}
-use Rattle.machine.specs.Reports.{firstDerivativeOf, firstReportOf, firstModifiedOf, afterReportOf, modifiedOf}
+use Rattle.turns.specs.declared.Session.{Session}
+use Rattle.turns.specs.declared.Phase.{Phase}
+use Rattle.turns.specs.declared.Phase.the-variants as Phase
+use Rattle.turns.specs.declared.Kind.{Kind}
+use Rattle.turns.specs.declared.Kind.the-variants.{Derivative, Jacobian, Report}
+use Rattle.turns.specs.declared.Question.the-variants.{Unasked}
+use Rattle.turns.specs.Turns.{Left, kept, leaving}
+use Rattle.passes.specs.Pass.{openedOf, jacobianOf, columnOf, furtherOf, restepOf}
+use Rattle.reports.specs.Reports.{firstDerivativeOf, firstReportOf, firstModifiedOf, afterReportOf, modifiedOf}
 
 -- ---- whether a reply is what was asked
 

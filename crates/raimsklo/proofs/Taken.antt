@@ -14,9 +14,9 @@ use lib.ListN.{length}
 use Rattle.refusals.specs.declared.Refusal.{Refusal}
 use Rattle.refusals.specs.Refusal.{plain, inOrder, orElse}
 use Rattle.refusals.proofs.Accepted.{also-none, else-none, same, not-false}
-use Rattle.machine.specs.declared.Phase.{Phase}
-use Rattle.machine.specs.declared.Phase.the-variants as Phase
-use Rattle.machine.specs.Requires.{UnlessFinished}
+use Rattle.turns.specs.declared.Phase.{Phase}
+use Rattle.turns.specs.declared.Phase.the-variants as Phase
+use Rattle.turns.specs.Requires.{UnlessFinished}
 use Rattle.session.specs.Session.{storedN, finishedIn, inRangeOf}
 use Rattle.raimsklo.specs.Calls.{isKind, lengthsRefusal, storedRefusal, replyRefusalOf}
 

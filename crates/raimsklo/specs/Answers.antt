@@ -3,12 +3,12 @@
 use Prim.Native.Nat.{ℕ}
 use lib.Ieee.{Float}
 use Rattle.numbers.specs.Float.{zeroF}
-use Rattle.machine.specs.declared.Status.{Status}
-use Rattle.machine.specs.declared.Status.the-variants as Status
-use Rattle.machine.specs.declared.Step.{Step}
-use Rattle.machine.specs.declared.End.{End}
-use Rattle.machine.specs.declared.Question.{Question}
-use Rattle.machine.specs.declared.Question.the-variants as Question
+use Rattle.turns.specs.declared.Status.{Status}
+use Rattle.turns.specs.declared.Status.the-variants as Status
+use Rattle.turns.specs.declared.Step.{Step}
+use Rattle.turns.specs.declared.End.{End}
+use Rattle.turns.specs.declared.Question.{Question}
+use Rattle.turns.specs.declared.Question.the-variants as Question
 use Rattle.refusals.specs.declared.Refusal.{Refusal}
 use Rattle.raimsklo.specs.declared.answers.Reply.{Reply}
 

@@ -14,18 +14,18 @@ use Rattle.common.specs.declared.Settings.{Settings}
 use Rattle.common.specs.declared.Common.{Common}
 use Rattle.history.specs.Columns.{fillOf}
 use Rattle.interpolation.specs.Snapshot.{snapshotOf}
-use Rattle.machine.specs.declared.Answer.the-variants as Answer
-use Rattle.machine.specs.declared.Kind.{Kind}
-use Rattle.machine.specs.declared.Kind.the-variants as Kind
-use Rattle.machine.specs.declared.Phase.{Phase}
-use Rattle.machine.specs.declared.Phase.the-variants as Phase
-use Rattle.machine.specs.declared.Question.{Question}
-use Rattle.machine.specs.declared.Question.the-variants as Question
-use Rattle.machine.specs.declared.Session.{Session}
-use Rattle.machine.specs.declared.Turn.{Turn}
-use Rattle.machine.specs.Reports.{initialOf}
+use Rattle.turns.specs.declared.Answer.the-variants as Answer
+use Rattle.turns.specs.declared.Kind.{Kind}
+use Rattle.turns.specs.declared.Kind.the-variants as Kind
+use Rattle.turns.specs.declared.Phase.{Phase}
+use Rattle.turns.specs.declared.Phase.the-variants as Phase
+use Rattle.turns.specs.declared.Question.{Question}
+use Rattle.turns.specs.declared.Question.the-variants as Question
+use Rattle.turns.specs.declared.Session.{Session}
+use Rattle.turns.specs.declared.Turn.{Turn}
+use Rattle.turns.specs.Turns.{Left}
+use Rattle.reports.specs.Reports.{initialOf}
 use Rattle.machine.specs.Resume.{With, resumeOf}
-use Rattle.machine.specs.Turns.{Left}
 use Rattle.session.specs.Session.{encodeOf, decodeOf, putTolerancesOf, rtolOf, atolOf, storedN, finishedIn, inRangeOf}
 use Rattle.refusals.specs.declared.Options.{Options}
 use Rattle.refusals.specs.declared.Lengths.{Lengths}

@@ -3,11 +3,11 @@ ghost use mathlib.Core.Path.{_≡_};
 ghost use Rattle.numbers.specs.Float.{zeroF};
 ghost use Rattle.raimsklo.specs.Answers.{plainOf, statusNumber, firstReportOf, reportOf, endOf, answerOf, refusedOf};
 
-use machine::End;
-use machine::Question;
-use machine::Status;
-use machine::Step;
 use refusals::Refusal;
+use turns::End;
+use turns::Question;
+use turns::Status;
+use turns::Step;
 
 // Fields that a case has no use for are 0.
 #[repr(C)]

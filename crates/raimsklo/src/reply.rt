@@ -10,13 +10,13 @@ ghost use Rattle.raimsklo.specs.Calls.{storedRefusal, Sized, questionOf,
 use crate::answers::Reply;
 use common::Common;
 use common::Settings;
-use machine::Answer;
-use machine::Kind;
-use machine::Phase;
-use machine::Question;
-use machine::Session;
-use machine::Turn;
 use refusals::Refusal;
+use turns::Answer;
+use turns::Kind;
+use turns::Phase;
+use turns::Question;
+use turns::Session;
+use turns::Turn;
 
 // 1 derivative, 2 Jacobian, 3 continue, 4 interrupt, 5 modified.
 fn is_kind(kind: usize) -> bool

@@ -3,16 +3,16 @@ ghost use mathlib.Core.Path.{_≡_};
 ghost use Prim.Native.Nat.{ℕ, _+_, _*_, _≤_};
 ghost use lib.ListN.{length};
 ghost use Rattle.loops.specs.For.{for};
-ghost use Rattle.machine.specs.Ranges.{Accepted};
+ghost use Rattle.turns.specs.Ranges.{Accepted};
 ghost use Rattle.raimsklo.specs.Calls.{Called, laidOf, beganOf, clearedOf, keptOf};
 
 use crate::answers::Reply;
 use common::Common;
 use common::Settings;
-use machine::At;
-use machine::Phase;
-use machine::Question;
-use machine::Session;
+use turns::At;
+use turns::Phase;
+use turns::Question;
+use turns::Session;
 
 fn clear(pivots: &mut [usize])
     ensures { λ _. ⌜ now (pivots .exit) ≡ clearedOf (now (pivots .entry)) ⌝ }

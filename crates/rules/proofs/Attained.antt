@@ -26,10 +26,10 @@ use Rattle.verdict.specs.Verdict.{judgeOf, ratedOf, dconOf, estimatedOf, conver
 use Rattle.corrector.specs.Iterate.{openOf, adamsResidualOf, adamsUpdateOf, adamsOf, correctOf}
 use Rattle.attempt.specs.Attempt.{retractedOf, repredictOf, errorOf, shrunkOf, tenthOf, missedAt, missedOf, overshotOf}
 use Rattle.attempt.specs.Attempt.{failedOf, restepOf}
-use Rattle.machine.specs.declared.Answer.the-variants.{Continue}
-use Rattle.machine.specs.declared.Kind.the-variants.{Derivative, Report}
-use Rattle.machine.specs.Begin.{setupOf, preparedAt, preparedOf, predictedAt}
-use Rattle.machine.specs.Reports.{initialOf, firstSizeOf}
+use Rattle.turns.specs.declared.Answer.the-variants.{Continue}
+use Rattle.turns.specs.declared.Kind.the-variants.{Derivative, Report}
+use Rattle.turns.specs.Begin.{setupOf, preparedAt, preparedOf, predictedAt}
+use Rattle.reports.specs.Reports.{initialOf, firstSizeOf}
 use Rattle.rules.specs.Play.{Given, tooSmall}
 use Rattle.rules.specs.Pass.{iterated, turns, iterations, passAt, pass}
 use Rattle.rules.specs.Rules.{follow, attempted, tested, decide, attempts, stepped, step, solveAt, Start}

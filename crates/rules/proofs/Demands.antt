@@ -11,7 +11,7 @@ use native.Mathlib.Omega.{arith}
 use Rattle.common.specs.declared.Settings.{Settings}
 use Rattle.common.specs.declared.Common.{Common}
 use Rattle.common.specs.Limits.{mxncfOf}
-use Rattle.machine.specs.Ranges.{Accepted, Counts}
+use Rattle.turns.specs.Ranges.{Accepted, Counts}
 use Rattle.rules.specs.Play.{Given, Play, ret, ask, tell, say}
 use Rattle.rules.specs.Rules.{start}
 use Rattle.rules.specs.Steps.{Step}

@@ -15,9 +15,9 @@ use Rattle.verdict.specs.declared.Pass.{Pass}
 use Rattle.verdict.specs.declared.Pass.the-variants.{Converged, Retry, NoConvergence, Further}
 use Rattle.attempt.specs.declared.Next.{Next}
 use Rattle.attempt.specs.declared.Next.the-variants as Next
-use Rattle.machine.specs.declared.Answer.{Answer}
-use Rattle.machine.specs.declared.Answer.the-variants.{Continue, Interrupt, Modified}
-use Rattle.machine.specs.Ranges.{Accepted}
+use Rattle.turns.specs.declared.Answer.{Answer}
+use Rattle.turns.specs.declared.Answer.the-variants.{Continue, Interrupt, Modified}
+use Rattle.turns.specs.Ranges.{Accepted}
 use Rattle.rules.specs.Play.{Given, State, Play}
 use Rattle.rules.specs.Pass.{Outcome, converged, toRetry, unconverged, furtherAllowed, turns, iterations}
 use Rattle.rules.specs.Pass.{factoredAt, afterMatrix, columns, matrix, passAt, pass}

@@ -21,7 +21,7 @@ use Rattle.verdict.specs.declared.Pass.{Pass}
 use Rattle.verdict.specs.declared.Pass.the-variants.{Converged, Retry, NoConvergence, Further}
 use Rattle.verdict.proofs.Laws.{same-judge, judged}
 use Rattle.corrector.proofs.Laws.{same-open, open-flags}
-use Rattle.machine.specs.Pass.{isSupplied}
+use Rattle.passes.specs.Pass.{isSupplied}
 use Rattle.rules.specs.Play.{Given, State, Play}
 use Rattle.rules.specs.Pass.{askedInStep, stored, Outcome, converged, toRetry, unconverged}
 use Rattle.rules.specs.Pass.{Iterated, iterated, further, furtherAllowed, turns, fresh, iterations, factored}

@@ -20,9 +20,9 @@ use Rattle.common.specs.declared.Common.{Common}
 use Rattle.common.specs.Rules.{icount20}
 use Rattle.acceptance.specs.Accept.{acceptOf}
 use Rattle.acceptance.proofs.Laws.{accept-keeps}
-use Rattle.machine.specs.declared.Answer.{Answer}
-use Rattle.machine.specs.declared.Answer.the-variants.{Continue, Interrupt, Modified}
-use Rattle.machine.specs.Ranges.{Accepted}
+use Rattle.turns.specs.declared.Answer.{Answer}
+use Rattle.turns.specs.declared.Answer.the-variants.{Continue, Interrupt, Modified}
+use Rattle.turns.specs.Ranges.{Accepted}
 use Rattle.rules.specs.Play.{Given, State, Question, Play, Ending, accepted, gap, tooSmall, poor}
 use Rattle.rules.specs.Pass.{put-w, asked}
 use Rattle.rules.specs.Rules.{reportedState, taken, timed, modified, restarted, answered, closed, closing}

@@ -16,7 +16,7 @@ use Rattle.common.specs.declared.Settings.{Settings}
 use Rattle.common.specs.declared.Common.{Common}
 use Rattle.common.specs.Rules.{icount20}
 use Rattle.jacobian.proofs.Laws.{SameStep}
-use Rattle.machine.specs.Ranges.{Accepted}
+use Rattle.turns.specs.Ranges.{Accepted}
 use Rattle.rules.specs.Play.{Given, State, Limits, Play}
 use Rattle.rules.specs.Rules.{limitsOf}
 use Rattle.rules.specs.Steps.{Tally, Step, isEnded, isEndedKeeping, number}

@@ -7,8 +7,8 @@ use lib.ListN.{length}
 use lib.Ieee.{Float}
 use Rattle.common.specs.declared.Settings.{Settings}
 use Rattle.common.specs.Limits.{mxncfOf}
-use Rattle.machine.specs.declared.Answer.{Answer}
-use Rattle.machine.specs.Ranges.{Accepted}
+use Rattle.turns.specs.declared.Answer.{Answer}
+use Rattle.turns.specs.Ranges.{Accepted}
 use Rattle.rules.specs.Play.{Given, State, End, finished, stepRefused, weightRefused, exhausted}
 use Rattle.rules.specs.Play.{Play, ret, ask, tell, say}
 use Rattle.rules.specs.Rules.{Start, start}

@@ -19,7 +19,8 @@ use Rattle.verdict.specs.declared.Pass.{Pass}
 use Rattle.verdict.specs.declared.Pass.the-variants.{Converged, Retry, NoConvergence, Further}
 use Rattle.corrector.specs.Iterate.{openOf, correctOf}
 use Rattle.attempt.specs.Attempt.{Moved}
-use Rattle.machine.specs.Pass.{verdictOf, withDerivative, isSupplied}
+use Rattle.turns.specs.Turns.{withDerivative}
+use Rattle.passes.specs.Pass.{verdictOf, isSupplied}
 use Rattle.rules.specs.Play.{Given, State, Question, derivativeAt, jacobianAt}
 use Rattle.rules.specs.Play.{Source, byDifferences, supplied, opens, jacobian, retries}
 use Rattle.rules.specs.Play.{exhausted, Play, ret, ask, say}

@@ -7,8 +7,8 @@ use lib.Ieee.{Float}
 use Rattle.common.specs.declared.MethodFamily.{MethodFamily}
 use Rattle.common.specs.declared.Settings.{Settings}
 use Rattle.common.specs.declared.Common.{Common}
-use Rattle.machine.specs.declared.Answer.{Answer}
-use Rattle.machine.specs.declared.Status.{Status}
+use Rattle.turns.specs.declared.Answer.{Answer}
+use Rattle.turns.specs.declared.Status.{Status}
 
 -- what the start fixes: the settings and the tolerance lists
 pub record Given : Type 0 where

@@ -6,10 +6,10 @@ use mathlib.Core.Path.{_≡_}
 use Prim.Native.Nat.{ℕ}
 use lib.ListN.{length}
 use lib.Ieee.{Float}
-use Rattle.machine.specs.declared.Answer.{Answer}
-use Rattle.machine.specs.declared.Answer.the-variants.{Continue}
-use Rattle.machine.specs.declared.Kind.{Kind}
-use Rattle.machine.specs.declared.Kind.the-variants as Kind
+use Rattle.turns.specs.declared.Answer.{Answer}
+use Rattle.turns.specs.declared.Answer.the-variants.{Continue}
+use Rattle.turns.specs.declared.Kind.{Kind}
+use Rattle.turns.specs.declared.Kind.the-variants as Kind
 use Rattle.machine.specs.Resume.{isDerivative, isJacobian, isAnswer}
 use Rattle.rules.specs.Play.{Question, derivativeAt, jacobianAt, Play, ret, ask, tell, say}
 use Rattle.rules.specs.Steps.{Step, noted, marked}

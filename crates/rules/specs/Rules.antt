@@ -27,11 +27,11 @@ use Rattle.order.specs.declared.Branch.{Branch}
 use Rattle.order.specs.declared.Branch.the-variants as Branch
 use Rattle.order.specs.Order.{Settled}
 use Rattle.acceptance.specs.Accept.{acceptOf, Closed, closedOf}
-use Rattle.machine.specs.declared.Answer.{Answer}
-use Rattle.machine.specs.declared.Answer.the-variants.{Continue, Interrupt, Modified}
-use Rattle.machine.specs.declared.Status.the-variants as Status
-use Rattle.machine.specs.Begin.{isGoing, preparedOf, enteredOf, predictedAt}
-use Rattle.machine.specs.Reports.{initialOf, firstSizeOf, firstStepOf, inverted, takenOf, restartOf}
+use Rattle.turns.specs.declared.Answer.{Answer}
+use Rattle.turns.specs.declared.Answer.the-variants.{Continue, Interrupt, Modified}
+use Rattle.turns.specs.declared.Status.the-variants as Status
+use Rattle.turns.specs.Begin.{isGoing, preparedOf, enteredOf, predictedAt}
+use Rattle.reports.specs.Reports.{initialOf, firstSizeOf, firstStepOf, inverted, takenOf, restartOf}
 use Rattle.rules.specs.Play.{Given, State, Report, Limits, accepted, gap, tooSmall, poor}
 use Rattle.rules.specs.Play.{begins, ends, finished, stepRefused, weightRefused, exhausted}
 use Rattle.rules.specs.Play.{Play, ret, ask, tell, say}

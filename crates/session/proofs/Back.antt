@@ -23,9 +23,9 @@ use Rattle.loops.specs.Part.{part}
 use Rattle.numbers.specs.Float.{zeroF}
 use Rattle.common.specs.declared.MethodFamily.{MethodFamily}
 use Rattle.common.specs.declared.MethodFamily.the-variants.{Adams, Bdf}
-use Rattle.machine.specs.declared.Phase.{Phase}
-use Rattle.machine.specs.declared.Phase.the-variants as Phase
-use Rattle.machine.specs.declared.Session.{Session}
+use Rattle.turns.specs.declared.Phase.{Phase}
+use Rattle.turns.specs.declared.Phase.the-variants as Phase
+use Rattle.turns.specs.declared.Session.{Session}
 use Rattle.session.specs.Words.{word, float, countsIn, floatsIn, slotOf, putCountsOf, putFloatsOf}
 use Rattle.session.specs.States.{flagNumber, flagOf, familyNumber, familyOf, phaseNumber, phaseOf}
 use Rattle.session.specs.Fields.{countsOf, floatsOf, Fit, Fits}

@@ -20,10 +20,10 @@ use Rattle.numbers.specs.Float.{zeroF}
 use Rattle.common.specs.declared.MethodFamily.{MethodFamily}
 use Rattle.common.specs.declared.MethodFamily.the-variants.{Adams, Bdf}
 use Rattle.common.specs.declared.Settings.{Settings}
-use Rattle.machine.specs.declared.Phase.{Phase}
-use Rattle.machine.specs.declared.Phase.the-variants as Phase
-use Rattle.machine.specs.declared.Session.{Session}
-use Rattle.machine.specs.Ranges.{Ranges}
+use Rattle.turns.specs.declared.Phase.{Phase}
+use Rattle.turns.specs.declared.Phase.the-variants as Phase
+use Rattle.turns.specs.declared.Session.{Session}
+use Rattle.turns.specs.Ranges.{Ranges}
 use Rattle.session.specs.Words.{word, float, countsIn, slotOf}
 use Rattle.session.specs.States.{flagNumber, familyNumber, phaseNumber}
 use Rattle.session.specs.Fields.{countsOf, lowest, highest, CountsFit, Fits}

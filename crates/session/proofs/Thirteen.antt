@@ -16,8 +16,8 @@ use lib.Seq.{length-take-le, ext-getD}
 use lib.Ieee.{Float}
 use borrow.Author.Tests.{ltb-true}
 use Rattle.vectors.specs.Tolerance.{List1OrN}
-use Rattle.machine.specs.Ranges.{Accepted, Counts, Orders, Ranges}
-use Rattle.machine.specs.Requires.{Resumes}
+use Rattle.turns.specs.Ranges.{Accepted, Counts, Orders, Ranges}
+use Rattle.turns.specs.Requires.{Resumes}
 use Rattle.session.specs.Words.{countsIn, floatsIn}
 use Rattle.session.specs.States.{flagNumber, flagOf, familyNumber, familyOf, phaseNumber, phaseOf}
 use Rattle.session.specs.Fields.{countsOf, settingsOf, commonOf, lowest, highest}

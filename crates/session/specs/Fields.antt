@@ -10,7 +10,7 @@ use Rattle.common.specs.declared.MethodFamily.{MethodFamily}
 use Rattle.common.specs.declared.MethodFamily.the-variants.{Adams}
 use Rattle.common.specs.declared.Settings.{Settings}
 use Rattle.common.specs.declared.Common.{Common}
-use Rattle.machine.specs.declared.Session.{Session}
+use Rattle.turns.specs.declared.Session.{Session}
 use Rattle.session.specs.States.{flagNumber, flagOf, familyNumber, familyOf, phaseNumber}
 
 -- ---- words 0 to 33, and words 34 to 52

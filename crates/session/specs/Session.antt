@@ -15,7 +15,7 @@ use Rattle.numbers.specs.Float.{zeroF}
 use Rattle.common.specs.declared.Settings.{Settings}
 use Rattle.common.specs.declared.Common.{Common}
 use Rattle.common.specs.Limits.{mxncfOf}
-use Rattle.machine.specs.declared.Session.{Session}
+use Rattle.turns.specs.declared.Session.{Session}
 use Rattle.session.specs.Words.{word, float, countsIn, putCountsOf, floatsIn, putFloatsOf}
 use Rattle.session.specs.States.{phaseOf}
 use Rattle.session.specs.Fields.{countsOf, floatsOf, settingsOf, commonOf, lowest, highest, Fit}

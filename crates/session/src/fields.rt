@@ -13,7 +13,7 @@ use crate::states::phase_number;
 use common::Common;
 use common::MethodFamily;
 use common::Settings;
-use machine::Session;
+use turns::Session;
 
 // The least value of each word.
 const LOWEST: [usize; 34] = [

@@ -13,7 +13,7 @@ mod ranges;
 mod states;
 mod words;
 
-use machine::Session;
+use turns::Session;
 
 // The bytes of a session: 181 words.
 pub const LENGTH: usize = 1448;

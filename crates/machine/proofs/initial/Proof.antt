@@ -6,7 +6,7 @@ use Prim.Native.Nat.{_≤_, max}
 use native.Mathlib.Omega.{arith}
 use borrow.Author.Needs.{needs}
 use Rattle.common.specs.Limits.{mxordnOf, mxordsOf}
-use Rattle.machine.specs.Reports.{initialOf}
+use Rattle.reports.specs.Reports.{initialOf}
 use Rattle.machine.proofs.initial.Statement.{statement}
 use Rattle.machine.proofs.initial.Tie as tie
 

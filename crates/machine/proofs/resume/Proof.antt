@@ -4,14 +4,14 @@ use mathlib.Core.Path.{refl, sym, ap, _∙_}
 use native.Mathlib.Omega.{arith}
 use borrow.Author.Needs.{needs}
 use borrow.Author.Tests.{not-true, not-false}
-use Rattle.machine.specs.Turns.{leaving}
-use Rattle.machine.proofs.Inside.{inside-ranges}
+use Rattle.turns.specs.Turns.{leaving}
+use Rattle.turns.proofs.Inside.{inside-ranges}
+use Rattle.turns.specs.declared.Phase.the-variants as Phase
+use Rattle.turns.specs.declared.Kind.{Kind}
 use Rattle.machine.specs.Resume.{With, firstAnsweredOf, answeredOf, takenOf}
+use denote.Ref.{now}
 use Rattle.machine.proofs.Replies.{derivative-length, jacobian-length, answer-length, held, asked-in}
 use Rattle.machine.proofs.Replies.{resume-asked, resume-unasked, first-unasked, report-unasked}
-use denote.Ref.{now}
-use Rattle.machine.specs.declared.Phase.the-variants as Phase
-use Rattle.machine.specs.declared.Kind.{Kind}
 use Rattle.machine.proofs.resume.Statement.{statement}
 use Rattle.machine.proofs.resume.Tie as tie
 

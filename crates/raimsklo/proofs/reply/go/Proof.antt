@@ -8,15 +8,15 @@ use native.Mathlib.Omega.{arith}
 use lib.ListN.{length}
 use denote.Ref.{now}
 use borrow.Author.Needs.{needs}
-use Rattle.machine.specs.Turns.{Left}
-use Rattle.machine.specs.Resume.{With}
+use Rattle.turns.specs.Turns.{Left}
+use Rattle.turns.specs.declared.Session.{Session}
 use Rattle.raimsklo.specs.Calls.{Buffers, Called, Settled, written, goOf}
 use Rattle.session.specs.Session.{decodeOf, rtolOf, atolOf}
 use Rattle.raimsklo.proofs.Taken.{unless}
+use Rattle.machine.specs.Resume.{With}
 use Rattle.machine.proofs.Order.{order-after}
-use Rattle.machine.proofs.Lengths.{resume-lent}
 use Rattle.session.proofs.Thirteen.{lists-fit, resumes, ranges}
-use Rattle.machine.specs.declared.Session.{Session}
+use Rattle.machine.proofs.Lengths.{resume-lent}
 use Rattle.raimsklo.proofs.reply.go.Statement.{statement}
 use Rattle.raimsklo.proofs.reply.go.Tie as tie
 

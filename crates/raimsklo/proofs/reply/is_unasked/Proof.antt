@@ -7,9 +7,9 @@ use mathlib.Core.Path.{_≡_, refl}
 use denote.Enum.Declared.{tagOf}
 use borrow.Author.Needs.{needs}
 use types.Run.{OneOf, miss}
-use Rattle.machine.specs.declared.Question.{Question}
-use Rattle.machine.specs.declared.Question.the-variants as Question
-use Rattle.machine.proofs.Question.{the-type}
+use Rattle.turns.specs.declared.Question.{Question}
+use Rattle.turns.specs.declared.Question.the-variants as Question
+use Rattle.turns.proofs.Question.{the-type}
 use Rattle.raimsklo.specs.Calls.{isUnasked}
 use Rattle.raimsklo.proofs.reply.is_unasked.Statement.{statement}
 use Rattle.raimsklo.proofs.reply.is_unasked.Tie as tie

@@ -12,9 +12,9 @@ use types.Run.{OneOf, miss}
 use Rattle.loops.specs.Part.{length-part}
 use Rattle.common.specs.declared.Settings.{Settings}
 use Rattle.common.specs.declared.Common.{Common}
-use Rattle.machine.specs.declared.Phase.{Phase}
-use Rattle.machine.specs.declared.Phase.the-variants as Phase
-use Rattle.machine.proofs.Phase.{the-type}
+use Rattle.turns.specs.declared.Phase.{Phase}
+use Rattle.turns.specs.declared.Phase.the-variants as Phase
+use Rattle.turns.proofs.Phase.{the-type}
 use Rattle.raimsklo.specs.Calls.{questionOf, withY}
 use Rattle.raimsklo.proofs.reply.write_question.Statement.{statement}
 use Rattle.raimsklo.proofs.reply.write_question.Tie as tie

@@ -1,0 +1,66 @@
+-- `attempted` meets its contract: one question for each way that an attempt can end. Assumes nothing.
+use borrow.Author.Needs.{needs}
+use Rattle.passes.specs.Pass.{attemptedAt}
+use Rattle.passes.proofs.attempted.Statement.{statement}
+use Rattle.passes.proofs.attempted.Tie as tie
+
+enum-told : tie.Need-enum-told
+enum-told c = search needs
+
+open-pass-requires : tie.Need-open-pass-requires
+open-pass-requires c κs = search needs
+
+enum-told-2 : tie.Need-enum-told-2
+enum-told-2 c = search needs
+
+ask-in-step-requires : tie.Need-ask-in-step-requires
+ask-in-step-requires c κs = search needs
+
+enum-told-3 : tie.Need-enum-told-3
+enum-told-3 c = search needs
+
+finish-requires : tie.Need-finish-requires
+finish-requires c κs = search needs
+
+enum-told-4 : tie.Need-enum-told-4
+enum-told-4 c = search needs
+
+finish-requires-2 : tie.Need-finish-requires-2
+finish-requires-2 c κs = search needs
+
+same-length : tie.Need-same-length
+same-length c = search needs
+
+returns : tie.Need-returns
+unfolding attemptedAt
+returns c = rw (c .before .before .before .before .enum-told .given .1) (c .before .before .open-pass .ensures)
+
+returns-2 : tie.Need-returns-2
+unfolding attemptedAt
+returns-2 c = rw (c .before .enum-told2 .given .1, c .ask-in-step .ensures)
+
+returns-3 : tie.Need-returns-3
+unfolding attemptedAt
+returns-3 c = rw (c .before .enum-told3 .given .1, c .finish .ensures)
+
+returns-4 : tie.Need-returns-4
+unfolding attemptedAt
+returns-4 c = rw (c .before .enum-told4 .given .1, c .finish2 .ensures)
+
+pub attempted-spec : {M : Type 1} → statement M
+attempted-spec =
+    tie.close
+    (tie.spec
+    enum-told
+    open-pass-requires
+    enum-told-2
+    ask-in-step-requires
+    enum-told-3
+    finish-requires
+    enum-told-4
+    finish-requires-2
+    same-length
+    returns
+    returns-2
+    returns-3
+    returns-4)

@@ -1,0 +1,90 @@
+-- `column` meets its contract: the column is stored, and the next is asked for or the matrix is factored.
+-- Assumes nothing.
+use mathlib.Core.Path.{ap}
+use native.Mathlib.Omega.{arith}
+use borrow.Author.Needs.{needs}
+use borrow.Author.Tests.{lt-ltb, le-ltb}
+use Rattle.turns.specs.Turns.{leaving}
+use Rattle.passes.specs.Pass.{columnOf, columnAt}
+use Rattle.passes.proofs.Inside.{inside-column, lent-length}
+use Rattle.passes.proofs.column.Statement.{statement}
+use Rattle.passes.proofs.column.Tie as tie
+
+mul-store : tie.Need-mul-store
+mul-store c = search needs
+
+store-requires : tie.Need-store-requires
+store-requires c κs = search needs
+
+store-column-requires : tie.Need-store-column-requires
+store-column-requires c κs =
+    let p = c .before .before .before .before .before .before .before .before .before .before .before .pre in
+    (p .0 .settings .n .1, omega (arith, p .1 .1 .1 .1 .1 .sized), p .0 .orders .column)
+
+add-if1 : tie.Need-add-if1
+add-if1 c =
+    let p = c .before .before .before .before .before .before .before .before .before .before .before .before .before
+      .before .pre .0 in
+    omega (arith, p .settings .n, p .orders .column)
+
+add-ask-column : tie.Need-add-ask-column
+add-ask-column c =
+    let p = c .before .before .before .before .before .before .before .before .before .before .before .before .before
+      .before .before .before .pre .0 in
+    omega (arith, p .settings .n, p .orders .column)
+
+ask-column-requires : tie.Need-ask-column-requires
+ask-column-requires c κs =
+    let p = c .before .before .before .before .before .before .before .before .before .before .before .before .before
+      .before .before .before .before .pre in
+    let l = p .1 .1 .1 .1 .1 .sized in
+    ((p .0 .settings .n .1, c .before .if1 .taken), ((p .0 .counts .0, p .0 .counts .1), omega arith))
+
+same-length : tie.Need-same-length
+same-length c = search needs
+
+returns : tie.Need-returns
+unfolding columnOf columnAt
+returns c =
+    let k = c .before .before .before .before .before .before .before .before in
+    rw (lt-ltb _ _ (c .before .before .before .before .if1 .taken),
+      ← k .before .before .before .before .store .ensures, ← k .store-column .ensures)
+    (ap (leaving _) (c .before .before .ask-column .ensures))
+
+factored-requires : tie.Need-factored-requires
+factored-requires c κs =
+    let p = c .before .before .before .before .before .before .before .before .before .before .before .before .before
+      .before .before .before .before .before .pre in
+    let first = inside-column 0 (p .0 .settings .n .0) (p .0) in
+    (first, (p .1 .0, (p .1 .1 .0, (p .1 .1 .1 .0, lent-length _ (omega arith) (p .1 .1 .1 .1 .1)))))
+
+same-length-2 : tie.Need-same-length-2
+same-length-2 c = search needs
+
+same-length-3 : tie.Need-same-length-3
+same-length-3 c = search needs
+
+returns-2 : tie.Need-returns-2
+unfolding columnOf columnAt
+returns-2 c =
+    let k = c .before .before .before .before .before .before .before .before .before .before .before in
+    rw (le-ltb _ _ (c .before .before .before .before .before .before .before .if1 .left),
+      ← k .before .before .before .before .store .ensures, ← k .store-column .ensures)
+      (c .before .before .before .before .factored .ensures)
+
+pub column-spec : {M : Type 1} → statement M
+column-spec =
+    tie.close
+    (tie.spec
+    mul-store
+    store-requires
+    store-column-requires
+    add-if1
+    add-ask-column
+    ask-column-requires
+    same-length
+    returns
+    factored-requires
+    same-length-2
+    same-length-3
+    returns-2)

@@ -1,0 +1,192 @@
+-- The replies inside a step, and what they lead to: the Jacobian, the iterations, the verdict, the error test,
+-- acceptance, the report.
+use mathlib.Core.Bool.{Bool, true, false, _&&_}
+use mathlib.Core.List.{List}
+use Prim.Native.Nat.{ℕ, _+_, _*_}
+use lib.Dec.{ltb}
+use lib.ListN.{length}
+use lib.Ieee as Ieee
+use lib.Ieee.{Float}
+use Rattle.loops.specs.Part.{putPart}
+use Rattle.numbers.specs.Float.{zeroF, oneF}
+use Rattle.vectors.specs.Norm.{vmnormOf}
+use Rattle.vectors.specs.declared.Weights.{Weights}
+use Rattle.vectors.specs.declared.Weights.the-variants.{Inverted, Refused}
+use Rattle.common.specs.declared.Settings.{Settings}
+use Rattle.common.specs.declared.Common.{Common}
+use Rattle.common.specs.Layout.{column, ewt}
+use Rattle.common.specs.Record.{isBdf, with-total, with-column}
+use Rattle.history.specs.Columns.{copyOf, fillOf}
+use Rattle.jacobian.specs.Jacobian.{beginOf, perturbOf, restoreOf, finishedOf as factorsOf}
+use Rattle.jacobian.specs.Jacobian as Jacobian
+use Rattle.verdict.specs.declared.Pass.{Pass}
+use Rattle.verdict.specs.declared.Pass.the-variants as Pass
+use Rattle.verdict.specs.declared.Verdict.{Verdict}
+use Rattle.verdict.specs.Verdict.{judgeOf}
+use Rattle.corrector.specs.Iterate.{openOf, Corrected, correctOf}
+use Rattle.attempt.specs.declared.Next.{Next}
+use Rattle.attempt.specs.declared.Next.the-variants as Next
+use Rattle.attempt.specs.Attempt.{Attempt, noConvergenceOf, errorOf, failedOf}
+use Rattle.attempt.specs.Attempt as Attempt
+use Rattle.order.specs.declared.Branch.{Branch}
+use Rattle.order.specs.declared.Branch.the-variants.{Unchanged, SmallGain, Lowered, Kept as KeptOrder, Raised}
+use Rattle.order.specs.declared.Branch.the-variants.{HeldBySm1, FamilyChanged, CoefficientGap}
+use Rattle.acceptance.specs.Accept.{acceptOf, closedOf}
+use Rattle.turns.specs.declared.Phase.the-variants.{JacobianAsked, DifferenceColumn, FurtherDerivative}
+use Rattle.turns.specs.declared.Phase.the-variants.{Restep, Report}
+use Rattle.turns.specs.declared.Status.the-variants.{StepTooSmall, PoorConvergence}
+use Rattle.turns.specs.declared.Status.the-variants as Status
+use Rattle.turns.specs.declared.Question.the-variants as Question
+use Rattle.turns.specs.declared.Turn.{Turn}
+use Rattle.turns.specs.Turns.{Kept, Left, kept, leaving, askedInStepOf, finishedOf, weightRefused, withDerivative}
+use Rattle.turns.specs.Begin.{openPassOf}
+
+-- ---- after a pass that was not accepted
+
+unfoldable pub attemptedAt : ℕ → Next → Common → List Float → Kept
+attemptedAt n Next.Pass c work = openPassOf n c work
+attemptedAt n Next.Restep c work = kept (askedInStepOf c Restep) work
+attemptedAt n Next.TooSmall c work = kept (finishedOf c StepTooSmall) work
+attemptedAt n Next.Poor c work = kept (finishedOf c PoorConvergence) work
+
+abbrev pub attemptedOf : ℕ → Attempt → Kept
+attemptedOf n a = attemptedAt n (a .next) (a .common) (a .work)
+
+-- ---- acceptance
+
+-- y is the new state; the total is refreshed here alone
+unfoldable pub reportedOf : ℕ → Common → List Float → Kept
+reportedOf n c work =
+    kept (record {
+      question = Question.Report (record { previous = c .told; time = c .tn; count = c .count; order = c .nq });
+      phase = Report;
+      common = with-total (c .nst + c .rejected) c;
+    })
+    (copyOf n (17 * n) 0 work)
+
+unfoldable pub closedAt : ℕ → Common → Weights → List Float → Kept
+closedAt n c (Refused i) work = kept (weightRefused c i) work
+closedAt n c Inverted work = reportedOf n c work
+
+unfoldable pub closeOf : Settings → Common → ℕ → List Float → List Float → List Float → Kept
+closeOf s c order rtol atol work =
+    let x = closedOf s c order rtol atol work in
+    closedAt (s .n) c (x .weights) (x .work)
+
+unfoldable pub acceptedAt : Settings → ℕ → List Float → List Float → Branch → Common → List Float → Kept
+acceptedAt s order rtol atol CoefficientGap c work = kept (finishedOf c Status.CoefficientGap) work
+acceptedAt s order rtol atol Unchanged c work = closeOf s c order rtol atol work
+acceptedAt s order rtol atol SmallGain c work = closeOf s c order rtol atol work
+acceptedAt s order rtol atol Lowered c work = closeOf s c order rtol atol work
+acceptedAt s order rtol atol KeptOrder c work = closeOf s c order rtol atol work
+acceptedAt s order rtol atol Raised c work = closeOf s c order rtol atol work
+acceptedAt s order rtol atol HeldBySm1 c work = closeOf s c order rtol atol work
+acceptedAt s order rtol atol FamilyChanged c work = closeOf s c order rtol atol work
+
+-- the weights are scaled by the order that the step used
+unfoldable pub acceptedOf : Settings → Common → Float → List Float → List Float → List Float → Kept
+acceptedOf s c dsm rtol atol work =
+    let x = acceptOf s c dsm work in
+    acceptedAt s (c .nq) rtol atol (x .branch) (x .common) (x .work)
+
+-- the error is above 1
+unfoldable pub convergedAt : Settings → Common → Float → List Float → List Float → Bool → List Float → Kept
+convergedAt s c dsm rtol atol true work = attemptedOf (s .n) (failedOf s c dsm work)
+convergedAt s c dsm rtol atol false work = acceptedOf s c dsm rtol atol work
+
+unfoldable pub convergedOf : Settings → Common → Float → List Float → List Float → List Float → Kept
+convergedOf s c del rtol atol work =
+    let dsm = errorOf s c del work in
+    convergedAt s c dsm rtol atol (Ieee.lt oneF dsm) work
+
+unfoldable pub unconvergedOf : Settings → Common → List Float → Kept
+unconvergedOf s c work = attemptedOf (s .n) (noConvergenceOf s c work)
+
+-- ---- iterations
+
+unfoldable pub concludedAt : Settings → Pass → Common → Float → List Float → List Float → List Float → Kept
+concludedAt s Pass.Converged c del rtol atol work = convergedOf s c del rtol atol work
+concludedAt s Pass.Retry c del rtol atol work = openPassOf (s .n) c work
+concludedAt s Pass.NoConvergence c del rtol atol work = unconvergedOf s c work
+concludedAt s Pass.Further c del rtol atol work = kept (askedInStepOf c FurtherDerivative) work
+
+-- the verdict weighs the correction against the norm of the prediction
+abbrev pub verdictOf : Settings → Common → Corrected → Verdict
+verdictOf s c x =
+    judgeOf s c (record { solved = x .solved; del = x .del })
+    (vmnormOf (column (s .n) 0 (x .work)) (ewt (s .n) (x .work)) .value)
+
+unfoldable pub iterateOf : Settings → Common → List Float → List Float → List ℕ → List Float → Kept
+iterateOf s c rtol atol ipiv work =
+    let x = correctOf s c ipiv work in
+    let v = verdictOf s c x in
+    concludedAt s (v .pass) (v .common) (x .del) rtol atol (x .work)
+
+unfoldable pub iterationsOf : Settings → Common → List Float → List Float → List ℕ → List Float → Kept
+iterationsOf s c rtol atol ipiv work = iterateOf s (openOf c) rtol atol ipiv (fillOf (s .n) (16 * s .n) zeroF work)
+
+-- ---- the Jacobian
+
+-- a singular matrix gives no convergence
+unfoldable pub factoredAt : Settings → List Float → List Float → Bool → Common → List ℕ → List Float → Kept
+factoredAt s rtol atol true c ipiv work = iterationsOf s c rtol atol ipiv work
+factoredAt s rtol atol false c ipiv work = unconvergedOf s c work
+
+unfoldable pub factoredOf : Settings → Common → List Float → List Float → List ℕ → List Float → Left
+factoredOf s c rtol atol ipiv work =
+    let f = factorsOf s c work ipiv in
+    leaving (f .ipiv) (factoredAt s rtol atol (f .done) (f .common) (f .ipiv) (f .work))
+
+-- difference column j is asked for
+unfoldable pub askColumnOf : Settings → Common → ℕ → List Float → Kept
+askColumnOf s c j work = kept (askedInStepOf (with-column j c) DifferenceColumn) (perturbOf s c j work)
+
+-- the host's Jacobian, in the second family alone
+abbrev pub isSupplied : Settings → Common → Bool
+isSupplied s c = isBdf (c .meth) && s .supplied
+
+abbrev pub jacobianAsked : Common → Turn
+jacobianAsked c = record { question = Question.Jacobian (record { time = c .tn }); phase = JacobianAsked; common = c }
+
+unfoldable pub beginJacobianAt : Settings → Bool → Common → List Float → Kept
+beginJacobianAt s true c work = kept (jacobianAsked c) work
+beginJacobianAt s false c work = askColumnOf s c 0 (copyOf (s .n) (18 * s .n) (17 * s .n) work)
+
+unfoldable pub beginJacobianOf : Settings → Common → List Float → Kept
+beginJacobianOf s c work = beginJacobianAt s (isSupplied s c) (beginOf c) work
+
+-- ---- replies
+
+-- a Jacobian is due
+unfoldable pub openedAt : Settings → Bool → Common → List Float → List Float → List ℕ → List Float → Kept
+openedAt s true c rtol atol ipiv work = beginJacobianOf s c work
+openedAt s false c rtol atol ipiv work = iterationsOf s c rtol atol ipiv work
+
+-- the derivative at the prediction
+unfoldable pub openedOf : Settings → Common → List Float → List Float → List Float → List ℕ → List Float → Kept
+openedOf s c rtol atol f ipiv work = openedAt s (c .due) c rtol atol ipiv (withDerivative (s .n) f work)
+
+-- the host's Jacobian
+unfoldable pub jacobianOf : Settings → Common → List Float → List Float → List Float → List ℕ → List Float → Left
+jacobianOf s c rtol atol f ipiv work = factoredOf s c rtol atol ipiv (Jacobian.suppliedOf s c f work)
+
+-- another column follows
+unfoldable pub columnAt : Settings → Bool → Common → List Float → List Float → List ℕ → List Float → Left
+columnAt s true c rtol atol ipiv work = leaving ipiv (askColumnOf s c (c .column + 1) work)
+columnAt s false c rtol atol ipiv work = factoredOf s (with-column 0 c) rtol atol ipiv work
+
+-- the derivative of a difference column
+unfoldable pub columnOf : Settings → Common → List Float → List Float → List Float → List ℕ → List Float → Left
+columnOf s c rtol atol f ipiv work =
+    columnAt s (ltb (c .column + 1) (s .n)) c rtol atol ipiv
+    (restoreOf s c (c .column) (putPart (15 * s .n) (length f) work f))
+
+-- a further derivative
+unfoldable pub furtherOf : Settings → Common → List Float → List Float → List Float → List ℕ → List Float → Kept
+furtherOf s c rtol atol f ipiv work = iterateOf s c rtol atol ipiv (withDerivative (s .n) f work)
+
+-- the derivative after the third to ninth error failure
+unfoldable pub restepOf : Settings → Common → List Float → List Float → Kept
+restepOf s c f work =
+    let m = Attempt.restepOf s c (withDerivative (s .n) f work) in
+    openPassOf (s .n) (m .common) (m .work)

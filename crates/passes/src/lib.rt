@@ -1,0 +1,298 @@
+// The replies in a pass, and how it ends: the Jacobian, the iterations, the error test, acceptance, the report.
+ghost use mathlib.Core.Path.{_≡_};
+ghost use Prim.Native.Nat.{_-_, _*_, _^_, _≤_, _<_};
+ghost use lib.ListN.{length};
+ghost use Rattle.vectors.specs.Tolerance.{List1OrN};
+ghost use Rattle.history.specs.Steps.{InRange};
+ghost use Rattle.turns.specs.Ranges.{Lent};
+ghost use Rattle.turns.specs.Requires.{Inside};
+ghost use Rattle.turns.specs.Turns.{kept, leaving};
+ghost use Rattle.passes.specs.Pass.{attemptedAt, reportedOf, closeOf, acceptedOf, convergedOf, unconvergedOf};
+ghost use Rattle.passes.specs.Pass.{iterateOf, iterationsOf, factoredOf, askColumnOf, beginJacobianOf};
+ghost use Rattle.passes.specs.Pass.{openedOf, jacobianOf, columnOf, furtherOf, restepOf};
+
+use attempt::Next;
+use common::Common;
+use common::Settings;
+use order::Branch;
+use turns::At;
+use turns::Phase;
+use turns::Question;
+use turns::Status;
+use turns::Step;
+use turns::Turn;
+use verdict::Pass;
+
+// ---- a pass's end
+
+// After a pass that was not accepted.
+fn attempted(a: attempt::Attempted, n: usize, work: &mut [f64]) -> Turn
+    requires { ⌜ (a .common .nfe < 2 ^ 63) × (a .common .count < 2 ^ 63) × (19 * n ≤ length (now work)) ⌝ }
+    ensures { λ r. ⌜ kept r (now (work .exit)) ≡ attemptedAt n (a .next) (a .common) (now (work .entry)) ⌝ }
+{
+    let next = a.next;
+    let c = a.common;
+    match next {
+        Next::Pass => turns::open_pass(c, n, work),
+        Next::Restep => turns::ask_in_step(c, Phase::Restep),
+        Next::TooSmall => turns::finish(c, Status::StepTooSmall),
+        Next::Poor => turns::finish(c, Status::PoorConvergence),
+    }
+}
+
+// The weights of the new state stand: the report.
+fn report(c: Common, n: usize, work: &mut [f64]) -> Turn
+    requires { ⌜ (c .nst < 2 ^ 63) × (c .rejected < 2 ^ 63) × (19 * n ≤ length (now work)) ⌝ }
+    ensures { λ r. ⌜ kept r (now (work .exit)) ≡ reportedOf n c (now (work .entry)) ⌝ }
+{
+    history::copy_part(work, n, 17 * n, 0);
+    let mut d = c;
+    d.total = c.nst + c.rejected;
+    let step = Step { previous: c.told, time: c.tn, count: c.count, order: c.nq };
+    Turn { question: Question::Report(step), phase: Phase::Report, common: d }
+}
+
+// The end of an accepted step that used the given order: weights, then the report or 12.
+fn close(s: Settings, c: Common, order: usize, rtol: &[f64], atol: &[f64], work: &mut [f64]) -> Turn
+    requires { ⌜ InRange s c ⌝ }
+    requires { ⌜ (1 ≤ order) × (order ≤ 12) ⌝ }
+    requires { ⌜ (c .nst < 2 ^ 63) × (c .rejected < 2 ^ 63) ⌝ }
+    requires { ⌜ List1OrN (now rtol) (s .n - 1) ⌝ }
+    requires { ⌜ List1OrN (now atol) (s .n - 1) ⌝ }
+    requires { ⌜ 19 * s .n ≤ length (now work) ⌝ }
+    ensures { λ r. ⌜ kept r (now (work .exit))
+        ≡ closeOf s c order (now (rtol .entry)) (now (atol .entry)) (now (work .entry)) ⌝ }
+{
+    match acceptance::close(s, c, order, rtol, atol, work) {
+        vectors::Weights::Refused(i) => {
+            Turn { question: Question::WeightRefused(i), phase: Phase::Finished, common: c }
+        }
+        vectors::Weights::Inverted => report(c, s.n, work),
+    }
+}
+
+// The error is at most 1, or a NaN: the step is accepted.
+fn accept(s: Settings, c: Common, dsm: f64, rtol: &[f64], atol: &[f64], work: &mut [f64]) -> Turn
+    requires { ⌜ Inside s c ⌝ }
+    requires { ⌜ List1OrN (now rtol) (s .n - 1) ⌝ }
+    requires { ⌜ List1OrN (now atol) (s .n - 1) ⌝ }
+    requires { ⌜ 19 * s .n ≤ length (now work) ⌝ }
+    ensures { λ r. ⌜ kept r (now (work .exit))
+        ≡ acceptedOf s c dsm (now (rtol .entry)) (now (atol .entry)) (now (work .entry)) ⌝ }
+{
+    let order = c.nq;
+    let chosen = acceptance::accept(s, c, dsm, work);
+    let branch = chosen.branch;
+    let d = chosen.common;
+    match branch {
+        Branch::CoefficientGap => turns::finish(d, Status::CoefficientGap),
+        Branch::Unchanged
+        | Branch::SmallGain
+        | Branch::Lowered
+        | Branch::Kept
+        | Branch::Raised
+        | Branch::HeldBySm1
+        | Branch::FamilyChanged => close(s, d, order, rtol, atol, work),
+    }
+}
+
+// The pass has converged: the error test.
+fn converged(s: Settings, c: Common, del: f64, rtol: &[f64], atol: &[f64], work: &mut [f64]) -> Turn
+    requires { ⌜ Inside s c ⌝ }
+    requires { ⌜ List1OrN (now rtol) (s .n - 1) ⌝ }
+    requires { ⌜ List1OrN (now atol) (s .n - 1) ⌝ }
+    requires { ⌜ 19 * s .n ≤ length (now work) ⌝ }
+    ensures { λ r. ⌜ kept r (now (work .exit))
+        ≡ convergedOf s c del (now (rtol .entry)) (now (atol .entry)) (now (work .entry)) ⌝ }
+{
+    let dsm = attempt::error(s, c, del, work);
+    if dsm > 1.0 {
+        return attempted(attempt::error_failure(s, c, dsm, work), s.n, work);
+    }
+    accept(s, c, dsm, rtol, atol, work)
+}
+
+fn unconverged(s: Settings, c: Common, work: &mut [f64]) -> Turn
+    requires { ⌜ Inside s c ⌝ }
+    requires { ⌜ 19 * s .n ≤ length (now work) ⌝ }
+    ensures { λ r. ⌜ kept r (now (work .exit)) ≡ unconvergedOf s c (now (work .entry)) ⌝ }
+{
+    attempted(attempt::no_convergence(s, c, work), s.n, work)
+}
+
+// One iteration, and what its verdict leads to.
+fn iterate(s: Settings, c: Common, rtol: &[f64], atol: &[f64], work: &mut [f64], ipiv: &[usize]) -> Turn
+    requires { ⌜ Inside s c ⌝ }
+    requires { ⌜ List1OrN (now rtol) (s .n - 1) ⌝ }
+    requires { ⌜ List1OrN (now atol) (s .n - 1) ⌝ }
+    requires { ⌜ Lent (s .n) (now work) (now ipiv) ⌝ }
+    ensures { λ r. ⌜ kept r (now (work .exit))
+        ≡ iterateOf s c (now (rtol .entry)) (now (atol .entry)) (now (ipiv .entry)) (now (work .entry)) ⌝ }
+{
+    let n = s.n;
+    let x = corrector::correct(s, c, work, ipiv);
+    let w = 13 * n;
+    let we = 14 * n;
+    let pnorm = vectors::vmnorm(&work[0..n], &work[w..we]).value;
+    let verdict = verdict::judge(s, c, x, pnorm);
+    let pass = verdict.pass;
+    let d = verdict.common;
+    match pass {
+        Pass::Converged => converged(s, d, x.del, rtol, atol, work),
+        Pass::Retry => turns::open_pass(d, n, work),
+        Pass::NoConvergence => unconverged(s, d, work),
+        Pass::Further => turns::ask_in_step(d, Phase::FurtherDerivative),
+    }
+}
+
+fn iterations(s: Settings, c: Common, rtol: &[f64], atol: &[f64], work: &mut [f64], ipiv: &[usize]) -> Turn
+    requires { ⌜ Inside s c ⌝ }
+    requires { ⌜ List1OrN (now rtol) (s .n - 1) ⌝ }
+    requires { ⌜ List1OrN (now atol) (s .n - 1) ⌝ }
+    requires { ⌜ Lent (s .n) (now work) (now ipiv) ⌝ }
+    ensures { λ r. ⌜ kept r (now (work .exit))
+        ≡ iterationsOf s c (now (rtol .entry)) (now (atol .entry)) (now (ipiv .entry)) (now (work .entry)) ⌝ }
+{
+    let d = corrector::open_iterations(c, work, s.n);
+    iterate(s, d, rtol, atol, work, ipiv)
+}
+
+// The matrix is complete: factored, then the iterations; a singular one gives no convergence.
+fn factored(s: Settings, c: Common, rtol: &[f64], atol: &[f64], work: &mut [f64], ipiv: &mut [usize]) -> Turn
+    requires { ⌜ Inside s c ⌝ }
+    requires { ⌜ c .nlu < 2 ^ 63 ⌝ }
+    requires { ⌜ List1OrN (now rtol) (s .n - 1) ⌝ }
+    requires { ⌜ List1OrN (now atol) (s .n - 1) ⌝ }
+    requires { ⌜ Lent (s .n) (now work) (now ipiv) ⌝ }
+    ensures { λ r. ⌜ leaving (now (ipiv .exit)) (kept r (now (work .exit)))
+        ≡ factoredOf s c (now (rtol .entry)) (now (atol .entry)) (now (ipiv .entry)) (now (work .entry)) ⌝ }
+{
+    let f = jacobian::finish_jacobian(s, c, work, ipiv);
+    let done = f.done;
+    let d = f.common;
+    if done {
+        return iterations(s, d, rtol, atol, work, ipiv);
+    }
+    unconverged(s, d, work)
+}
+
+// ---- replies in a pass
+
+// A difference column is asked for.
+fn ask_column(s: Settings, c: Common, j: usize, work: &mut [f64]) -> Turn
+    requires { ⌜ (s .n ≤ 64) × (j < s .n) ⌝ }
+    requires { ⌜ (c .nfe < 2 ^ 63) × (c .count < 2 ^ 63) ⌝ }
+    requires { ⌜ 19 * s .n ≤ length (now work) ⌝ }
+    ensures { λ r. ⌜ kept r (now (work .exit)) ≡ askColumnOf s c j (now (work .entry)) ⌝ }
+{
+    jacobian::perturb(s, c, work, j);
+    let mut d = c;
+    d.column = j;
+    turns::ask_in_step(d, Phase::DifferenceColumn)
+}
+
+// A Jacobian begins: asked of the host, or by differences from the first column.
+fn begin_jacobian(s: Settings, c: Common, work: &mut [f64]) -> Turn
+    requires { ⌜ Inside s c ⌝ }
+    requires { ⌜ c .nje < 2 ^ 63 ⌝ }
+    requires { ⌜ 19 * s .n ≤ length (now work) ⌝ }
+    ensures { λ r. ⌜ kept r (now (work .exit)) ≡ beginJacobianOf s c (now (work .entry)) ⌝ }
+{
+    let d = jacobian::begin_jacobian(c);
+    let meth = c.meth;
+    if common::is_bdf(meth) {
+        let supplied = s.supplied;
+        if supplied {
+            return Turn { question: Question::Jacobian(At { time: c.tn }), phase: Phase::JacobianAsked, common: d };
+        }
+    }
+    let n = s.n;
+    history::copy_part(work, n, 18 * n, 17 * n);
+    ask_column(s, d, 0, work)
+}
+
+// The derivative at the prediction.
+pub fn opened(s: Settings, c: Common, rtol: &[f64], atol: &[f64], f: &[f64], work: &mut [f64], ipiv: &[usize]) -> Turn
+    requires { ⌜ Inside s c ⌝ }
+    requires { ⌜ c .nje < 2 ^ 63 ⌝ }
+    requires { ⌜ List1OrN (now rtol) (s .n - 1) ⌝ }
+    requires { ⌜ List1OrN (now atol) (s .n - 1) ⌝ }
+    requires { ⌜ length (now f) ≡ s .n ⌝ }
+    requires { ⌜ Lent (s .n) (now work) (now ipiv) ⌝ }
+    ensures { λ r. ⌜ kept r (now (work .exit))
+        ≡ openedOf s c (now (rtol .entry)) (now (atol .entry)) (now (f .entry))
+            (now (ipiv .entry)) (now (work .entry)) ⌝ }
+{
+    history::store(work, 14 * s.n, f);
+    let due = c.due;
+    if due {
+        return begin_jacobian(s, c, work);
+    }
+    iterations(s, c, rtol, atol, work, ipiv)
+}
+
+// The host's Jacobian.
+pub fn jacobian(s: Settings, c: Common, rtol: &[f64], atol: &[f64], f: &[f64], work: &mut [f64], ipiv: &mut [usize]) -> Turn
+    requires { ⌜ Inside s c ⌝ }
+    requires { ⌜ c .nlu < 2 ^ 63 ⌝ }
+    requires { ⌜ List1OrN (now rtol) (s .n - 1) ⌝ }
+    requires { ⌜ List1OrN (now atol) (s .n - 1) ⌝ }
+    requires { ⌜ length (now f) ≡ s .n * s .n ⌝ }
+    requires { ⌜ Lent (s .n) (now work) (now ipiv) ⌝ }
+    ensures { λ r. ⌜ leaving (now (ipiv .exit)) (kept r (now (work .exit)))
+        ≡ jacobianOf s c (now (rtol .entry)) (now (atol .entry)) (now (f .entry))
+            (now (ipiv .entry)) (now (work .entry)) ⌝ }
+{
+    jacobian::store_jacobian(s, c, work, f);
+    factored(s, c, rtol, atol, work, ipiv)
+}
+
+// The derivative of a difference column.
+pub fn column(s: Settings, c: Common, rtol: &[f64], atol: &[f64], f: &[f64], work: &mut [f64], ipiv: &mut [usize]) -> Turn
+    requires { ⌜ Inside s c ⌝ }
+    requires { ⌜ c .nlu < 2 ^ 63 ⌝ }
+    requires { ⌜ List1OrN (now rtol) (s .n - 1) ⌝ }
+    requires { ⌜ List1OrN (now atol) (s .n - 1) ⌝ }
+    requires { ⌜ length (now f) ≡ s .n ⌝ }
+    requires { ⌜ Lent (s .n) (now work) (now ipiv) ⌝ }
+    ensures { λ r. ⌜ leaving (now (ipiv .exit)) (kept r (now (work .exit)))
+        ≡ columnOf s c (now (rtol .entry)) (now (atol .entry)) (now (f .entry))
+            (now (ipiv .entry)) (now (work .entry)) ⌝ }
+{
+    history::store(work, 15 * s.n, f);
+    let j = c.column;
+    jacobian::store_column(s, c, work, j);
+    if j + 1 < s.n {
+        return ask_column(s, c, j + 1, work);
+    }
+    let mut d = c;
+    d.column = 0;
+    factored(s, d, rtol, atol, work, ipiv)
+}
+
+// A further derivative.
+pub fn further(s: Settings, c: Common, rtol: &[f64], atol: &[f64], f: &[f64], work: &mut [f64], ipiv: &[usize]) -> Turn
+    requires { ⌜ Inside s c ⌝ }
+    requires { ⌜ List1OrN (now rtol) (s .n - 1) ⌝ }
+    requires { ⌜ List1OrN (now atol) (s .n - 1) ⌝ }
+    requires { ⌜ length (now f) ≡ s .n ⌝ }
+    requires { ⌜ Lent (s .n) (now work) (now ipiv) ⌝ }
+    ensures { λ r. ⌜ kept r (now (work .exit))
+        ≡ furtherOf s c (now (rtol .entry)) (now (atol .entry)) (now (f .entry))
+            (now (ipiv .entry)) (now (work .entry)) ⌝ }
+{
+    history::store(work, 14 * s.n, f);
+    iterate(s, c, rtol, atol, work, ipiv)
+}
+
+// The derivative after the third to ninth error failure.
+pub fn restep(s: Settings, c: Common, f: &[f64], work: &mut [f64]) -> Turn
+    requires { ⌜ Inside s c ⌝ }
+    requires { ⌜ length (now f) ≡ s .n ⌝ }
+    requires { ⌜ 19 * s .n ≤ length (now work) ⌝ }
+    ensures { λ r. ⌜ kept r (now (work .exit)) ≡ restepOf s c (now (f .entry)) (now (work .entry)) ⌝ }
+{
+    history::store(work, 14 * s.n, f);
+    let d = attempt::restep(s, c, work);
+    turns::open_pass(d, s.n, work)
+}

@@ -1,0 +1,3 @@
+pub mod Keeps
+pub mod Lengths
+pub mod Order

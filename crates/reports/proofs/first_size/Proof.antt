@@ -1,0 +1,72 @@
+-- `first_size` meets its contract: the two sizes on the way are the definition's, test by test.
+-- Assumes nothing.
+use mathlib.Core.Path.{_≡_, _∙_}
+use mathlib.Core.Bool.{cond}
+use mathlib.Core.Logic.{⊎-elim}
+use borrow.Author.Needs.{needs}
+use Rattle.numbers.specs.Float.{zeroF, oneF, _⊖_, _⊗_, _⊘_}
+use Rattle.numbers.specs.Sign.{absOf}
+use Rattle.numbers.specs.Order.{maxOf}
+use Rattle.reports.specs.Reports.{firstSizeOf}
+use lib.Ieee as Ieee
+use Rattle.reports.proofs.first_size.Statement.{statement}
+use Rattle.reports.proofs.first_size.Tie as tie
+
+abs-requires : tie.Need-abs-requires
+abs-requires c κs = search needs
+
+max-requires : tie.Need-max-requires
+max-requires c κs = search needs
+
+abs-requires-2 : tie.Need-abs-requires-2
+abs-requires-2 c κs = search needs
+
+abs-requires-3 : tie.Need-abs-requires-3
+abs-requires-3 c κs = search needs
+
+abs-requires-4 : tie.Need-abs-requires-4
+abs-requires-4 c κs = search needs
+
+returns : tie.Need-returns
+unfolding firstSizeOf
+returns c =
+    let k = c .before .before .before .before in
+    let j = k .before .before .before .before in
+    let a = j .before .before .args in
+    let d = a .s .xend ⊖ a .x0 in
+    let h1 : j .if1 .h1 ≡ cond (Ieee.ne (a .s .hmxi) zeroF) (a .h ⊘ maxOf (absOf (a .h) ⊗ a .s .hmxi) oneF) (a .h) =
+    ⊎-elim (λ w. w .4 ∙ rw (w .0 .taken, w .3 .ensures, w .1 .ensures)) (λ w. w .1 ∙ rw (w .0 .left)) (j .if1 .came)
+    in
+    let h2 : k .if2 .h2 ≡ cond (Ieee.lt (absOf d) (absOf (j .if1 .h1))) d (j .if1 .h1) =
+    ⊎-elim (λ w. w .2 ∙ rw (← k .before .abs3 .ensures, ← k .before .before .before .abs2 .ensures, w .0 .taken))
+    (λ w. w .1 ∙ rw (← k .before .abs3 .ensures, ← k .before .before .before .abs2 .ensures, w .0 .left)) (k .if2 .came)
+    in
+    rw (← h1, ← h2, ← c .before .before .before .abs4 .ensures, c .before .if3 .taken)
+
+returns-2 : tie.Need-returns-2
+unfolding firstSizeOf
+returns-2 c =
+    let k = c .before .before .before in
+    let j = k .before .before .before .before in
+    let a = j .before .before .args in
+    let d = a .s .xend ⊖ a .x0 in
+    let h1 : j .if1 .h1 ≡ cond (Ieee.ne (a .s .hmxi) zeroF) (a .h ⊘ maxOf (absOf (a .h) ⊗ a .s .hmxi) oneF) (a .h) =
+    ⊎-elim (λ w. w .4 ∙ rw (w .0 .taken, w .3 .ensures, w .1 .ensures)) (λ w. w .1 ∙ rw (w .0 .left)) (j .if1 .came)
+    in
+    let h2 : k .if2 .h2 ≡ cond (Ieee.lt (absOf d) (absOf (j .if1 .h1))) d (j .if1 .h1) =
+    ⊎-elim (λ w. w .2 ∙ rw (← k .before .abs3 .ensures, ← k .before .before .before .abs2 .ensures, w .0 .taken))
+    (λ w. w .1 ∙ rw (← k .before .abs3 .ensures, ← k .before .before .before .abs2 .ensures, w .0 .left)) (k .if2 .came)
+    in
+    rw (← h1, ← h2, ← c .before .before .abs4 .ensures, c .if3 .left)
+
+pub first-size-spec : {M : Type 1} → statement M
+first-size-spec =
+    tie.close
+    (tie.spec
+    abs-requires
+    max-requires
+    abs-requires-2
+    abs-requires-3
+    abs-requires-4
+    returns
+    returns-2)

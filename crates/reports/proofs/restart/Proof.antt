@@ -1,0 +1,13 @@
+-- `restart` meets its contract: field by field. Assumes nothing.
+use borrow.Author.Needs.{needs}
+use Rattle.reports.proofs.restart.Statement.{statement}
+use Rattle.reports.proofs.restart.Tie as tie
+
+with-family-requires : tie.Need-with-family-requires
+with-family-requires c κs = search needs
+
+returns : tie.Need-returns
+returns c = rw (c .with-family .ensures)
+
+pub restart-spec : {M : Type 1} → statement M
+restart-spec = tie.close (tie.spec with-family-requires returns)

@@ -1,0 +1,40 @@
+-- `sized` meets its contract: the first step is refused, or limited and multiplied into column 1.
+-- Assumes nothing.
+use borrow.Author.Needs.{needs}
+use Rattle.reports.specs.Reports.{sizedOf, sizedAt}
+use Rattle.reports.proofs.sized.Statement.{statement}
+use Rattle.reports.proofs.sized.Tie as tie
+
+is-refused-requires : tie.Need-is-refused-requires
+is-refused-requires c κs = search needs
+
+returns : tie.Need-returns
+unfolding sizedOf sizedAt
+returns c = rw (← c .before .is-refused .ensures, c .if1 .taken)
+
+first-size-requires : tie.Need-first-size-requires
+first-size-requires c κs = search needs
+
+set-slope-requires : tie.Need-set-slope-requires
+set-slope-requires c κs = search needs
+
+same-length : tie.Need-same-length
+same-length c = search needs
+
+returns-2 : tie.Need-returns-2
+unfolding sizedOf sizedAt
+returns-2 c =
+    let f = c .before .before .before .before in
+    rw (c .before .before .set-slope .ensures, f .first-size .ensures, ← f .before .before .is-refused .ensures,
+      f .before .if1 .left)
+
+pub sized-spec : {M : Type 1} → statement M
+sized-spec =
+    tie.close
+    (tie.spec
+    is-refused-requires
+    returns
+    first-size-requires
+    set-slope-requires
+    same-length
+    returns-2)

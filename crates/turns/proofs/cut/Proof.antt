@@ -1,0 +1,24 @@
+-- `cut` meets its contract: the setup flag does not matter to the rescale. Assumes nothing.
+use mathlib.Core.Path.{refl}
+use native.Mathlib.Omega.{arith}
+use borrow.Author.Needs.{needs}
+use Rattle.history.proofs.Laws.{same-range}
+use Rattle.turns.specs.Begin.{cutOf}
+use Rattle.turns.proofs.Inside.{in-range}
+use Rattle.turns.proofs.cut.Statement.{statement}
+use Rattle.turns.proofs.cut.Tie as tie
+
+stoda-adjust-step-size-requires : tie.Need-stoda-adjust-step-size-requires
+stoda-adjust-step-size-requires c κs =
+    let a = c .before .before .before .before .before in
+    (same-range _ refl refl refl refl (in-range (a .pre .0)), omega arith)
+
+same-length : tie.Need-same-length
+same-length c = search needs
+
+returns : tie.Need-returns
+unfolding cutOf
+returns c = let e = c .before .before .stoda-adjust-step-size .ensures in rw (e .0, e .1)
+
+pub cut-spec : {M : Type 1} → statement M
+cut-spec = tie.close (tie.spec stoda-adjust-step-size-requires same-length returns)

@@ -1,0 +1,4 @@
+pub mod Ranges
+pub mod Requires
+pub mod Turns
+pub mod Begin

@@ -1,0 +1,40 @@
+-- What the functions inside a reply ask of the record, and what a reply asks of a session and of what is lent.
+-- A count rises at most once or twice in a reply, so that below 2^62 none can overflow.
+use mathlib.Core.List.{List}
+use Prim.Native.Nat.{ℕ, _-_, _^_, _<_}
+use lib.Ieee.{Float}
+use Rattle.vectors.specs.Tolerance.{List1OrN}
+use Rattle.common.specs.declared.Settings.{Settings}
+use Rattle.common.specs.declared.Common.{Common}
+use Rattle.turns.specs.declared.Session.{Session}
+use Rattle.turns.specs.declared.Phase.{Phase}
+use Rattle.turns.specs.declared.Phase.the-variants as Phase
+use Rattle.turns.specs.Ranges.{Accepted, Orders, Ranges, Lent}
+
+-- inside a reply; nslp becomes nst where a Jacobian is made
+pub record Inside (s : Settings) (c : Common) : Type 0 where
+  pub settings : Accepted s
+  pub orders : Orders s c
+  pub steps : (c .nslp < 2 ^ 62) × (c .nst < 2 ^ 62)
+  pub counts : (c .nfe < 2 ^ 63) × (c .count < 2 ^ 63) × (c .rejected < 2 ^ 63)
+
+-- a session, the tolerance lists, the work and the pivots that a reply takes
+pub record Resumes (x : Session) (rtol atol work : List Float) (ipiv : List ℕ) : Type 0 where
+  pub ranges : Ranges (x .settings) (x .common)
+  pub relative : List1OrN rtol (x .settings .n - 1)
+  pub absolute : List1OrN atol (x .settings .n - 1)
+  pub lent : Lent (x .settings .n) work ipiv
+
+-- a finished session needs nothing
+abbrev pub UnlessFinished : Phase → Type 0 → Type 0
+UnlessFinished Phase.FirstDerivative X = X
+UnlessFinished Phase.FirstReport X = X
+UnlessFinished Phase.FirstModified X = X
+UnlessFinished Phase.Opened X = X
+UnlessFinished Phase.JacobianAsked X = X
+UnlessFinished Phase.DifferenceColumn X = X
+UnlessFinished Phase.FurtherDerivative X = X
+UnlessFinished Phase.Restep X = X
+UnlessFinished Phase.Report X = X
+UnlessFinished Phase.Modified X = X
+UnlessFinished Phase.Finished X = Unit {0}

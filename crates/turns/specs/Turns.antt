@@ -1,0 +1,72 @@
+-- What a reply leads to: the next question, the phase that waits for its reply, the record, the work and the pivots.
+-- The counts of derivatives rise when the question is asked.
+use mathlib.Core.List.{List}
+use Prim.Native.Nat.{ℕ, _+_, _*_}
+use lib.ListN.{length}
+use lib.Ieee.{Float}
+use Rattle.loops.specs.Part.{putPart}
+use Rattle.common.specs.declared.Common.{Common}
+use Rattle.common.specs.Record.{with-nfe, with-count}
+use Rattle.turns.specs.declared.Phase.{Phase}
+use Rattle.turns.specs.declared.Phase.the-variants.{Finished}
+use Rattle.turns.specs.declared.Status.{Status}
+use Rattle.turns.specs.declared.Question.the-variants as Question
+use Rattle.turns.specs.declared.Turn.{Turn}
+
+-- a turn, and the work then
+pub record Kept : Type 0 where
+  pub turn : Turn
+  pub work : List Float
+
+-- a turn, and the work and the pivots then
+pub record Left : Type 0 where
+  pub turn : Turn
+  pub work : List Float
+  pub ipiv : List ℕ
+
+abbrev pub kept : Turn → List Float → Kept
+kept t work = record { turn = t; work = work }
+
+-- the pivots as they were
+abbrev pub leaving : List ℕ → Kept → Left
+leaving ipiv k = record { turn = k .turn; work = k .work; ipiv = ipiv }
+
+-- a derivative that belongs to no step
+unfoldable pub askedOf : Common → Phase → Turn
+askedOf c phase = record {
+  question = Question.Derivative (record { time = c .tn });
+  phase = phase;
+  common = with-nfe (c .nfe + 1) c;
+}
+
+-- a derivative of the step under way
+unfoldable pub askedInStepOf : Common → Phase → Turn
+askedInStepOf c phase = record {
+  question = Question.Derivative (record { time = c .tn });
+  phase = phase;
+  common = with-nfe (c .nfe + 1) (with-count (c .count + 1) c);
+}
+
+unfoldable pub finishedOf : Common → Status → Turn
+finishedOf c status = record {
+  question = Question.Finished (record {
+    h = c .h;
+    status = status;
+    nfe = c .nfe;
+    nje = c .nje;
+    nlu = c .nlu;
+    total = c .total;
+    accepted = c .nst;
+    rejected = c .rejected;
+  });
+  phase = Finished;
+  common = c;
+}
+
+-- 12: the weight at this index is at most 0
+abbrev pub weightRefused : Common → ℕ → Turn
+weightRefused c i = record { question = Question.WeightRefused i; phase = Finished; common = c }
+
+-- savf becomes the reply
+abbrev pub withDerivative : ℕ → List Float → List Float → List Float
+withDerivative n f work = putPart (14 * n) (length f) work f
