@@ -137,11 +137,10 @@ def table(name, entries):
 
 
 def accessor(name, const):
-    return f"""pub fn {name}(i: usize) -> usize
-    requires {{ ⌜ i < {COUNTS} ⌝ }}
-    ensures {{ λ r. ⌜ r ≡ getD {name} i 0 ⌝ }}
+    return f"""pub fn {name}() -> [usize; {COUNTS}]
+    ensures {{ λ r. ⌜ r ≡ {name} ⌝ }}
 {{
-    {const}[i]
+    {const}
 }}
 """
 
@@ -162,8 +161,6 @@ def source():
     text = f"""// A session's fields as words and back, and the ranges of 13 that one word says.
 // Made by tools/record.py from the structs of crates/common/src/lib.rt.
 ghost use mathlib.Core.Path.{{_≡_}};
-ghost use Prim.Native.Nat.{{_<_}};
-ghost use lib.ListN.{{getD}};
 ghost use Rattle.session.specs.Fields.{{countsOf, floatsOf, settingsOf, floatsAloneOf, commonOf}};
 ghost use Rattle.session.specs.Fields.{{lowest, highest}};
 ghost use Rattle.session.specs.Session.{{sessionOf}};
@@ -176,7 +173,7 @@ use common::MethodFamily;
 use common::Settings;
 use turns::Session;
 
-// The least value of each word.
+// The least value of each word. A table is answered whole, to be bound once: an index into the constant writes all of it anew.
 {table("LOWEST", [(bounds(r[2])[0], r[2]) for r in counts])}
 // The greatest value of each word.
 {table("HIGHEST", [(bounds(r[2])[1], r[2]) for r in counts])}

@@ -1,8 +1,6 @@
 // A session's fields as words and back, and the ranges of 13 that one word says.
 // Made by tools/record.py from the structs of crates/common/src/lib.rt.
 ghost use mathlib.Core.Path.{_≡_};
-ghost use Prim.Native.Nat.{_<_};
-ghost use lib.ListN.{getD};
 ghost use Rattle.session.specs.Fields.{countsOf, floatsOf, settingsOf, floatsAloneOf, commonOf};
 ghost use Rattle.session.specs.Fields.{lowest, highest};
 ghost use Rattle.session.specs.Session.{sessionOf};
@@ -15,7 +13,7 @@ use common::MethodFamily;
 use common::Settings;
 use turns::Session;
 
-// The least value of each word.
+// The least value of each word. A table is answered whole, to be bound once: an index into the constant writes all of it anew.
 const LOWEST: [usize; 34] = [
     0, // phase
     1, // n
@@ -91,18 +89,16 @@ const HIGHEST: [usize; 34] = [
     1, // setup
 ];
 
-pub fn lowest(i: usize) -> usize
-    requires { ⌜ i < 34 ⌝ }
-    ensures { λ r. ⌜ r ≡ getD lowest i 0 ⌝ }
+pub fn lowest() -> [usize; 34]
+    ensures { λ r. ⌜ r ≡ lowest ⌝ }
 {
-    LOWEST[i]
+    LOWEST
 }
 
-pub fn highest(i: usize) -> usize
-    requires { ⌜ i < 34 ⌝ }
-    ensures { λ r. ⌜ r ≡ getD highest i 0 ⌝ }
+pub fn highest() -> [usize; 34]
+    ensures { λ r. ⌜ r ≡ highest ⌝ }
 {
-    HIGHEST[i]
+    HIGHEST
 }
 
 // Words 0 to 33 of a session.

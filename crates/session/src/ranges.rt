@@ -1,7 +1,8 @@
 // The ranges of 13: each word by itself, fields against each other, tolerances, pivots.
 ghost use mathlib.Core.Path.{_≡_};
-ghost use mathlib.Core.Bool.{Bool};
+ghost use mathlib.Core.Bool.{Bool, _&&_};
 ghost use Prim.Native.Nat.{_+_, _*_, _≤_, _<_};
+ghost use lib.Dec.{leb};
 ghost use lib.ListN.{length, getD};
 ghost use Rattle.session.specs.Session.{every, wordInRange, oneOrN, listsInRange, ordersInRange};
 ghost use Rattle.session.specs.Session.{countersInRange, fieldsInRange};
@@ -10,22 +11,23 @@ use common::Common;
 use common::Settings;
 
 // Whether a word is between its least and its greatest value.
-fn word(u: &[usize; 34], i: usize) -> bool
-    requires { ⌜ i < 34 ⌝ }
-    ensures { λ r. ⌜ r ≡ wordInRange (now (u .entry)) i ⌝ }
+fn between(low: usize, w: usize, high: usize) -> bool
+    ensures { λ r. ⌜ r ≡ (leb low w && leb w high) ⌝ }
 {
-    if u[i] < crate::fields::lowest(i) {
+    if w < low {
         return false;
     }
-    u[i] <= crate::fields::highest(i)
+    w <= high
 }
 
 // Whether each word is.
 fn words(u: &[usize; 34]) -> bool
     ensures { λ r. ⌜ r ≡ every (wordInRange (now (u .entry))) 34 ⌝ }
 {
+    let low = crate::fields::lowest();
+    let high = crate::fields::highest();
     for i in 0..34usize {
-        if !word(u, i) {
+        if !between(low[i], u[i], high[i]) {
             return false;
         }
     }
