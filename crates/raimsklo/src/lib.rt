@@ -161,9 +161,14 @@ pub extern "C" fn raimsklo_reply(
           session = now (session .entry); question = now (question .entry);
         })) ⌝ }
 {
-    let r = reply::refusal(kind, work.len(), pivots, session, question.len());
+    if session.len() != 1448 {
+        return answers::refused(refusals::plain(3));
+    }
+    let u = session::counts(session);
+    let x = session::decode(&u, session);
+    let r = reply::refusal(kind, &u, x, work.len(), pivots, session, question.len());
     if r.number != 0 {
         return answers::refused(r);
     }
-    reply::go(reply::kind(kind), numbers, time, work, pivots, session, question)
+    reply::go(x, reply::kind(kind), numbers, time, work, pivots, session, question)
 }

@@ -3,6 +3,7 @@ ghost use mathlib.Core.Path.{_≡_};
 ghost use mathlib.Core.Bool.{Bool, true};
 ghost use Prim.Native.Nat.{ℕ, _+_, _*_, _≤_, _<_};
 ghost use lib.ListN.{length};
+ghost use Rattle.session.specs.Words.{countsIn};
 ghost use Rattle.session.specs.Session.{inRangeOf, decodeOf};
 ghost use Rattle.raimsklo.specs.Calls.{Called, isKind, kindOf, lengthsRefusal, replyRefusalOf};
 ghost use Rattle.raimsklo.specs.Calls.{storedRefusal, Sized, questionOf, isUnasked, Settled, settledOf, goOf};
@@ -57,26 +58,34 @@ fn lengths(n: usize, work: usize, pivots: usize, question: usize) -> Refusal
 }
 
 // 14 or 13 of a session with its lengths: a finished one is judged by its n and phase alone.
-fn stored(known: bool, pivots: &[usize], bytes: &[u8]) -> Refusal
+fn stored(known: bool, u: &[usize; 34], x: Session, pivots: &[usize], bytes: &[u8]) -> Refusal
     requires { ⌜ 1448 ≤ length (now bytes) ⌝ }
+    requires { ⌜ (now u ≡ countsIn (now bytes)) × (x ≡ decodeOf (now bytes)) ⌝ }
     ensures { λ r. ⌜ r ≡ storedRefusal known (now (pivots .entry)) (now (bytes .entry)) ⌝ }
 {
     if session::is_finished(bytes) {
         return refusals::plain(14);
     }
-    if !session::in_range(bytes, pivots) {
+    if !session::in_range(u, x, bytes, pivots) {
         return refusals::plain(13);
     }
     refusals::also(refusals::none(), !known, 14)
 }
 
-// 3, 13, 14; a stored n outside 1 to 64 gives 13 before the lengths that need it.
-pub fn refusal(kind: usize, work: usize, pivots: &[usize], bytes: &[u8], question: usize) -> Refusal
+// 3, 13, 14 of a session of the right length; a stored n outside 1 to 64 gives 13 before the lengths that need it.
+pub fn refusal(
+    kind: usize,
+    u: &[usize; 34],
+    x: Session,
+    work: usize,
+    pivots: &[usize],
+    bytes: &[u8],
+    question: usize,
+) -> Refusal
+    requires { ⌜ length (now bytes) ≡ 1448 ⌝ }
+    requires { ⌜ (now u ≡ countsIn (now bytes)) × (x ≡ decodeOf (now bytes)) ⌝ }
     ensures { λ r. ⌜ r ≡ replyRefusalOf kind work (now (pivots .entry)) (now (bytes .entry)) question ⌝ }
 {
-    if bytes.len() != 1448 {
-        return refusals::plain(3);
-    }
     let n = session::stored_n(bytes);
     if n == 0 {
         return refusals::plain(13);
@@ -88,7 +97,7 @@ pub fn refusal(kind: usize, work: usize, pivots: &[usize], bytes: &[u8], questio
     if r.number != 0 {
         return r;
     }
-    stored(is_kind(kind), pivots, bytes)
+    stored(is_kind(kind), u, x, pivots, bytes)
 }
 
 // y stands first, the snapshot from n on; an end leaves the question as it was.
@@ -153,7 +162,9 @@ fn settle(s: Settings, turn: Turn, work: &[f64], bytes: &mut [u8], question: &mu
     crate::answers::answer(q)
 }
 
+// The reply of a session that is not refused; x as it was read from the bytes.
 pub fn go(
+    x: Session,
     kind: Kind,
     numbers: &[f64],
     time: f64,
@@ -163,7 +174,7 @@ pub fn go(
     question: &mut [f64],
 ) -> Reply
     requires { ⌜ length (now bytes) ≡ 1448 ⌝ }
-    requires { ⌜ inRangeOf (now bytes) (now pivots) ≡ true ⌝ }
+    requires { ⌜ (inRangeOf (now bytes) (now pivots) ≡ true) × (x ≡ decodeOf (now bytes)) ⌝ }
     requires { ⌜ Sized (decodeOf (now bytes) .settings .n) (now work) (now pivots) (now question) ⌝ }
     ensures { λ r. ⌜ _≡_ {A = Called} (record {
           reply = r;
@@ -177,11 +188,10 @@ pub fn go(
           session = now (bytes .entry); question = now (question .entry);
         })) ⌝ }
 {
-    let x = session::decode(bytes);
-    let rtol = session::rtol(bytes);
-    let atol = session::atol(bytes);
     let nrtol = x.settings.nrtol;
     let natol = x.settings.natol;
+    let rtol = session::rtol(bytes, nrtol);
+    let atol = session::atol(bytes, natol);
     let turn = machine::resume(x, kind, numbers, time, &rtol[0..nrtol], &atol[0..natol], work, pivots);
     settle(x.settings, turn, work, bytes, question)
 }

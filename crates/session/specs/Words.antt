@@ -55,6 +55,10 @@ floatsOver bytes at list = for 0 (length list) (floatAt bytes at) list
 abbrev pub floatsIn : List ℕ → ℕ → ℕ → List Float
 floatsIn bytes at k = floatsOver bytes at (replicate k zeroF)
 
+-- 64 of them, the first k read, the others 0
+unfoldable pub slotsIn : List ℕ → ℕ → ℕ → List Float
+slotsIn bytes at k = for 0 k (floatAt bytes at) (replicate 64 zeroF)
+
 -- entry i of a list, 0 beyond its end
 abbrev pub slotOf : List Float → ℕ → ℕ
 slotOf list i = toBits binary64 (getD list i zeroF)

@@ -5,7 +5,8 @@ ghost use mathlib.Core.Path.{_≡_};
 ghost use mathlib.Core.Bool.{Bool};
 ghost use Prim.Native.Nat.{_+_, _*_, _≤_};
 ghost use lib.ListN.{length};
-ghost use Rattle.session.specs.Session.{encodeOf, decodeOf, putTolerancesOf, rtolSlots, atolSlots};
+ghost use Rattle.session.specs.Words.{countsIn};
+ghost use Rattle.session.specs.Session.{encodeOf, decodeOf, putTolerancesOf, rtolFirst, atolFirst};
 ghost use Rattle.session.specs.Session.{storedN, finishedIn, inRangeOf};
 
 mod fields;
@@ -29,13 +30,21 @@ pub fn encode(x: Session, bytes: &mut [u8])
     words::put_floats(bytes, 34, 19, &f);
 }
 
-pub fn decode(bytes: &[u8]) -> Session
+// Words 0 to 33, read once for the record and for the ranges.
+pub fn counts(bytes: &[u8]) -> [usize; 34]
     requires { ⌜ 1448 ≤ length (now bytes) ⌝ }
+    ensures { λ r. ⌜ r ≡ countsIn (now (bytes .entry)) ⌝ }
+{
+    words::counts(bytes)
+}
+
+// The record of the bytes, u being their words 0 to 33.
+pub fn decode(u: &[usize; 34], bytes: &[u8]) -> Session
+    requires { ⌜ (1448 ≤ length (now bytes)) × (now u ≡ countsIn (now bytes)) ⌝ }
     ensures { λ r. ⌜ r ≡ decodeOf (now (bytes .entry)) ⌝ }
 {
-    let u = words::counts(bytes);
     let f = words::floats(bytes);
-    fields::session(&u, &f)
+    fields::session(u, &f)
 }
 
 // The tolerance lists, written to words 53 to 180; slots beyond a list's end become 0.
@@ -48,20 +57,20 @@ pub fn put_tolerances(rtol: &[f64], atol: &[f64], bytes: &mut [u8])
     words::put_floats(bytes, 117, 64, atol);
 }
 
-// All slots of the relative tolerances, of which the list has the first `nrtol`.
-pub fn rtol(bytes: &[u8]) -> [f64; 64]
-    requires { ⌜ 1448 ≤ length (now bytes) ⌝ }
-    ensures { λ r. ⌜ r ≡ rtolSlots (now (bytes .entry)) ⌝ }
+// The slots of the relative tolerances, of which the list's first k are read.
+pub fn rtol(bytes: &[u8], k: usize) -> [f64; 64]
+    requires { ⌜ (1448 ≤ length (now bytes)) × (k ≤ 64) ⌝ }
+    ensures { λ r. ⌜ r ≡ rtolFirst (now (bytes .entry)) k ⌝ }
 {
-    words::slots(bytes, 53)
+    words::slots(bytes, 53, k)
 }
 
-// All slots of the absolute tolerances, of which the list has the first `natol`.
-pub fn atol(bytes: &[u8]) -> [f64; 64]
-    requires { ⌜ 1448 ≤ length (now bytes) ⌝ }
-    ensures { λ r. ⌜ r ≡ atolSlots (now (bytes .entry)) ⌝ }
+// The slots of the absolute tolerances, of which the list's first k are read.
+pub fn atol(bytes: &[u8], k: usize) -> [f64; 64]
+    requires { ⌜ (1448 ≤ length (now bytes)) × (k ≤ 64) ⌝ }
+    ensures { λ r. ⌜ r ≡ atolFirst (now (bytes .entry)) k ⌝ }
 {
-    words::slots(bytes, 117)
+    words::slots(bytes, 117, k)
 }
 
 // The stored n, whatever it is.
@@ -80,16 +89,16 @@ pub fn is_finished(bytes: &[u8]) -> bool
     words::count(bytes, 0) == 10
 }
 
-// Whether every value of a session that is not finished is in its range, and every lent pivot below n.
-pub fn in_range(bytes: &[u8], ipiv: &[usize]) -> bool
+// Whether every value of a session that is not finished is in its range, and every lent pivot below n; u and x as they
+// were read from the bytes.
+pub fn in_range(u: &[usize; 34], x: Session, bytes: &[u8], ipiv: &[usize]) -> bool
     requires { ⌜ 1448 ≤ length (now bytes) ⌝ }
+    requires { ⌜ (now u ≡ countsIn (now bytes)) × (x ≡ decodeOf (now bytes)) ⌝ }
     ensures { λ r. ⌜ r ≡ inRangeOf (now (bytes .entry)) (now (ipiv .entry)) ⌝ }
 {
-    let u = words::counts(bytes);
-    let x = decode(bytes);
     let s = x.settings;
     let c = x.common;
-    if !ranges::fields(&u, s, c) {
+    if !ranges::fields(u, s, c) {
         return false;
     }
     if !ranges::tolerances(bytes, s) {

@@ -3,7 +3,7 @@ ghost use mathlib.Core.Path.{_≡_};
 ghost use Prim.Native.Nat.{_+_, _*_, _%_, _≤_, _<_};
 ghost use lib.ListN.{length};
 ghost use Rattle.session.specs.Words.{wordAt, putWord, word, countsIn, putCountsOf};
-ghost use Rattle.session.specs.Words.{float, floatsOver, floatsIn, slotOf, putFloatsOf};
+ghost use Rattle.session.specs.Words.{float, floatsOver, floatsIn, slotsIn, slotOf, putFloatsOf};
 
 fn wide(x: u8) -> u64
     ensures { λ r. ⌜ (r ≡ x) × (r < 256) ⌝ }
@@ -104,13 +104,15 @@ pub fn floats(bytes: &[u8]) -> [f64; 19]
     list
 }
 
-// The 64 tolerance slots from word `at` on.
-pub fn slots(bytes: &[u8], at: usize) -> [f64; 64]
-    requires { ⌜ 8 * (at + 64) ≤ length (now bytes) ⌝ }
-    ensures { λ r. ⌜ r ≡ floatsIn (now (bytes .entry)) at 64 ⌝ }
+// The 64 tolerance slots from word `at` on, of which the first k alone are read; the others are 0.
+pub fn slots(bytes: &[u8], at: usize, k: usize) -> [f64; 64]
+    requires { ⌜ (8 * (at + 64) ≤ length (now bytes)) × (k ≤ 64) ⌝ }
+    ensures { λ r. ⌜ r ≡ slotsIn (now (bytes .entry)) at k ⌝ }
 {
     let mut list = [0.0; 64];
-    get_floats(bytes, at, &mut list);
+    for i in 0..k {
+        list[i] = float(bytes, at + i);
+    }
     list
 }
 

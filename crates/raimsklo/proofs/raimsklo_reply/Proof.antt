@@ -1,21 +1,38 @@
 -- `raimsklo_reply` meets its contract. Assumes nothing.
-use Prim.Native.Nat.{_-_}
 use mathlib.Core.Path.{sym, ap, _∙_}
 use borrow.Author.Tests.{eq-eqb, ne-eqb}
-use denote.Ref.{now}
 use borrow.Author.Needs.{needs}
 use Rattle.raimsklo.proofs.Taken.{taken}
 use Rattle.session.proofs.Back.{stored-n}
 use Rattle.refusals.specs.declared.Refusal.{Refusal}
-use Rattle.raimsklo.specs.Calls.{replyOf, replyAt}
+use Rattle.raimsklo.specs.Calls.{replyOf, replyAt, replyRefusalOf}
 use Rattle.raimsklo.proofs.raimsklo_reply.Statement.{statement}
 use Rattle.raimsklo.proofs.raimsklo_reply.Tie as tie
 
-refusal-requires : tie.Need-refusal-requires
-refusal-requires c κs = search needs
+plain-requires : tie.Need-plain-requires
+plain-requires c κs = search needs
 
 refused-requires : tie.Need-refused-requires
 refused-requires c κs = search needs
+
+returns : tie.Need-returns
+unfolding replyOf replyAt replyRefusalOf
+returns c = rw (ne-eqb _ _ (c .before .before .if1 .taken), c .refused .ensures, c .before .plain .ensures)
+
+counts-requires : tie.Need-counts-requires
+counts-requires c κs = search needs
+
+decode-requires : tie.Need-decode-requires
+decode-requires c κs = (search needs, c .before .before .counts .ensures)
+
+refusal-requires : tie.Need-refusal-requires
+refusal-requires c κs =
+    let d = c .before .before .before in
+    let u = d .before .before .before in
+    (u .before .before .if1 .left, (u .counts .ensures, d .decode .ensures))
+
+refused-requires-2 : tie.Need-refused-requires-2
+refused-requires-2 c κs = search needs
 
 same-length : tie.Need-same-length
 same-length c = search needs
@@ -23,14 +40,10 @@ same-length c = search needs
 same-length-2 : tie.Need-same-length-2
 same-length-2 c = search needs
 
-returns : tie.Need-returns
+returns-2 : tie.Need-returns-2
 unfolding replyOf replyAt
-returns c =
-    rw (
-      ← c .before .before .before .refusal .ensures,
-      ne-eqb _ _ (c .before .if1 .taken),
-      c .refused .ensures,
-    )
+returns-2 c =
+    rw (← c .before .before .before .refusal .ensures, ne-eqb _ _ (c .before .if2 .taken), c .refused2 .ensures)
 
 kind-requires : tie.Need-kind-requires
 kind-requires c κs = search needs
@@ -38,13 +51,14 @@ kind-requires c κs = search needs
 go-requires : tie.Need-go-requires
 go-requires c κs =
     let z = c .before .before .before .before .before in
-    let b = z .before .before .before .before .before .before .before .before .before .before .args .session .now in
-    let q = ap (λ (r : Refusal). r .number) (sym (z .before .before .refusal .ensures)) ∙ z .if1 .left in
-    let t = taken _ _ _ _ _ q in
+    let r = z .before .before in
+    let d = r .before .before .before .before in
+    let b = d .before .before .before .before .before .before .before .before .before .before .before .args .session .now in
+    let t = taken _ _ _ _ _ (ap (λ (r : Refusal). r .number) (sym (r .refusal .ensures)) ∙ z .if2 .left) in
     (
       t .bytes,
       (
-        t .ranges,
+        (t .ranges, d .decode .ensures),
         rw (stored-n b) (record { states = t .n; sized = t .work; pivoted = t .pivots; asked = t .question }),
       ),
     )
@@ -61,31 +75,32 @@ same-length-5 c = search needs
 same-length-6 : tie.Need-same-length-6
 same-length-6 c = search needs
 
-returns-2 : tie.Need-returns-2
+returns-3 : tie.Need-returns-3
 unfolding replyOf replyAt
-returns-2 c =
-    let c6 = c .before .before .before .before .before .before in
-    let c12 = c6 .before .before .before .before .before .before in
-    rw (
-      ← c12 .before .before .before .before .refusal .ensures,
-      eq-eqb _ _ (c12 .before .before .if1 .left),
-      ← c12 .before .kind .ensures,
-    )
-    (c6 .before .before .go .ensures)
+returns-3 c =
+    let g = c .before .before .before .before .before .before .before .before in
+    let k = g .before .before .before .before .before in
+    rw (← k .before .before .before .refusal .ensures, eq-eqb _ _ (k .before .if2 .left), ← k .kind .ensures)
+    (g .go .ensures)
 
 pub raimsklo-reply-spec : {M : Type 1} → statement M
 raimsklo-reply-spec =
     tie.close
     (tie.spec
-    refusal-requires
+    plain-requires
     refused-requires
+    returns
+    counts-requires
+    decode-requires
+    refusal-requires
+    refused-requires-2
     same-length
     same-length-2
-    returns
+    returns-2
     kind-requires
     go-requires
     same-length-3
     same-length-4
     same-length-5
     same-length-6
-    returns-2)
+    returns-3)

@@ -11,9 +11,6 @@ use Rattle.session.specs.Session.{sessionOf, decodeOf}
 use Rattle.session.proofs.decode.Statement.{statement}
 use Rattle.session.proofs.decode.Tie as tie
 
-counts-requires : tie.Need-counts-requires
-counts-requires c κs = search needs
-
 floats-requires : tie.Need-floats-requires
 floats-requires c κs = search needs
 
@@ -23,12 +20,12 @@ session-requires c κs = search needs
 returns : tie.Need-returns
 unfolding decodeOf
 returns c =
-    let f = c .before .before .before in
-    let u = f .before in
-    let b = u .before .before .args .bytes .now in
+    let f = c .before .before in
+    let a = f .before .before in
+    let b = a .args .bytes .now in
     c .session .ensures
-    ∙ ap (λ (l : List Float). sessionOf (u .counts .result) l) (f .floats .ensures)
-    ∙ ap (λ (l : List ℕ). sessionOf l (floatsIn b 34 19)) (u .counts .ensures)
+    ∙ ap (λ (l : List Float). sessionOf (a .args .u .now) l) (f .floats .ensures)
+    ∙ ap (λ (l : List ℕ). sessionOf l (floatsIn b 34 19)) (a .pre .1)
 
 pub decode-spec : {M : Type 1} → statement M
-decode-spec = tie.close (tie.spec counts-requires floats-requires session-requires returns)
+decode-spec = tie.close (tie.spec floats-requires session-requires returns)

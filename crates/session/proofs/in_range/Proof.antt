@@ -25,46 +25,36 @@ module _ (b ipiv : List ℕ) (x : Session) (u : List ℕ) (e : x ≡ decodeOf b)
   unfolding inRangeOf
   whole = rw (e, f)
 
-counts-requires : tie.Need-counts-requires
-counts-requires c κs = search needs
-
-decode-requires : tie.Need-decode-requires
-decode-requires c κs = search needs
-
 fields-requires : tie.Need-fields-requires
 fields-requires c κs =
-    let d = c .before .before .before in
-    let a = d .before .before .before .before .args in
-    read (a .bytes .now) (a .ipiv .now) (d .decode .result) (d .before .counts .result)
-    (d .decode .ensures) (d .before .counts .ensures)
+    let d = c .before .before .before .before in
+    let a = d .args in
+    read (a .bytes .now) (a .ipiv .now) (a .x) (a .u .now) (d .pre .1 .1) (d .pre .1 .0)
 
 returns : tie.Need-returns
 returns c =
-    let d = c .before .before .before .before .before in
-    let a = d .before .before .before .before .args in
+    let d = c .before .before .before .before .before .before in
+    let a = d .args in
     rw (
-      whole (a .bytes .now) (a .ipiv .now) (d .decode .result) (d .before .counts .result)
-          (d .decode .ensures) (d .before .counts .ensures),
+      whole (a .bytes .now) (a .ipiv .now) (a .x) (a .u .now) (d .pre .1 .1) (d .pre .1 .0),
       sym (c .before .fields .ensures) ∙ not-true _ (c .if1 .taken),
     )
 
 tolerances-requires : tie.Need-tolerances-requires
 tolerances-requires c κs =
-    let d = c .before .before .before .before .before in
-    let a = d .before .before .before .before in
-    let x = d .decode .result in
-    let u = d .before .counts .result in
-    let n = read (a .args .bytes .now) (a .args .ipiv .now) x u (d .decode .ensures) (d .before .counts .ensures) .0 in
-    let l = lists-small u (x .settings) (x .common) n (sym (c .before .fields .ensures) ∙ not-false _ (c .if1 .left)) in
-    (a .pre, l .0, l .1)
+    let d = c .before .before .before .before .before .before in
+    let a = d .args in
+    let n = read (a .bytes .now) (a .ipiv .now) (a .x) (a .u .now) (d .pre .1 .1) (d .pre .1 .0) .0 in
+    let l = lists-small (a .u .now) (a .x .settings) (a .x .common) n
+        (sym (c .before .fields .ensures) ∙ not-false _ (c .if1 .left)) in
+    (d .pre .0, l .0, l .1)
 
 returns-2 : tie.Need-returns-2
 returns-2 c =
-    let d = c .before .before .before .before .before .before .before in
-    let a = d .before .before .before .before .args in
+    let d = c .before .before .before .before .before .before .before .before in
+    let a = d .args in
     rw (
-      whole (a .bytes .now) (a .ipiv .now) (d .decode .result) (d .before .counts .result)
-          (d .decode .ensures) (d .before .counts .ensures),
+      whole (a .bytes .now) (a .ipiv .now) (a .x) (a .u .now) (d .pre .1 .1) (d .pre .1 .0),
       sym (c .before .before .before .fields .ensures) ∙ not-false _ (c .before .before .if1 .left),
       sym (c .before .tolerances .ensures) ∙ not-true _ (c .if2 .taken),
     )
@@ -74,11 +64,10 @@ pivots-below-requires c κs = search needs
 
 returns-3 : tie.Need-returns-3
 returns-3 c =
-    let d = c .before .before .before .before .before .before .before .before in
-    let a = d .before .before .before .before .args in
+    let d = c .before .before .before .before .before .before .before .before .before in
+    let a = d .args in
     rw (
-      whole (a .bytes .now) (a .ipiv .now) (d .decode .result) (d .before .counts .result)
-          (d .decode .ensures) (d .before .counts .ensures),
+      whole (a .bytes .now) (a .ipiv .now) (a .x) (a .u .now) (d .pre .1 .1) (d .pre .1 .0),
       sym (c .before .before .before .before .fields .ensures) ∙ not-false _ (c .before .before .before .if1 .left),
       sym (c .before .before .tolerances .ensures) ∙ not-false _ (c .before .if2 .left),
     )
@@ -88,8 +77,6 @@ pub in-range-spec : {M : Type 1} → statement M
 in-range-spec =
     tie.close
     (tie.spec
-    counts-requires
-    decode-requires
     fields-requires
     returns
     tolerances-requires

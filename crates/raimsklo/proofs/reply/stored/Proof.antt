@@ -1,6 +1,5 @@
--- src/reply.rt:64:8
+-- `stored` meets its contract. Assumes nothing.
 use mathlib.Core.Path.{sym, _∙_}
-use Prim.Native.Nat.{_-_}
 use borrow.Author.Tests.{not-true, not-false}
 use borrow.Author.Needs.{needs}
 use Rattle.refusals.specs.Refusal.{inOrder, alsoOf}
