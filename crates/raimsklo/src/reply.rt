@@ -190,8 +190,10 @@ pub fn go(
 {
     let nrtol = x.settings.nrtol;
     let natol = x.settings.natol;
-    let rtol = session::rtol(bytes, nrtol);
-    let atol = session::atol(bytes, natol);
+    let mut rtol = [0.0; 64];
+    session::rtol(bytes, nrtol, &mut rtol);
+    let mut atol = [0.0; 64];
+    session::atol(bytes, natol, &mut atol);
     let turn = machine::resume(x, kind, numbers, time, &rtol[0..nrtol], &atol[0..natol], work, pivots);
     settle(x.settings, turn, work, bytes, question)
 }

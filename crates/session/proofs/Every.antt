@@ -1,5 +1,6 @@
 -- A test of every index below an end, `every p e`, and a loop that is left at the first index that fails.
 --     every-again, every-fails, every-ends     the steps of a proof whose invariant is `for i e (andAt p) true ≡ r`
+--     every-halves, lost-for                   the test of all words in two runs, and the first of them failed
 --     every-at, every-all                      every index passes, if and only if the test does
 -- Assumes nothing.
 use mathlib.Core.Path.{_≡_, refl, sym, _∙_}
@@ -25,6 +26,14 @@ module _ (p : ℕ → Bool) where
 
   pub every-ends : (i e : ℕ) (r : Bool) → e ≤ i → for i e (andAt p) true ≡ r → true ≡ r
   every-ends i e r h q = ended (andAt p) i e true r h q
+
+  -- the test of 34 in two halves
+  pub every-halves : every p 34 ≡ for 17 34 (andAt p) (for 0 17 (andAt p) true)
+  unfolding every times
+  every-halves = refl
+
+  pub lost-for : (i e : ℕ) → for i e (andAt p) false ≡ false
+  lost-for i e = stays (andAt p) i e false (λ k. refl)
 
   -- a test that failed stays so
   lost : (n i : ℕ) → times (andAt p) n i false ≡ false

@@ -1,7 +1,7 @@
 -- Rows of words: what was put is read back, and what stands elsewhere stays.
 --     length-put-counts, length-put-floats     the bytes keep their number
 --     counts-at, floats-at                     an entry of the counts or floats that are read
---     slots-part                               the list that the first slots are
+--     length-slots, slots-part                 the slots after a list was read to them, and that list
 --     put-counts-at, put-counts-other          a word after the counts were put, among them and elsewhere
 --     put-floats-at, put-floats-other          the same for floats
 -- Assumes nothing.
@@ -18,7 +18,7 @@ use Rattle.loops.specs.For.{for, times}
 use Rattle.loops.specs.Part.{part, length-part}
 use Rattle.numbers.specs.Float.{zeroF}
 use Rattle.session.specs.Words.{putWord, word, float, countsIn, putCountsOf}
-use Rattle.session.specs.Words.{floatsOver, floatsIn, slotsIn, slotOf, putFloatsOf}
+use Rattle.session.specs.Words.{floatsOver, floatsIn, slotsOver, slotOf, putFloatsOf}
 use Rattle.session.proofs.Eight.{length-put, word-back, word-other}
 
 -- an entry within the list is the same by every default
@@ -85,27 +85,26 @@ floats-at b at k i d h =
     read-at (λ i. float b (at + i)) (length (replicate k zeroF) - 0) 0 i (replicate k zeroF) d
     (omega arith) (omega arith) (omega arith)
 
-module _ (b : List ℕ) (at k : ℕ) (h : k ≤ 64) where
-  length-slots : length (slotsIn b at k) ≡ 64
-  unfolding slotsIn
-  length-slots = length-read (λ i. float b (at + i)) (k - 0) 0 (replicate 64 zeroF)
+module _ (b : List ℕ) (at k : ℕ) (list : List Float) (h : k ≤ 64) (e : length list ≡ 64) where
+  pub length-slots : length (slotsOver b at k list) ≡ 64
+  unfolding slotsOver
+  length-slots = length-read (λ i. float b (at + i)) (k - 0) 0 list ∙ e
 
-  slots-at : (i : ℕ) (d : Float) → i < k → getD (slotsIn b at k) i d ≡ float b (at + i)
-  unfolding slotsIn
-  slots-at i d l =
-      read-at (λ i. float b (at + i)) (k - 0) 0 i (replicate 64 zeroF) d (omega arith) (omega arith) (omega arith)
+  slots-at : (i : ℕ) (d : Float) → i < k → getD (slotsOver b at k list) i d ≡ float b (at + i)
+  unfolding slotsOver
+  slots-at i d l = read-at (λ i. float b (at + i)) (k - 0) 0 i list d (omega arith) (omega arith) (omega arith)
 
   -- the list of the first k entries needs no slot beyond them
-  pub slots-part : part 0 k (slotsIn b at k) ≡ part 0 k (floatsIn b at 64)
+  pub slots-part : part 0 k (slotsOver b at k list) ≡ part 0 k (floatsIn b at 64)
   slots-part =
       let m = length-slots in
       let l = length-floats b at 64 in
-      let left = length-part 0 k (slotsIn b at k) (omega arith) in
+      let left = length-part 0 k (slotsOver b at k list) (omega arith) in
       let right = length-part 0 k (floatsIn b at 64) (omega arith) in
-      ext-getD zeroF (part 0 k (slotsIn b at k)) (part 0 k (floatsIn b at 64)) (left ∙ sym right)
+      ext-getD zeroF (part 0 k (slotsOver b at k list)) (part 0 k (floatsIn b at 64)) (left ∙ sym right)
       (λ i j.
       let s : i < k = omega arith in
-      getD-take k (slotsIn b at k) i zeroF s ∙ slots-at i zeroF s
+      getD-take k (slotsOver b at k list) i zeroF s ∙ slots-at i zeroF s
       ∙ sym (getD-take k (floatsIn b at 64) i zeroF s ∙ floats-at b at 64 i zeroF (omega arith)))
 
 -- ---- a row that is put: word p i becomes w i

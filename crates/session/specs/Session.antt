@@ -16,7 +16,7 @@ use Rattle.common.specs.declared.Settings.{Settings}
 use Rattle.common.specs.declared.Common.{Common}
 use Rattle.common.specs.Limits.{mxncfOf}
 use Rattle.turns.specs.declared.Session.{Session}
-use Rattle.session.specs.Words.{word, float, countsIn, putCountsOf, floatsIn, slotsIn, putFloatsOf}
+use Rattle.session.specs.Words.{word, float, countsIn, putCountsOf, floatsIn, slotsOver, putFloatsOf}
 use Rattle.session.specs.States.{phaseOf}
 use Rattle.session.specs.Fields.{countsOf, floatsOf, settingsOf, commonOf, lowest, highest, Fit}
 
@@ -41,12 +41,12 @@ rtolSlots bytes = floatsIn bytes 53 64
 abbrev pub atolSlots : List ℕ → List Float
 atolSlots bytes = floatsIn bytes 117 64
 
--- the slots with the first k alone read
-abbrev pub rtolFirst : List ℕ → ℕ → List Float
-rtolFirst bytes k = slotsIn bytes 53 k
+-- the first k slots read over those of a list
+abbrev pub rtolFirst : List ℕ → ℕ → List Float → List Float
+rtolFirst bytes k list = slotsOver bytes 53 k list
 
-abbrev pub atolFirst : List ℕ → ℕ → List Float
-atolFirst bytes k = slotsIn bytes 117 k
+abbrev pub atolFirst : List ℕ → ℕ → List Float → List Float
+atolFirst bytes k list = slotsOver bytes 117 k list
 
 abbrev pub rtolOf : List ℕ → List Float
 rtolOf bytes = part 0 (decodeOf bytes .settings .nrtol) (rtolSlots bytes)

@@ -55,9 +55,9 @@ floatsOver bytes at list = for 0 (length list) (floatAt bytes at) list
 abbrev pub floatsIn : List ℕ → ℕ → ℕ → List Float
 floatsIn bytes at k = floatsOver bytes at (replicate k zeroF)
 
--- 64 of them, the first k read, the others 0
-unfoldable pub slotsIn : List ℕ → ℕ → ℕ → List Float
-slotsIn bytes at k = for 0 k (floatAt bytes at) (replicate 64 zeroF)
+-- the first k of them; the list's further entries stay
+unfoldable pub slotsOver : List ℕ → ℕ → ℕ → List Float → List Float
+slotsOver bytes at k list = for 0 k (floatAt bytes at) list
 
 -- entry i of a list, 0 beyond its end
 abbrev pub slotOf : List Float → ℕ → ℕ

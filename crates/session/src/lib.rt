@@ -57,20 +57,20 @@ pub fn put_tolerances(rtol: &[f64], atol: &[f64], bytes: &mut [u8])
     words::put_floats(bytes, 117, 64, atol);
 }
 
-// The slots of the relative tolerances, of which the list's first k are read.
-pub fn rtol(bytes: &[u8], k: usize) -> [f64; 64]
+// The first k slots of the relative tolerances.
+pub fn rtol(bytes: &[u8], k: usize, list: &mut [f64; 64])
     requires { ⌜ (1448 ≤ length (now bytes)) × (k ≤ 64) ⌝ }
-    ensures { λ r. ⌜ r ≡ rtolFirst (now (bytes .entry)) k ⌝ }
+    ensures { λ _. ⌜ now (list .exit) ≡ rtolFirst (now (bytes .entry)) k (now (list .entry)) ⌝ }
 {
-    words::slots(bytes, 53, k)
+    words::slots(bytes, 53, k, list)
 }
 
-// The slots of the absolute tolerances, of which the list's first k are read.
-pub fn atol(bytes: &[u8], k: usize) -> [f64; 64]
+// The first k slots of the absolute tolerances.
+pub fn atol(bytes: &[u8], k: usize, list: &mut [f64; 64])
     requires { ⌜ (1448 ≤ length (now bytes)) × (k ≤ 64) ⌝ }
-    ensures { λ r. ⌜ r ≡ atolFirst (now (bytes .entry)) k ⌝ }
+    ensures { λ _. ⌜ now (list .exit) ≡ atolFirst (now (bytes .entry)) k (now (list .entry)) ⌝ }
 {
-    words::slots(bytes, 117, k)
+    words::slots(bytes, 117, k, list)
 }
 
 // The stored n, whatever it is.

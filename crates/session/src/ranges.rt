@@ -1,37 +1,42 @@
 // The ranges of 13: each word by itself, fields against each other, tolerances, pivots.
 ghost use mathlib.Core.Path.{_≡_};
-ghost use mathlib.Core.Bool.{Bool, _&&_};
+ghost use mathlib.Core.Bool.{Bool, true};
 ghost use Prim.Native.Nat.{_+_, _*_, _≤_, _<_};
-ghost use lib.Dec.{leb};
 ghost use lib.ListN.{length, getD};
-ghost use Rattle.session.specs.Session.{every, wordInRange, oneOrN, listsInRange, ordersInRange};
+ghost use Rattle.loops.specs.For.{for};
+ghost use Rattle.session.specs.Fields.{lowest, highest};
+ghost use Rattle.session.specs.Session.{every, andAt, wordInRange, oneOrN, listsInRange, ordersInRange};
 ghost use Rattle.session.specs.Session.{countersInRange, fieldsInRange};
 ghost use Rattle.session.specs.Session.{notNegative, tolerancesInRange, pivotsBelow};
 use common::Common;
 use common::Settings;
 
-// Whether a word is between its least and its greatest value.
-fn between(low: usize, w: usize, high: usize) -> bool
-    ensures { λ r. ⌜ r ≡ (leb low w && leb w high) ⌝ }
+// Whether each word from a to e is between its least and its greatest value.
+fn run(u: &[usize; 34], low: &[usize; 34], high: &[usize; 34], a: usize, e: usize) -> bool
+    requires { ⌜ (now low ≡ lowest) × (now high ≡ highest) × (a ≤ e) × (e ≤ 34) ⌝ }
+    ensures { λ r. ⌜ r ≡ for a e (andAt (wordInRange (now (u .entry)))) true ⌝ }
 {
-    if w < low {
-        return false;
+    for i in a..e {
+        if u[i] < low[i] {
+            return false;
+        }
+        if u[i] > high[i] {
+            return false;
+        }
     }
-    w <= high
+    true
 }
 
-// Whether each word is.
+// Whether each of all words is. Two runs, each short enough to be unrolled: the tables then become constants of the code.
 fn words(u: &[usize; 34]) -> bool
     ensures { λ r. ⌜ r ≡ every (wordInRange (now (u .entry))) 34 ⌝ }
 {
     let low = crate::fields::lowest();
     let high = crate::fields::highest();
-    for i in 0..34usize {
-        if !between(low[i], u[i], high[i]) {
-            return false;
-        }
+    if !run(u, &low, &high, 0, 17) {
+        return false;
     }
-    true
+    run(u, &low, &high, 17, 34)
 }
 
 // Whether a list of k entries is 1 or n long.

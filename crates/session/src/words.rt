@@ -3,7 +3,7 @@ ghost use mathlib.Core.Path.{_≡_};
 ghost use Prim.Native.Nat.{_+_, _*_, _%_, _≤_, _<_};
 ghost use lib.ListN.{length};
 ghost use Rattle.session.specs.Words.{wordAt, putWord, word, countsIn, putCountsOf};
-ghost use Rattle.session.specs.Words.{float, floatsOver, floatsIn, slotsIn, slotOf, putFloatsOf};
+ghost use Rattle.session.specs.Words.{float, floatsOver, floatsIn, slotsOver, slotOf, putFloatsOf};
 
 fn wide(x: u8) -> u64
     ensures { λ r. ⌜ (r ≡ x) × (r < 256) ⌝ }
@@ -104,16 +104,14 @@ pub fn floats(bytes: &[u8]) -> [f64; 19]
     list
 }
 
-// The 64 tolerance slots from word `at` on, of which the first k alone are read; the others are 0.
-pub fn slots(bytes: &[u8], at: usize, k: usize) -> [f64; 64]
+// The first k of 64 tolerance slots, read from word `at` on.
+pub fn slots(bytes: &[u8], at: usize, k: usize, list: &mut [f64; 64])
     requires { ⌜ (8 * (at + 64) ≤ length (now bytes)) × (k ≤ 64) ⌝ }
-    ensures { λ r. ⌜ r ≡ slotsIn (now (bytes .entry)) at k ⌝ }
+    ensures { λ _. ⌜ now (list .exit) ≡ slotsOver (now (bytes .entry)) at k (now (list .entry)) ⌝ }
 {
-    let mut list = [0.0; 64];
     for i in 0..k {
         list[i] = float(bytes, at + i);
     }
-    list
 }
 
 // The pattern of entry i, 0 beyond the list's end.

@@ -1,19 +1,20 @@
 -- `go` meets its contract: work and pivots beside what the turn leaves of session and question. Assumes nothing.
 use mathlib.Core.List.{List}
-use mathlib.Core.Path.{ap, _∙_, _≡_}
+use mathlib.Core.Path.{refl, ap, _∙_, _≡_}
 use mathlib.Core.Bool.{true}
 use Prim.Native.Nat.{ℕ, _-_, _≤_}
 use lib.Ieee.{Float}
 use native.Mathlib.Omega.{arith}
-use lib.ListN.{length}
+use lib.ListN.{length, replicate}
 use borrow.Author.Needs.{needs}
+use Rattle.numbers.specs.Float.{zeroF}
 use Rattle.turns.specs.declared.Session.{Session}
 use Rattle.turns.specs.Turns.{Left}
 use Rattle.machine.specs.Resume.{With}
 use Rattle.machine.proofs.Order.{order-after}
 use Rattle.machine.proofs.Lengths.{resume-lent}
 use Rattle.session.specs.Session.{decodeOf, rtolOf, atolOf, inRangeOf}
-use Rattle.session.proofs.Rows.{slots-part}
+use Rattle.session.proofs.Rows.{length-slots, slots-part}
 use Rattle.session.proofs.Thirteen.{lists-fit, resumes}
 use Rattle.raimsklo.specs.Calls.{Buffers, Called, Settled, written, goOf}
 use Rattle.raimsklo.proofs.Taken.{unless}
@@ -22,6 +23,9 @@ use Rattle.raimsklo.proofs.reply.go.Tie as tie
 
 abbrev put : List Float → List ℕ → Settled → Called
 put w p y = record { reply = y .reply; lent = record { work = w; pivots = p; session = y .session; question = y .question } }
+
+abbrev empty : List Float
+empty = replicate 64 zeroF
 
 same-size : (k : ℕ) → k - 0 ≡ k
 same-size k = omega arith
@@ -33,13 +37,13 @@ few b p x q e = rw e (lists-fit b p q)
 
 rtol-requires : tie.Need-rtol-requires
 rtol-requires c κs =
-    let a = c .before .before .before .before .before .before in
+    let a = c .before .before .before .before .before .before .before in
     let l = few (a .args .bytes .now) (a .args .pivots .now) (a .args .x) (a .pre .1 .0 .0) (a .pre .1 .0 .1) in
     (search needs, l .0)
 
 atol-requires : tie.Need-atol-requires
 atol-requires c κs =
-    let a = c .before .before .before .before .before .before .before .before in
+    let a = c .before .before .before .before .before .before .before .before .before .before in
     let l = few (a .args .bytes .now) (a .args .pivots .now) (a .args .x) (a .pre .1 .0 .0) (a .pre .1 .0 .1) in
     (search needs, l .1)
 
@@ -51,9 +55,12 @@ part-resume-start c = search needs
 
 part-resume-end : tie.Need-part-resume-end
 part-resume-end c =
-    let a = c .before .before .before .before .before .before .before .before .before .before in
-    let l = few (a .args .bytes .now) (a .args .pivots .now) (a .args .x) (a .pre .1 .0 .0) (a .pre .1 .0 .1) in
-    omega arith
+    let a = c .before .before .before .before .before .before .before .before .before .before .before .before in
+    let x = a .args in
+    let b = x .bytes .now in
+    let l = few b (x .pivots .now) (x .x) (a .pre .1 .0 .0) (a .pre .1 .0 .1) in
+    let e = c .before .before .before .before .rtol2 .ensures in
+    omega (arith, ap length e ∙ length-slots b 53 (x .x .settings .nrtol) empty (l .0) refl)
 
 sub-resume-2 : tie.Need-sub-resume-2
 sub-resume-2 c = search needs
@@ -63,14 +70,17 @@ part-resume-start-2 c = search needs
 
 part-resume-end-2 : tie.Need-part-resume-end-2
 part-resume-end-2 c =
-    let a = c .before .before .before .before .before .before .before .before .before .before .before .before in
-    let l = few (a .args .bytes .now) (a .args .pivots .now) (a .args .x) (a .pre .1 .0 .0) (a .pre .1 .0 .1) in
-    omega arith
+    let a = c .before .before .before .before .before .before .before .before .before .before .before .before .before .before in
+    let x = a .args in
+    let b = x .bytes .now in
+    let l = few b (x .pivots .now) (x .x) (a .pre .1 .0 .0) (a .pre .1 .0 .1) in
+    let e = c .before .before .before .atol2 .ensures in
+    omega (arith, ap length e ∙ length-slots b 117 (x .x .settings .natol) empty (l .1) refl)
 
 resume-requires : tie.Need-resume-requires
 resume-requires c κs =
     let t = c .before .before .before .before .before .before in
-    let a = t .before .before .before .before .before .before .before .before .before in
+    let a = t .before .before .before .before .before .before .before .before .before .before .before in
     let x = a .args in
     let b = x .bytes .now in
     let s = decodeOf b .settings in
@@ -79,13 +89,13 @@ resume-requires c κs =
     let z = a .pre .1 .1 in
     let r = resumes b (x .pivots .now) q (x .work .now) (z .sized) (z .pivoted) in
     rw (
-      t .before .before .rtol .ensures,
-      t .atol .ensures,
+      t .before .before .before .rtol2 .ensures,
+      t .atol2 .ensures,
       a .pre .1 .0 .1,
       same-size (s .nrtol),
       same-size (s .natol),
-      slots-part b 53 (s .nrtol) (l .0),
-      slots-part b 117 (s .natol) (l .1),
+      slots-part b 53 (s .nrtol) empty (l .0) refl,
+      slots-part b 117 (s .natol) empty (l .1) refl,
     )
     (z .states .1, unless (decodeOf b .phase) r)
 
@@ -93,7 +103,7 @@ settle-requires : tie.Need-settle-requires
 settle-requires c κs =
     let m = c .before .before .before .before .before .before .before in
     let t = m .before .before .before .before .before .before .before in
-    let a = t .before .before .before .before .before .before .before .before .before in
+    let a = t .before .before .before .before .before .before .before .before .before .before .before in
     let x = a .args in
     let b = x .bytes .now in
     let s = decodeOf b .settings in
@@ -102,13 +112,13 @@ settle-requires c κs =
     let z = a .pre .1 .1 in
     let r = resumes b (x .pivots .now) q (x .work .now) (z .sized) (z .pivoted) in
     let turned = rw (
-      t .before .before .rtol .ensures,
-      t .atol .ensures,
+      t .before .before .before .rtol2 .ensures,
+      t .atol2 .ensures,
       a .pre .1 .0 .1,
       same-size (s .nrtol),
       same-size (s .natol),
-      slots-part b 53 (s .nrtol) (l .0),
-      slots-part b 117 (s .natol) (l .1),
+      slots-part b 53 (s .nrtol) empty (l .0) refl,
+      slots-part b 117 (s .natol) empty (l .1) refl,
     ) at (m .resume .ensures) in
     let w : With = record { rtol = rtolOf b; atol = atolOf b; work = x .work .now; ipiv = x .pivots .now } in
     let order = order-after (decodeOf b) (x .kind) (x .numbers .now) (x .time) w (r .ranges) in
@@ -139,20 +149,20 @@ returns c =
     let e = c .before .before .before .before in
     let m = e .before .before .before .before .before .before .before .before in
     let t = m .before .before .before .before .before .before .before in
-    let a = t .before .before .before .before .before .before .before .before .before in
+    let a = t .before .before .before .before .before .before .before .before .before .before .before in
     let x = a .args in
     let b = x .bytes .now in
     let s = decodeOf b .settings in
     let q = a .pre .1 .0 .0 in
     let l = lists-fit b (x .pivots .now) q in
     let turned = rw (
-      t .before .before .rtol .ensures,
-      t .atol .ensures,
+      t .before .before .before .rtol2 .ensures,
+      t .atol2 .ensures,
       a .pre .1 .0 .1,
       same-size (s .nrtol),
       same-size (s .natol),
-      slots-part b 53 (s .nrtol) (l .0),
-      slots-part b 117 (s .natol) (l .1),
+      slots-part b 53 (s .nrtol) empty (l .0) refl,
+      slots-part b 117 (s .natol) empty (l .1) refl,
     ) at (m .resume .ensures) in
     let settled = rw (a .pre .1 .0 .1) at (e .settle .ensures) in
     let lent : Buffers = record {
