@@ -3,9 +3,9 @@
 
 Writes, at the repository's root:
     crates/common/specs/Record.antt      a setter for each field of Common
-    crates/session/src/fields.rt         a session's fields as words and back, and the ranges of 13
-    crates/session/specs/Fields.antt     the same as definitions
-    crates/session/proofs/Listed.antt    what the bytes can keep, of the lists of words
+    crates/fields/src/lib.rt             a session's fields as words and back, and the ranges of 13
+    crates/fields/specs/Fields.antt      the same as definitions
+    crates/fields/proofs/Listed.antt     what the bytes can keep, of the lists of words
     the table of fields in docs/SESSION.md
 Run it after a change of the structs or of RANGES. New fields go to the end of their struct.
 """
@@ -121,7 +121,7 @@ def commas(number):
     return f"{int(number):,}"
 
 
-# ---- src/fields.rt
+# ---- src/lib.rt
 
 NUMBER = {"bool": "flag_number({})", "MethodFamily": "family_number({})", "usize": "{}", "f64": "{}"}
 STATE = {"bool": "{} == 1", "MethodFamily": "family({})", "usize": "{}", "f64": "{}"}
@@ -161,9 +161,11 @@ def source():
     text = f"""// A session's fields as words and back, and the ranges of 13 that one word says.
 // Made by tools/record.py from the structs of crates/common/src/lib.rt.
 ghost use mathlib.Core.Path.{{_≡_}};
-ghost use Rattle.session.specs.Fields.{{countsOf, floatsOf, settingsOf, floatsAloneOf, commonOf}};
-ghost use Rattle.session.specs.Fields.{{lowest, highest}};
-ghost use Rattle.session.specs.Session.{{sessionOf}};
+ghost use Rattle.fields.specs.Fields.{{countsOf, floatsOf, settingsOf, floatsAloneOf, commonOf, sessionOf}};
+ghost use Rattle.fields.specs.Fields.{{lowest, highest}};
+
+mod states;
+
 use crate::states::family;
 use crate::states::family_number;
 use crate::states::flag_number;
@@ -201,7 +203,7 @@ pub fn floats(x: Session) -> [f64; {FLOATS}]
 {one(f"{short(r[1])}.{r[2]}" for r in floats)}    ]
 }}
 
-pub fn settings(u: &[usize; {COUNTS}], f: &[f64; {FLOATS}]) -> Settings
+fn settings(u: &[usize; {COUNTS}], f: &[f64; {FLOATS}]) -> Settings
     ensures {{ λ r. ⌜ r ≡ settingsOf (now (u .entry)) (now (f .entry)) ⌝ }}
 {{
     Settings {{
@@ -216,7 +218,7 @@ fn floats_alone(f: &[f64; {FLOATS}]) -> Common
 {one(f"{r[2]}: " + (place(r[0], r[3]) if r[3] == "f64" else blank[r[3]]) for r in common)}    }}
 }}
 
-pub fn common(u: &[usize; {COUNTS}], f: &[f64; {FLOATS}]) -> Common
+fn common(u: &[usize; {COUNTS}], f: &[f64; {FLOATS}]) -> Common
     ensures {{ λ r. ⌜ r ≡ commonOf (now (u .entry)) (now (f .entry)) ⌝ }}
 {{
     let c = floats_alone(f);
@@ -236,7 +238,7 @@ pub fn session(u: &[usize; {COUNTS}], f: &[f64; {FLOATS}]) -> Session
     }}
 }}
 """
-    with open("crates/session/src/fields.rt", "w") as out:
+    with open("crates/fields/src/lib.rt", "w") as out:
         out.write(text)
 
 
@@ -283,7 +285,7 @@ use Rattle.common.specs.declared.MethodFamily.the-variants.{{Adams}}
 use Rattle.common.specs.declared.Settings.{{Settings}}
 use Rattle.common.specs.declared.Common.{{Common}}
 use Rattle.turns.specs.declared.Session.{{Session}}
-use Rattle.session.specs.States.{{flagNumber, flagOf, familyNumber, familyOf, phaseNumber}}
+use Rattle.fields.specs.States.{{flagNumber, flagOf, familyNumber, familyOf, phaseNumber, phaseOf}}
 
 -- ---- words 0 to {COUNTS - 1}, and words {COUNTS} to {COUNTS + FLOATS - 1}
 
@@ -317,6 +319,9 @@ withCounts family u c = record {{
 abbrev pub commonOf : List ℕ → List Float → Common
 commonOf u f = withCounts (familyOf (getD u 12 0)) u (floatsAloneOf f)
 
+abbrev pub sessionOf : List ℕ → List Float → Session
+sessionOf u f = record {{ settings = settingsOf u f; common = commonOf u f; phase = phaseOf (getD u 0 0) }}
+
 -- ---- least and greatest value of each word; 2^64 - 1 is no limit
 
 unfoldable pub lowest : List ℕ
@@ -347,7 +352,7 @@ pub record Fits (x : Session) : Type 0 where
             out.append(wrapped([p if k == 0 else "∷ " + p for k, p in enumerate(parts)], "    ", 116))
         else:
             out.append(line)
-    with open("crates/session/specs/Fields.antt", "w") as file:
+    with open("crates/fields/specs/Fields.antt", "w") as file:
         file.write("\n".join(out))
 
 
@@ -373,8 +378,8 @@ use Rattle.common.specs.declared.MethodFamily.the-variants.{{Adams, Bdf}}
 use Rattle.turns.specs.declared.Phase.{{Phase}}
 use Rattle.turns.specs.declared.Phase.the-variants as Phase
 use Rattle.turns.specs.declared.Session.{{Session}}
-use Rattle.session.specs.States.{{flagNumber, familyNumber, phaseNumber}}
-use Rattle.session.specs.Fields.{{countsOf, floatsOf, CountsFit, FloatsFit, Fit}}
+use Rattle.fields.specs.States.{{flagNumber, familyNumber, phaseNumber}}
+use Rattle.fields.specs.Fields.{{countsOf, floatsOf, CountsFit, FloatsFit, Fit}}
 
 infixr 30 _▸_
 -- what holds of each entry of a list
@@ -413,7 +418,7 @@ floats-fit x f i =
 {wrapped([("(" if k == 0 else "") + f"f .{r[2]}" + " ▸" for k, r in enumerate(floats)] + ["none)"], "    ", 116)}
     i
 """
-    with open("crates/session/proofs/Listed.antt", "w") as out:
+    with open("crates/fields/proofs/Listed.antt", "w") as out:
         out.write(text)
 
 

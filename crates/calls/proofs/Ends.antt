@@ -11,7 +11,7 @@ use lib.ListN.{length}
 use Rattle.turns.specs.declared.Question.the-variants as Question
 use Rattle.turns.specs.Turns.{Left}
 use Rattle.refusals.specs.Start.{settingsOf}
-use Rattle.session.specs.Fields.{Fit}
+use Rattle.fields.specs.Fields.{Fit}
 use Rattle.session.proofs.Within.{both}
 use Rattle.rules.specs.Play.{Given, Play, ret, ask, tell, say}
 use Rattle.rules.specs.Rules.{Start}

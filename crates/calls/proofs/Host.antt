@@ -19,7 +19,7 @@ use Rattle.turns.specs.declared.Phase.{Phase}
 use Rattle.turns.specs.declared.Question.{Question}
 use Rattle.turns.specs.declared.Question.the-variants as Question
 use Rattle.turns.specs.Turns.{Left}
-use Rattle.session.specs.Fields.{Fit}
+use Rattle.fields.specs.Fields.{Fit}
 use Rattle.session.proofs.Within.{both}
 use Rattle.rules.specs.Play.{Given, Play}
 use Rattle.rules.specs.Rules.{Start}

@@ -21,10 +21,10 @@ use Rattle.turns.specs.Ranges.{Lent}
 use Rattle.turns.specs.Requires.{Resumes, UnlessFinished}
 use Rattle.turns.specs.Turns.{Left}
 use Rattle.machine.proofs.Lengths.{resume-lent}
-use Rattle.session.specs.Fields.{Fit, FloatsFit, Fits}
+use Rattle.fields.specs.Fields.{Fit, FloatsFit, Fits}
 use Rattle.session.specs.Session.{encodeOf, decodeOf, rtolSlots, atolSlots, storedN, finishedIn, OneOrN}
 use Rattle.session.specs.Session.{tolerancesInRange, inRangeOf}
-use Rattle.session.proofs.Rows.{counts-at}
+use Rattle.words.proofs.Rows.{counts-at}
 use Rattle.session.proofs.Back.{length-encode, encoded-count, finished-encode, decode-encode, rtol-kept, atol-kept}
 use Rattle.session.proofs.Passes.{counts-fit, passes, tolerances-kept}
 use Rattle.rules.specs.Play.{Given}

@@ -45,7 +45,7 @@ use Rattle.refusals.specs.declared.Lengths.{Lengths}
 use Rattle.refusals.specs.Refusal.{alsoOf, inOrder, orElse}
 use Rattle.refusals.specs.Start as Refusals
 use Rattle.refusals.specs.Start.{startRefusalOf, settingsOf, firstStepOf}
-use Rattle.session.specs.Fields.{Fit}
+use Rattle.fields.specs.Fields.{Fit}
 use Rattle.session.specs.Session.{ListFits}
 use Rattle.rules.specs.Play.{Given}
 use Rattle.rules.specs.Rules.{Start, beginning}

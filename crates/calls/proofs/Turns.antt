@@ -52,7 +52,7 @@ use Rattle.passes.specs.Pass.{openedAt, openedOf, jacobianOf, columnAt, columnO
 use Rattle.reports.specs.Reports.{sizedAt, sizedOf, firstStepOf, weightedAt, firstDerivativeOf, firstReportOf}
 use Rattle.reports.specs.Reports.{firstModifiedOf, afterReportOf, restartOf, modifiedOf}
 use Rattle.machine.specs.Resume.{With, isAsked, unasked, takenOf, resumeOf}
-use Rattle.session.specs.States.{phaseNumber}
+use Rattle.fields.specs.States.{phaseNumber}
 use Rattle.calls.proofs.Low.{Low, small, adjust-low, setup-low, predicted-low, no-convergence-low, failed-low}
 use Rattle.calls.proofs.Low.{restep-low}
 use Rattle.calls.proofs.Low.{accept-low, judge-low}

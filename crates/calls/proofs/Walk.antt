@@ -23,7 +23,7 @@ use Rattle.turns.specs.Turns.{Left}
 use Rattle.reports.specs.Reports.{initialOf}
 use Rattle.machine.specs.Resume.{isAsked}
 use Rattle.refusals.specs.Start.{settingsOf}
-use Rattle.session.specs.Fields.{Fit}
+use Rattle.fields.specs.Fields.{Fit}
 use Rattle.session.specs.Session.{encodeOf}
 use Rattle.session.proofs.Within.{both}
 use Rattle.rules.specs.Play.{Given, Play, ret, ask, tell, say}

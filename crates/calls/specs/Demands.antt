@@ -8,7 +8,7 @@ use mathlib.Core.Path.{_≡_}
 use Prim.Native.Nat.{ℕ, _+_, _*_, _≤_}
 use lib.Dec.{eqb, leb}
 use lib.ListN.{length}
-use Rattle.session.specs.Fields.{Fit}
+use Rattle.fields.specs.Fields.{Fit}
 use Rattle.session.specs.Session.{decodeOf}
 use Rattle.rules.specs.Play.{derivativeAt, Play, ret, ask, tell, say}
 use Rattle.rules.specs.Steps.{Step, noted, marked, isEnded, isEndedKeeping, number}

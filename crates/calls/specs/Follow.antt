@@ -12,7 +12,7 @@ use lib.Ieee.{Float}
 use Rattle.loops.specs.Part.{putPart}
 use Rattle.numbers.specs.Float.{zeroF}
 use Rattle.refusals.specs.Start.{settingsOf, firstStepOf}
-use Rattle.session.specs.Fields.{Fit}
+use Rattle.fields.specs.Fields.{Fit}
 use Rattle.rules.specs.Play.{Given, Report, Play}
 use Rattle.rules.specs.Rules.{start}
 use Rattle.rules.specs.Replies.{Reply as Fed}

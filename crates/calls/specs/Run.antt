@@ -8,7 +8,7 @@ use Prim.Native.Nat.{ℕ, _≤_}
 use lib.Dec.{eqb}
 use lib.ListN.{length}
 use lib.Ieee.{Float}
-use Rattle.session.specs.Fields.{Fit}
+use Rattle.fields.specs.Fields.{Fit}
 use Rattle.session.specs.Session.{ListFits}
 use Rattle.follows.specs.Seen.{keepIf}
 use Rattle.raimsklo.specs.declared.answers.Reply.{Reply}

@@ -22,7 +22,7 @@ use Rattle.order.specs.declared.Factors.{Factors}
 use Rattle.order.specs.Order.{Settled, heldOf, atOrder, settledOf, raiseOf, lowerOf, sameLargest, chooseOf}
 use Rattle.order.specs.Order.{forgottenOf, factorsOf, limitedFactorsOf, raisedLeftOf, chooseOrderOf}
 use Rattle.acceptance.specs.Accept.{correctedOf, countedDown, keepFamilyOf, testedOf, testFamilyOf, acceptOf}
-use Rattle.session.specs.Fields.{Fit}
+use Rattle.fields.specs.Fields.{Fit}
 use Rattle.fits.proofs.Floats.{either, literal}
 use Rattle.fits.proofs.Records.{CommonFits, put-hu, put-pdest, put-pdlast}
 use Rattle.fits.proofs.Steps.{reset-fits, adjust-fits}

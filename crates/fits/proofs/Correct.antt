@@ -20,7 +20,7 @@ use Rattle.verdict.specs.declared.Verdict.{Verdict}
 use Rattle.verdict.specs.Verdict.{rmOf, ratedOf, dconOf, pdestOf, estimatedOf, convergedOf, giveUpOf, strays}
 use Rattle.verdict.specs.Verdict.{furtherOf, testedOf, ratedVerdict, solvedVerdict, judgeOf}
 use Rattle.corrector.specs.Iterate.{openOf, Corrected, adamsOf, bdfOf, bdfResidualOf, correctIn, correctOf}
-use Rattle.session.specs.Fields.{Fit}
+use Rattle.fields.specs.Fields.{Fit}
 use Rattle.fits.proofs.Floats.{either, literal, product, quotient, maximum}
 use Rattle.fits.proofs.Sizes.{norm}
 use Rattle.fits.proofs.Records.{CommonFits, put-rc, put-pdest, put-pdlast, put-pdnorm, put-convrate, put-rate}

@@ -19,7 +19,7 @@ use Rattle.machine.specs.Resume.{With, isAsked, takenOf, unasked, resumeOf}
 use Rattle.refusals.specs.declared.Options.{Options}
 use Rattle.refusals.specs.declared.Lengths.{Lengths}
 use Rattle.refusals.specs.Start.{largestOf, smallestOf, inverseOf, settingsOf, firstStepOf}
-use Rattle.session.specs.Fields.{Fit, FloatsFit}
+use Rattle.fields.specs.Fields.{Fit, FloatsFit}
 use Rattle.fits.specs.Next.{started, next}
 use Rattle.fits.proofs.Floats.{either, literal, quotient, absolute, signum}
 use Rattle.fits.proofs.Records.{CommonFits}

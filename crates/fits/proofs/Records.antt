@@ -3,7 +3,7 @@
 -- Assumes nothing.
 use lib.Ieee.{Float}
 use Rattle.common.specs.declared.Common.{Common}
-use Rattle.session.specs.Fields.{Fit}
+use Rattle.fields.specs.Fields.{Fit}
 
 pub record Floats (tn₀ h₀ hu₀ told₀ rc₀ el0₀ conit₀ rmax₀ pdest₀ pdlast₀ pdnorm₀ convrate₀ pnorm₀ rate₀ delp₀ :
     Float) : Type 0 where

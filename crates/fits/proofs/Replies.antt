@@ -38,7 +38,7 @@ use Rattle.passes.specs.Pass.{factoredOf, askColumnOf, isSupplied, beginJacobia
 use Rattle.passes.specs.Pass.{openedAt, openedOf, jacobianOf, columnAt, columnOf, furtherOf, restepOf}
 use Rattle.reports.specs.Reports.{sizedAt, sizedOf, firstStepOf, weightedAt, firstDerivativeOf, firstReportOf}
 use Rattle.reports.specs.Reports.{firstModifiedOf, afterReportOf, restartOf, modifiedOf}
-use Rattle.session.specs.Fields.{Fit}
+use Rattle.fields.specs.Fields.{Fit}
 use Rattle.fits.proofs.Floats.{either, sum}
 use Rattle.fits.proofs.Sizes.{norm, initial-step, first-size}
 use Rattle.fits.proofs.Records.{CommonFits, put-tn, put-h, put-told, put-pnorm}

@@ -3,7 +3,7 @@ ghost use mathlib.Core.Path.{_≡_};
 ghost use mathlib.Core.Bool.{Bool, true};
 ghost use Prim.Native.Nat.{ℕ, _+_, _*_, _≤_, _<_};
 ghost use lib.ListN.{length};
-ghost use Rattle.session.specs.Words.{countsIn};
+ghost use Rattle.words.specs.Words.{countsIn};
 ghost use Rattle.session.specs.Session.{inRangeOf, decodeOf};
 ghost use Rattle.raimsklo.specs.Calls.{Called, isKind, kindOf, lengthsRefusal, replyRefusalOf};
 ghost use Rattle.raimsklo.specs.Calls.{storedRefusal, Sized, questionOf, isUnasked, Settled, settledOf, goOf};

@@ -26,15 +26,15 @@ use Rattle.common.specs.declared.MethodFamily.the-variants.{Adams, Bdf}
 use Rattle.turns.specs.declared.Phase.{Phase}
 use Rattle.turns.specs.declared.Phase.the-variants as Phase
 use Rattle.turns.specs.declared.Session.{Session}
-use Rattle.session.specs.Words.{word, float, countsIn, floatsIn, slotOf, putCountsOf, putFloatsOf}
-use Rattle.session.specs.States.{flagNumber, flagOf, familyNumber, familyOf, phaseNumber, phaseOf}
-use Rattle.session.specs.Fields.{countsOf, floatsOf, Fit, Fits}
-use Rattle.session.specs.Session.{encodeOf, decodeOf, sessionOf, putTolerancesOf, rtolSlots, atolSlots}
+use Rattle.words.specs.Words.{word, float, countsIn, floatsIn, slotOf, putCountsOf, putFloatsOf}
+use Rattle.fields.specs.States.{flagNumber, flagOf, familyNumber, familyOf, phaseNumber, phaseOf}
+use Rattle.fields.specs.Fields.{countsOf, floatsOf, sessionOf, Fit, Fits}
+use Rattle.session.specs.Session.{encodeOf, decodeOf, putTolerancesOf, rtolSlots, atolSlots}
 use Rattle.session.specs.Session.{storedN, finishedIn, ListFits}
-use Rattle.session.proofs.Rows.{same-default, length-put-counts, length-put-floats}
-use Rattle.session.proofs.Rows.{length-counts, counts-at, length-floats, floats-at}
-use Rattle.session.proofs.Rows.{put-counts-at, put-counts-other, put-floats-at, put-floats-other}
-use Rattle.session.proofs.Listed.{counts-small, floats-fit, phase-small, zero-fits}
+use Rattle.words.proofs.Rows.{same-default, length-put-counts, length-put-floats}
+use Rattle.words.proofs.Rows.{length-counts, counts-at, length-floats, floats-at}
+use Rattle.words.proofs.Rows.{put-counts-at, put-counts-other, put-floats-at, put-floats-other}
+use Rattle.fields.proofs.Listed.{counts-small, floats-fit, phase-small, zero-fits}
 
 -- ---- states
 

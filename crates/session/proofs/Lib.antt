@@ -1,6 +1,3 @@
-pub mod Eight
-pub mod Rows
-pub mod Listed
 pub mod Back
 pub mod Every
 pub mod Within

@@ -24,14 +24,14 @@ use Rattle.turns.specs.declared.Phase.{Phase}
 use Rattle.turns.specs.declared.Phase.the-variants as Phase
 use Rattle.turns.specs.declared.Session.{Session}
 use Rattle.turns.specs.Ranges.{Ranges}
-use Rattle.session.specs.Words.{word, float, countsIn, slotOf}
-use Rattle.session.specs.States.{flagNumber, familyNumber, phaseNumber}
-use Rattle.session.specs.Fields.{countsOf, lowest, highest, CountsFit, Fits}
+use Rattle.words.specs.Words.{word, float, countsIn, slotOf}
+use Rattle.fields.specs.States.{flagNumber, familyNumber, phaseNumber}
+use Rattle.fields.specs.Fields.{countsOf, lowest, highest, CountsFit, Fits}
 use Rattle.session.specs.Session.{encodeOf, decodeOf, putTolerancesOf, ListFits}
 use Rattle.session.specs.Session.{every, wordInRange, OneOrN, fieldsInRange}
 use Rattle.session.specs.Session.{notNegativeAt, notNegative, tolerancesInRange}
 use Rattle.session.specs.Session.{pivotBelow, pivotsBelow, inRangeOf}
-use Rattle.session.proofs.Rows.{same-default}
+use Rattle.words.proofs.Rows.{same-default}
 use Rattle.session.proofs.Back.{slot-fits, slot-back, rtol-slot, atol-slot, encoded-other}
 use Rattle.session.proofs.Back.{counts-back, decode-encode}
 use Rattle.session.proofs.Every.{every-at, every-all}

@@ -18,14 +18,14 @@ use borrow.Author.Tests.{ltb-true}
 use Rattle.vectors.specs.Tolerance.{List1OrN}
 use Rattle.turns.specs.Ranges.{Accepted, Counts, Orders, Ranges}
 use Rattle.turns.specs.Requires.{Resumes}
-use Rattle.session.specs.Words.{countsIn, floatsIn}
-use Rattle.session.specs.States.{flagNumber, flagOf, familyNumber, familyOf, phaseNumber, phaseOf}
-use Rattle.session.specs.Fields.{countsOf, settingsOf, commonOf, lowest, highest}
-use Rattle.session.specs.Session.{decodeOf, sessionOf, rtolOf, atolOf}
+use Rattle.words.specs.Words.{countsIn, floatsIn}
+use Rattle.fields.specs.States.{flagNumber, flagOf, familyNumber, familyOf, phaseNumber, phaseOf}
+use Rattle.fields.specs.Fields.{countsOf, settingsOf, commonOf, sessionOf, lowest, highest}
+use Rattle.session.specs.Session.{decodeOf, rtolOf, atolOf}
 use Rattle.session.specs.Session.{every, wordInRange, OneOrN, fieldsInRange}
 use Rattle.session.specs.Session.{tolerancesInRange}
 use Rattle.session.specs.Session.{pivotBelow, pivotsBelow, inRangeOf}
-use Rattle.session.proofs.Rows.{length-counts, length-floats}
+use Rattle.words.proofs.Rows.{length-counts, length-floats}
 use Rattle.session.proofs.Every.{every-at}
 use Rattle.session.proofs.Within.{both, low, high, Related, words-pass, related}
 

@@ -15,7 +15,7 @@ use borrow.Author.Tests.{ltb-true, leb-true, eqb-true, lt-ltb, le-leb, eq-eqb}
 use Rattle.common.specs.declared.Settings.{Settings}
 use Rattle.common.specs.declared.Common.{Common}
 use Rattle.common.specs.Limits.{mxncfOf}
-use Rattle.session.specs.Fields.{lowest, highest}
+use Rattle.fields.specs.Fields.{lowest, highest}
 use Rattle.session.specs.Session.{every, wordInRange, oneOrN, OneOrN}
 use Rattle.session.specs.Session.{listsInRange, ordersInRange, countersInRange, fieldsInRange}
 use Rattle.session.proofs.Every.{every-at}

@@ -1,4 +1,1 @@
-pub mod Words
-pub mod States
-pub mod Fields
 pub mod Session

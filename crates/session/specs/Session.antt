@@ -16,17 +16,13 @@ use Rattle.common.specs.declared.Settings.{Settings}
 use Rattle.common.specs.declared.Common.{Common}
 use Rattle.common.specs.Limits.{mxncfOf}
 use Rattle.turns.specs.declared.Session.{Session}
-use Rattle.session.specs.Words.{word, float, countsIn, putCountsOf, floatsIn, slotsOver, putFloatsOf}
-use Rattle.session.specs.States.{phaseOf}
-use Rattle.session.specs.Fields.{countsOf, floatsOf, settingsOf, commonOf, lowest, highest, Fit}
+use Rattle.words.specs.Words.{word, float, countsIn, putCountsOf, floatsIn, slotsOver, putFloatsOf}
+use Rattle.fields.specs.Fields.{countsOf, floatsOf, sessionOf, lowest, highest, Fit}
 
 -- ---- record and tolerances
 
 unfoldable pub encodeOf : Session → List ℕ → List ℕ
 encodeOf x bytes = putFloatsOf 34 19 (floatsOf x) (putCountsOf (countsOf x) bytes)
-
-abbrev pub sessionOf : List ℕ → List Float → Session
-sessionOf u f = record { settings = settingsOf u f; common = commonOf u f; phase = phaseOf (getD u 0 0) }
 
 unfoldable pub decodeOf : List ℕ → Session
 decodeOf bytes = sessionOf (countsIn bytes) (floatsIn bytes 34 19)

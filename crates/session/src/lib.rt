@@ -5,14 +5,11 @@ ghost use mathlib.Core.Path.{_≡_};
 ghost use mathlib.Core.Bool.{Bool};
 ghost use Prim.Native.Nat.{_+_, _*_, _≤_};
 ghost use lib.ListN.{length};
-ghost use Rattle.session.specs.Words.{countsIn};
+ghost use Rattle.words.specs.Words.{countsIn};
 ghost use Rattle.session.specs.Session.{encodeOf, decodeOf, putTolerancesOf, rtolFirst, atolFirst};
 ghost use Rattle.session.specs.Session.{storedN, finishedIn, inRangeOf};
 
-mod fields;
 mod ranges;
-mod states;
-mod words;
 
 use turns::Session;
 

@@ -4,7 +4,7 @@ ghost use mathlib.Core.Bool.{Bool, true};
 ghost use Prim.Native.Nat.{_+_, _*_, _≤_, _<_};
 ghost use lib.ListN.{length, getD};
 ghost use Rattle.loops.specs.For.{for};
-ghost use Rattle.session.specs.Fields.{lowest, highest};
+ghost use Rattle.fields.specs.Fields.{lowest, highest};
 ghost use Rattle.session.specs.Session.{every, andAt, wordInRange, oneOrN, listsInRange, ordersInRange};
 ghost use Rattle.session.specs.Session.{countersInRange, fieldsInRange};
 ghost use Rattle.session.specs.Session.{notNegative, tolerancesInRange, pivotsBelow};
@@ -31,8 +31,8 @@ fn run(u: &[usize; 34], low: &[usize; 34], high: &[usize; 34], a: usize, e: usiz
 fn words(u: &[usize; 34]) -> bool
     ensures { λ r. ⌜ r ≡ every (wordInRange (now (u .entry))) 34 ⌝ }
 {
-    let low = crate::fields::lowest();
-    let high = crate::fields::highest();
+    let low = fields::lowest();
+    let high = fields::highest();
     if !run(u, &low, &high, 0, 17) {
         return false;
     }
@@ -112,7 +112,7 @@ fn not_negative(bytes: &[u8], at: usize, k: usize) -> bool
     ensures { λ r. ⌜ r ≡ notNegative (now (bytes .entry)) at k ⌝ }
 {
     for i in 0..k {
-        if crate::words::float(bytes, at + i) < 0.0 {
+        if words::float(bytes, at + i) < 0.0 {
             return false;
         }
     }

@@ -6,8 +6,9 @@ use Prim.Native.Nat.{ℕ}
 use lib.Ieee.{Float}
 use denote.Ref.{now}
 use borrow.Author.Needs.{needs}
-use Rattle.session.specs.Words.{floatsIn}
-use Rattle.session.specs.Session.{sessionOf, decodeOf}
+use Rattle.words.specs.Words.{floatsIn}
+use Rattle.fields.specs.Fields.{sessionOf}
+use Rattle.session.specs.Session.{decodeOf}
 use Rattle.session.proofs.decode.Statement.{statement}
 use Rattle.session.proofs.decode.Tie as tie
 

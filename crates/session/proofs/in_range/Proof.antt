@@ -8,7 +8,7 @@ use lib.ListN.{getD}
 use borrow.Author.Needs.{needs}
 use borrow.Author.Tests.{not-true, not-false}
 use Rattle.turns.specs.declared.Session.{Session}
-use Rattle.session.specs.Words.{countsIn}
+use Rattle.words.specs.Words.{countsIn}
 use Rattle.session.specs.Session.{decodeOf, fieldsInRange, tolerancesInRange, pivotsBelow, inRangeOf}
 use Rattle.session.proofs.Within.{lists-small}
 use Rattle.session.proofs.in_range.Statement.{statement}

@@ -14,7 +14,7 @@ use Rattle.machine.specs.Resume.{With}
 use Rattle.machine.proofs.Order.{order-after}
 use Rattle.machine.proofs.Lengths.{resume-lent}
 use Rattle.session.specs.Session.{decodeOf, rtolOf, atolOf, inRangeOf}
-use Rattle.session.proofs.Rows.{length-slots, slots-part}
+use Rattle.words.proofs.Rows.{length-slots, slots-part}
 use Rattle.session.proofs.Thirteen.{lists-fit, resumes}
 use Rattle.raimsklo.specs.Calls.{Buffers, Called, Settled, written, goOf}
 use Rattle.raimsklo.proofs.Taken.{unless}

@@ -1,0 +1,2 @@
+pub mod Eight
+pub mod Rows

@@ -1,0 +1,68 @@
+-- `get_floats` meets its contract. The invariant: the words that are left give the whole row.
+-- Assumes nothing.
+use mathlib.Core.Path.{_≡_, refl}
+use Prim.Native.Nat.{_-_}
+use native.Mathlib.Omega.{arith}
+use lib.ListN.{length, length-set}
+use Rattle.loops.specs.For.{for, onward, ended}
+use Rattle.words.specs.Words.{floatAt, floatsOver}
+use Rattle.words.proofs.get_floats.Statement.{statement}
+use Rattle.words.proofs.get_floats.Tie as tie
+
+abbrev Inv-loop : tie.InvT-loop
+Inv-loop bytes at list₀ i₀ i-end list i =
+    (i-end ≡ length list₀) × (length list ≡ length list₀)
+    × (for i (length list₀) (floatAt bytes at) list ≡ floatsOver bytes at list₀)
+
+abbrev μ-loop : tie.MeasureT-loop
+μ-loop bytes at list₀ i₀ i-end list i = i-end - i
+
+loop-holds : tie.Need-loop-holds Inv-loop μ-loop
+unfolding floatsOver
+loop-holds c = (refl, refl, refl)
+
+add-float : tie.Need-add-float Inv-loop μ-loop
+add-float c = omega arith
+
+float-requires : tie.Need-float-requires Inv-loop μ-loop
+float-requires c κs = omega arith
+
+mul-list : tie.Need-mul-list Inv-loop μ-loop
+mul-list c = omega arith
+
+slice-write-list : tie.Need-slice-write-list Inv-loop μ-loop
+slice-write-list c = omega arith
+
+add-i : tie.Need-add-i Inv-loop μ-loop
+add-i c = omega arith
+
+loop-less : tie.Need-loop-less Inv-loop μ-loop
+loop-less c = omega arith
+
+loop-again : tie.Need-loop-again Inv-loop μ-loop
+loop-again c =
+    let l = c .before .before .loop in
+    (l .inv .0, simp length-set (l .inv .1), onward _ _ _ _ _ _ (omega arith) (rw (c .float .ensures)) (l .inv .2))
+
+same-length : tie.Need-same-length Inv-loop μ-loop
+same-length c = omega arith
+
+returns : tie.Need-returns Inv-loop μ-loop
+returns c = ended _ _ _ _ _ (omega arith) (c .before .loop .inv .2)
+
+pub get-floats-spec : {M : Type 1} → statement M
+get-floats-spec =
+    tie.close
+    (tie.spec
+    Inv-loop
+    μ-loop
+    loop-holds
+    add-float
+    float-requires
+    mul-list
+    slice-write-list
+    add-i
+    loop-less
+    loop-again
+    same-length
+    returns)

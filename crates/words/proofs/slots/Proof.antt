@@ -1,0 +1,60 @@
+-- `slots` meets its contract. The invariant: the words that are left give the whole row.
+-- Assumes nothing.
+use mathlib.Core.Path.{_≡_, refl}
+use Prim.Native.Nat.{_-_}
+use native.Mathlib.Omega.{arith}
+use Rattle.loops.specs.For.{for, onward, ended}
+use Rattle.words.specs.Words.{floatAt, slotsOver}
+use Rattle.words.proofs.slots.Statement.{statement}
+use Rattle.words.proofs.slots.Tie as tie
+
+abbrev Inv-loop : tie.InvT-loop
+Inv-loop bytes at k list₀ i₀ list i = for i k (floatAt bytes at) list ≡ slotsOver bytes at k list₀
+
+abbrev μ-loop : tie.MeasureT-loop
+μ-loop bytes at k list₀ i₀ list i = k - i
+
+loop-holds : tie.Need-loop-holds Inv-loop μ-loop
+unfolding slotsOver
+loop-holds c = refl
+
+add-float : tie.Need-add-float Inv-loop μ-loop
+add-float c = omega arith
+
+float-requires : tie.Need-float-requires Inv-loop μ-loop
+float-requires c κs = omega arith
+
+mul-list : tie.Need-mul-list Inv-loop μ-loop
+mul-list c = omega arith
+
+element-write-list : tie.Need-element-write-list Inv-loop μ-loop
+element-write-list c = omega arith
+
+add-i : tie.Need-add-i Inv-loop μ-loop
+add-i c = omega arith
+
+loop-less : tie.Need-loop-less Inv-loop μ-loop
+loop-less c = omega arith
+
+loop-again : tie.Need-loop-again Inv-loop μ-loop
+loop-again c =
+    onward _ _ _ _ _ _ (omega arith) (rw (c .float .ensures)) (c .before .before .loop .inv)
+
+returns : tie.Need-returns Inv-loop μ-loop
+returns c = ended _ _ _ _ _ (omega arith) (c .before .loop .inv)
+
+pub slots-spec : {M : Type 1} → statement M
+slots-spec =
+    tie.close
+    (tie.spec
+    Inv-loop
+    μ-loop
+    loop-holds
+    add-float
+    float-requires
+    mul-list
+    element-write-list
+    add-i
+    loop-less
+    loop-again
+    returns)
