@@ -79,7 +79,7 @@ def main():
         same(name, ours[name], theirs[name])
     for name, path, rust, python in (
         ("Options", "crates/refusals/src/lib.rt", "hosts/rust/src/lib.rs", "raimsklo_options"),
-        ("Reply", "crates/raimsklo/src/answers.rt", "hosts/rust/src/calls.rs", "raimsklo_answer"),
+        ("Reply", "crates/answers/src/lib.rt", "hosts/rust/src/calls.rs", "raimsklo_answer"),
     ):
         fields = fields_of(struct(path, name), KINDS)
         same(f"{name} in the header", fields, header_fields(python))

@@ -25,10 +25,11 @@ use Rattle.refusals.specs.Refusal.{none, plain, alsoOf, inOrder, orElse}
 use Rattle.rules.specs.Play.{Given}
 use Rattle.rules.specs.Rules.{Start}
 use Rattle.follows.specs.Seen.{sessionOf, withOf, next, isTaken}
-use Rattle.raimsklo.specs.Answers.{plainOf, answerOf}
-use Rattle.raimsklo.specs.Calls.{Buffers, Called, isKind, kindOf, lengthsRefusal, storedRefusal}
-use Rattle.raimsklo.specs.Calls.{replyRefusalOf, questionOf, isUnasked, settledOf, turned, written, goOf, replyAt}
-use Rattle.raimsklo.specs.Calls.{replyOf}
+use Rattle.answers.specs.Answers.{plainOf, answerOf}
+use Rattle.answers.specs.Called.{Buffers, Called}
+use Rattle.replies.specs.Replies.{isKind, kindOf, lengthsRefusal, storedRefusal, replyRefusalOf, questionOf}
+use Rattle.replies.specs.Replies.{isUnasked, settledOf, turned, written, goOf}
+use Rattle.raimsklo.specs.Calls.{replyAt, replyOf}
 use Rattle.calls.specs.Run.{ReplyCall}
 use Rattle.calls.specs.Follow.{fedAs, isSized}
 use Rattle.calls.proofs.Turns.{isOver, Agrees, Well, resume-same}

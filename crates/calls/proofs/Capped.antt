@@ -29,9 +29,11 @@ use Rattle.rules.proofs.Demands.{demand-3-tree}
 use Rattle.follows.specs.Seen.{next, asks, step}
 use Rattle.follows.specs.Stands.{startedAt}
 use Rattle.follows.specs.Follows.{stateAt}
-use Rattle.raimsklo.specs.declared.answers.Reply.{Reply}
-use Rattle.raimsklo.specs.Answers.{statusNumber, answerOf}
-use Rattle.raimsklo.specs.Calls.{Buffers, Called, Problem, isKind, startOf}
+use Rattle.answers.specs.declared.Reply.{Reply}
+use Rattle.answers.specs.Answers.{statusNumber, answerOf}
+use Rattle.answers.specs.Called.{Buffers, Called}
+use Rattle.replies.specs.Replies.{isKind}
+use Rattle.raimsklo.specs.Calls.{Problem, startOf}
 use Rattle.calls.specs.Run.{Begins, ReplyCall, TimesFit, answered, lastOf}
 use Rattle.calls.specs.Follow.{treeOf, isStep, saidAt, fedAs}
 use Rattle.calls.specs.Demands.{marks, countedBy, stepsOf, isReport, CappedAt, CallsCapped}

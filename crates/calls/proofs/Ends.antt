@@ -21,7 +21,9 @@ use Rattle.rules.specs.Demands.{HasEnded}
 use Rattle.rules.proofs.Demands.{demand-1}
 use Rattle.follows.specs.Seen.{next, asks, step}
 use Rattle.follows.specs.Stands.{startedAt}
-use Rattle.raimsklo.specs.Calls.{Buffers, Called, Problem, isKind, startOf}
+use Rattle.answers.specs.Called.{Buffers, Called}
+use Rattle.replies.specs.Replies.{isKind}
+use Rattle.raimsklo.specs.Calls.{Problem, startOf}
 use Rattle.calls.specs.Run.{Begins, ReplyCall, TimesFit, answered, callsOf, lastOf}
 use Rattle.calls.specs.Follow.{treeOf, fedAs, isAnswer, isSized, standsAt, Refused}
 use Rattle.calls.specs.Demands.{isEnd, hasEnd, wants, AllWanted, Unless, CallsEnd}

@@ -20,8 +20,9 @@ use Rattle.rules.specs.Play.{Given, Play}
 use Rattle.rules.specs.Rules.{Start}
 use Rattle.follows.specs.Seen.{next, step}
 use Rattle.follows.specs.Stands.{startedAt}
-use Rattle.raimsklo.specs.Answers.{statusNumber, answerOf}
-use Rattle.raimsklo.specs.Calls.{Buffers, Called, Problem, startOf}
+use Rattle.answers.specs.Answers.{statusNumber, answerOf}
+use Rattle.answers.specs.Called.{Buffers, Called}
+use Rattle.raimsklo.specs.Calls.{Problem, startOf}
 use Rattle.calls.specs.Run.{Begins, ReplyCall, TimesFit, answered, callsOf, lastOf, isRefusal, takenOf}
 use Rattle.calls.specs.Follow.{treeOf, saidBy, fedAs, toldBy, fedTo, standsAt}
 use Rattle.calls.specs.Follow.{heardOf, Refused, CallsFollow}

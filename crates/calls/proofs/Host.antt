@@ -27,9 +27,10 @@ use Rattle.follows.specs.Seen.{Shown, snapshotOf, shownAs, isTaken, next, step}
 use Rattle.follows.specs.Stands.{derivative, answer}
 use Rattle.follows.specs.Follows.{stateAt}
 use Rattle.follows.specs.Sums.{Act, gives, continues, acted, hosted}
-use Rattle.raimsklo.specs.declared.answers.Reply.{Reply}
-use Rattle.raimsklo.specs.Answers.{answerOf}
-use Rattle.raimsklo.specs.Calls.{Called, isKind, kindOf}
+use Rattle.answers.specs.declared.Reply.{Reply}
+use Rattle.answers.specs.Answers.{answerOf}
+use Rattle.answers.specs.Called.{Called}
+use Rattle.replies.specs.Replies.{isKind, kindOf}
 use Rattle.fits.proofs.Floats.{literal}
 use Rattle.calls.specs.Run.{ReplyCall, answered}
 use Rattle.calls.specs.Follow.{Said, saidBy, saidOf, saidAt, fedAs, isSized}

@@ -18,9 +18,11 @@ use Rattle.machine.specs.Resume.{With, isAsked}
 use Rattle.session.specs.Session.{decodeOf, rtolOf, atolOf}
 use Rattle.refusals.specs.declared.Refusal.{Refusal}
 use Rattle.refusals.specs.Start.{startRefusalOf}
-use Rattle.raimsklo.specs.Answers.{plainOf, answerOf}
-use Rattle.raimsklo.specs.Calls.{Buffers, Called, Problem, lengthsOf, beganOf, startAt, startOf, kindOf, isUnasked}
-use Rattle.raimsklo.specs.Calls.{replyRefusalOf, Settled, settledOf, turned, goOf, replyAt, replyOf}
+use Rattle.answers.specs.Answers.{plainOf, answerOf}
+use Rattle.answers.specs.Called.{Buffers, Called}
+use Rattle.replies.specs.Replies.{kindOf, isUnasked, replyRefusalOf, Settled, settledOf, turned, goOf}
+use Rattle.starts.specs.Starts.{beganOf}
+use Rattle.raimsklo.specs.Calls.{Problem, lengthsOf, startAt, startOf, replyAt, replyOf}
 use Rattle.fits.proofs.Floats.{either}
 use Rattle.calls.specs.Run.{isRefusal}
 use Rattle.calls.specs.Refused.{RefusedUnchanged}

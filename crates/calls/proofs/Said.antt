@@ -28,8 +28,8 @@ use Rattle.follows.specs.Seen.{shownAs}
 use Rattle.follows.specs.Seen as Seen
 use Rattle.follows.specs.Stands.{Fits, Stands}
 use Rattle.follows.specs.Follows.{stateAt}
-use Rattle.raimsklo.specs.Answers.{answerOf}
-use Rattle.raimsklo.specs.Calls.{withY, questionOf}
+use Rattle.answers.specs.Answers.{answerOf}
+use Rattle.replies.specs.Replies.{withY, questionOf}
 use Rattle.calls.specs.Follow.{says, saidOf, saidAt}
 use Rattle.calls.proofs.Turns.{isOver, Agrees, Well}
 

@@ -22,9 +22,10 @@ use Rattle.rules.specs.Play.{Given, derivativeAt, jacobianAt, Play, ret, ask, t
 use Rattle.rules.specs.Play.{finished, stepRefused, weightRefused, exhausted}
 use Rattle.follows.specs.Seen.{asks}
 use Rattle.follows.specs.Stands.{Stands}
-use Rattle.raimsklo.specs.declared.answers.Reply.{Reply}
-use Rattle.raimsklo.specs.Answers.{statusNumber, answerOf}
-use Rattle.raimsklo.specs.Calls.{Called, isKind, kindOf}
+use Rattle.answers.specs.declared.Reply.{Reply}
+use Rattle.answers.specs.Answers.{statusNumber, answerOf}
+use Rattle.answers.specs.Called.{Called}
+use Rattle.replies.specs.Replies.{isKind, kindOf}
 use Rattle.calls.specs.Run.{ReplyCall}
 use Rattle.calls.specs.Follow.{isStep, saidBy, saidAt, fedAs, isAnswer}
 use Rattle.calls.specs.Demands.{isEnd, wants}

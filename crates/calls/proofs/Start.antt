@@ -41,8 +41,10 @@ use Rattle.follows.specs.Seen.{sessionOf, after}
 use Rattle.follows.specs.Stands.{startedAt}
 use Rattle.follows.proofs.Kept.{session-kept}
 use Rattle.fits.proofs.Kept.{start-fits}
-use Rattle.raimsklo.specs.Answers.{plainOf}
-use Rattle.raimsklo.specs.Calls.{Buffers, Called, Problem, lengthsOf, clearedOf, keptOf, beganOf, startAt, startOf}
+use Rattle.answers.specs.Answers.{plainOf}
+use Rattle.answers.specs.Called.{Buffers, Called}
+use Rattle.starts.specs.Starts.{clearedOf, keptOf, beganOf}
+use Rattle.raimsklo.specs.Calls.{Problem, lengthsOf, startAt, startOf}
 use Rattle.calls.specs.Run.{Begins}
 use Rattle.calls.specs.Follow.{givenOf}
 use Rattle.calls.proofs.Numbers.{start-number}

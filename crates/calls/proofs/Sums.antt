@@ -56,7 +56,9 @@ use Rattle.follows.specs.Sums.{problem8, problem10, problem11, problem12, hoste
 use Rattle.follows.specs.Sums as Follows
 use Rattle.follows.proofs.Sums.{sums-8-to-12}
 use Rattle.fits.proofs.Floats.{literal}
-use Rattle.raimsklo.specs.Calls.{Buffers, Called, Problem, lengthsOf, beganOf, startAt, startOf}
+use Rattle.answers.specs.Called.{Buffers, Called}
+use Rattle.starts.specs.Starts.{beganOf}
+use Rattle.raimsklo.specs.Calls.{Problem, lengthsOf, startAt, startOf}
 use Rattle.calls.specs.Run.{FloatsGiven, Begins}
 use Rattle.calls.specs.Follow.{Said, saidOf, givenOf, treeOf}
 use Rattle.calls.specs.Sums.{optionsOf, problemOf, Lent, hostedBy, Row, resultOf, row8, row9, row10, row11}

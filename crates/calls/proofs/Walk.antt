@@ -38,8 +38,10 @@ use Rattle.follows.specs.Follows.{stateAt}
 use Rattle.follows.specs.InRun.{InRun}
 use Rattle.follows.proofs.Follows.{replies, follows}
 use Rattle.follows.proofs.Kept.{session-kept}
-use Rattle.raimsklo.specs.Answers.{plainOf, answerOf}
-use Rattle.raimsklo.specs.Calls.{Buffers, Called, Problem, isKind, kindOf, questionOf, startOf, replyOf}
+use Rattle.answers.specs.Answers.{plainOf, answerOf}
+use Rattle.answers.specs.Called.{Buffers, Called}
+use Rattle.replies.specs.Replies.{isKind, kindOf, questionOf}
+use Rattle.raimsklo.specs.Calls.{Problem, startOf, replyOf}
 use Rattle.calls.specs.Run.{Begins, ReplyCall, lentFor, answered}
 use Rattle.calls.specs.Follow.{treeOf, saidBy, saidAt, fedAs, isAnswer, isSized}
 use Rattle.calls.proofs.Turns.{isOver, Well, resume-well}

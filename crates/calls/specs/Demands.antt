@@ -15,8 +15,9 @@ use Rattle.rules.specs.Steps.{Step, noted, marked, isEnded, isEndedKeeping, num
 use Rattle.rules.specs.Caps.{Capped, Every}
 use Rattle.rules.specs.Demands.{latest, repliesOf}
 use Rattle.follows.specs.Seen.{step}
-use Rattle.raimsklo.specs.declared.answers.Reply.{Reply}
-use Rattle.raimsklo.specs.Calls.{Buffers, Called, Problem, startOf}
+use Rattle.answers.specs.declared.Reply.{Reply}
+use Rattle.answers.specs.Called.{Buffers, Called}
+use Rattle.raimsklo.specs.Calls.{Problem, startOf}
 use Rattle.calls.specs.Run.{ReplyCall, TimesFit, answered, callsOf, lastOf, isRefusal}
 use Rattle.calls.specs.Follow.{givenOf, treeOf, fedAs, isSized, Refused}
 

@@ -19,9 +19,11 @@ use Rattle.rules.specs.Replies.{Reply as Fed}
 use Rattle.follows.specs.Seen.{Shown, wantsDerivative, wantsJacobian, reports, ends, refusesStep, refusesWeight}
 use Rattle.follows.specs.Seen.{refuses, stuck, shownAt, asks, step, stepIf, keepIf}
 use Rattle.follows.specs.Follows.{stateAt}
-use Rattle.raimsklo.specs.declared.answers.Reply.{Reply}
-use Rattle.raimsklo.specs.Answers.{plainOf, endOf}
-use Rattle.raimsklo.specs.Calls.{Buffers, Called, Problem, lengthsOf, isKind, kindOf, startOf}
+use Rattle.answers.specs.declared.Reply.{Reply}
+use Rattle.answers.specs.Answers.{plainOf, endOf}
+use Rattle.answers.specs.Called.{Buffers, Called}
+use Rattle.replies.specs.Replies.{isKind, kindOf}
+use Rattle.raimsklo.specs.Calls.{Problem, lengthsOf, startOf}
 use Rattle.calls.specs.Run.{ReplyCall, TimesFit, lentFor, answered, callsOf, lastOf, isRefusal, takenOf}
 
 -- ---- the tree of a run, from the start's arguments

@@ -8,8 +8,9 @@ use Prim.Native.Nat.{ℕ, _≤_}
 use lib.ListN.{length}
 use lib.Ieee.{Float}
 use Rattle.numbers.specs.Float.{zeroF}
-use Rattle.raimsklo.specs.Answers.{plainOf}
-use Rattle.raimsklo.specs.Calls.{Buffers, Problem, startOf, replyOf}
+use Rattle.answers.specs.Answers.{plainOf}
+use Rattle.answers.specs.Called.{Buffers}
+use Rattle.raimsklo.specs.Calls.{Problem, startOf, replyOf}
 use Rattle.calls.specs.Run.{isRefusal}
 
 pub record RefusedUnchanged : Type 0 where

@@ -11,8 +11,9 @@ use lib.Ieee.{Float}
 use Rattle.fields.specs.Fields.{Fit}
 use Rattle.session.specs.Session.{ListFits}
 use Rattle.follows.specs.Seen.{keepIf}
-use Rattle.raimsklo.specs.declared.answers.Reply.{Reply}
-use Rattle.raimsklo.specs.Calls.{Buffers, Called, Problem, startOf, replyOf}
+use Rattle.answers.specs.declared.Reply.{Reply}
+use Rattle.answers.specs.Called.{Buffers, Called}
+use Rattle.raimsklo.specs.Calls.{Problem, startOf, replyOf}
 
 -- ---- the start
 

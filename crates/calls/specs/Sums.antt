@@ -19,8 +19,9 @@ use Rattle.common.specs.Layout.{column}
 use Rattle.refusals.specs.declared.Options.{Options}
 use Rattle.follows.specs.Sums.{problem8, problem10, problem11, problem12, Act, gives, continues}
 use Rattle.follows.specs.Sums as Follows
-use Rattle.raimsklo.specs.declared.answers.Reply.{Reply}
-use Rattle.raimsklo.specs.Calls.{Buffers, Called, Problem, startOf}
+use Rattle.answers.specs.declared.Reply.{Reply}
+use Rattle.answers.specs.Called.{Buffers, Called}
+use Rattle.raimsklo.specs.Calls.{Problem, startOf}
 use Rattle.calls.specs.Run.{ReplyCall, answered}
 
 abbrev pub d3 : Float

@@ -6,12 +6,9 @@ ghost use Prim.Native.Nat.{ℕ, _+_, _*_, _≤_};
 ghost use lib.ListN.{length};
 ghost use Rattle.root.specs.Root.{rootOf};
 ghost use Rattle.interpolation.specs.Evaluate.{Interpolated, interpolateOf};
-ghost use Rattle.raimsklo.specs.Calls.{Buffers, Called, startOf, replyOf};
+ghost use Rattle.answers.specs.Called.{Buffers, Called};
+ghost use Rattle.raimsklo.specs.Calls.{startOf, replyOf};
 ghost use Rattle.raimsklo.specs.Defaults.{defaults, workLength, questionLength};
-
-mod answers;
-mod start;
-mod reply;
 
 pub use answers::Reply;
 use refusals::Lengths;
@@ -134,7 +131,7 @@ pub extern "C" fn raimsklo_start(
         return answers::refused(r);
     }
     let s = refusals::settings(x0, xend, options, l);
-    start::begin(s, x0, refusals::first_step(options), y0, rtol, atol, work, pivots, session, question)
+    starts::begin(s, x0, refusals::first_step(options), y0, rtol, atol, work, pivots, session, question)
 }
 
 // The host's reply to the question that stands: the next question, a report, the end, or a refusal.
@@ -166,9 +163,9 @@ pub extern "C" fn raimsklo_reply(
     }
     let u = session::counts(session);
     let x = session::decode(&u, session);
-    let r = reply::refusal(kind, &u, x, work.len(), pivots, session, question.len());
+    let r = replies::refusal(kind, &u, x, work.len(), pivots, session, question.len());
     if r.number != 0 {
         return answers::refused(r);
     }
-    reply::go(x, reply::kind(kind), numbers, time, work, pivots, session, question)
+    replies::go(x, replies::kind(kind), numbers, time, work, pivots, session, question)
 }

@@ -1,0 +1,192 @@
+-- `go` meets its contract: work and pivots beside what the turn leaves of session and question. Assumes nothing.
+use mathlib.Core.List.{List}
+use mathlib.Core.Path.{refl, ap, _∙_, _≡_}
+use mathlib.Core.Bool.{true}
+use Prim.Native.Nat.{ℕ, _-_, _≤_}
+use lib.Ieee.{Float}
+use native.Mathlib.Omega.{arith}
+use lib.ListN.{length, replicate}
+use borrow.Author.Needs.{needs}
+use Rattle.numbers.specs.Float.{zeroF}
+use Rattle.turns.specs.declared.Session.{Session}
+use Rattle.turns.specs.Turns.{Left}
+use Rattle.machine.specs.Resume.{With}
+use Rattle.machine.proofs.Order.{order-after}
+use Rattle.machine.proofs.Lengths.{resume-lent}
+use Rattle.session.specs.Session.{decodeOf, rtolOf, atolOf, inRangeOf}
+use Rattle.words.proofs.Rows.{length-slots, slots-part}
+use Rattle.session.proofs.Thirteen.{lists-fit, resumes}
+use Rattle.answers.specs.Called.{Buffers, Called}
+use Rattle.replies.specs.Replies.{Settled, written, goOf}
+use Rattle.replies.proofs.Taken.{unless}
+use Rattle.replies.proofs.go.Statement.{statement}
+use Rattle.replies.proofs.go.Tie as tie
+
+abbrev put : List Float → List ℕ → Settled → Called
+put w p y = record { reply = y .reply; lent = record { work = w; pivots = p; session = y .session; question = y .question } }
+
+abbrev empty : List Float
+empty = replicate 64 zeroF
+
+same-size : (k : ℕ) → k - 0 ≡ k
+same-size k = omega arith
+
+-- the lists of a session in range have slots
+few : (b p : List ℕ) (x : Session) → inRangeOf b p ≡ true → x ≡ decodeOf b
+    → (x .settings .nrtol ≤ 64) × (x .settings .natol ≤ 64)
+few b p x q e = rw e (lists-fit b p q)
+
+rtol-requires : tie.Need-rtol-requires
+rtol-requires c κs =
+    let a = c .before .before .before .before .before .before .before in
+    let l = few (a .args .bytes .now) (a .args .pivots .now) (a .args .x) (a .pre .1 .0 .0) (a .pre .1 .0 .1) in
+    (search needs, l .0)
+
+atol-requires : tie.Need-atol-requires
+atol-requires c κs =
+    let a = c .before .before .before .before .before .before .before .before .before .before in
+    let l = few (a .args .bytes .now) (a .args .pivots .now) (a .args .x) (a .pre .1 .0 .0) (a .pre .1 .0 .1) in
+    (search needs, l .1)
+
+sub-resume : tie.Need-sub-resume
+sub-resume c = search needs
+
+part-resume-start : tie.Need-part-resume-start
+part-resume-start c = search needs
+
+part-resume-end : tie.Need-part-resume-end
+part-resume-end c =
+    let a = c .before .before .before .before .before .before .before .before .before .before .before .before in
+    let x = a .args in
+    let b = x .bytes .now in
+    let l = few b (x .pivots .now) (x .x) (a .pre .1 .0 .0) (a .pre .1 .0 .1) in
+    let e = c .before .before .before .before .rtol2 .ensures in
+    omega (arith, ap length e ∙ length-slots b 53 (x .x .settings .nrtol) empty (l .0) refl)
+
+sub-resume-2 : tie.Need-sub-resume-2
+sub-resume-2 c = search needs
+
+part-resume-start-2 : tie.Need-part-resume-start-2
+part-resume-start-2 c = search needs
+
+part-resume-end-2 : tie.Need-part-resume-end-2
+part-resume-end-2 c =
+    let a = c .before .before .before .before .before .before .before .before .before .before .before .before .before .before in
+    let x = a .args in
+    let b = x .bytes .now in
+    let l = few b (x .pivots .now) (x .x) (a .pre .1 .0 .0) (a .pre .1 .0 .1) in
+    let e = c .before .before .before .atol2 .ensures in
+    omega (arith, ap length e ∙ length-slots b 117 (x .x .settings .natol) empty (l .1) refl)
+
+resume-requires : tie.Need-resume-requires
+resume-requires c κs =
+    let t = c .before .before .before .before .before .before in
+    let a = t .before .before .before .before .before .before .before .before .before .before .before in
+    let x = a .args in
+    let b = x .bytes .now in
+    let s = decodeOf b .settings in
+    let q = a .pre .1 .0 .0 in
+    let l = lists-fit b (x .pivots .now) q in
+    let z = a .pre .1 .1 in
+    let r = resumes b (x .pivots .now) q (x .work .now) (z .sized) (z .pivoted) in
+    rw (
+      t .before .before .before .rtol2 .ensures,
+      t .atol2 .ensures,
+      a .pre .1 .0 .1,
+      same-size (s .nrtol),
+      same-size (s .natol),
+      slots-part b 53 (s .nrtol) empty (l .0) refl,
+      slots-part b 117 (s .natol) empty (l .1) refl,
+    )
+    (z .states .1, unless (decodeOf b .phase) r)
+
+settle-requires : tie.Need-settle-requires
+settle-requires c κs =
+    let m = c .before .before .before .before .before .before .before in
+    let t = m .before .before .before .before .before .before .before in
+    let a = t .before .before .before .before .before .before .before .before .before .before .before in
+    let x = a .args in
+    let b = x .bytes .now in
+    let s = decodeOf b .settings in
+    let q = a .pre .1 .0 .0 in
+    let l = lists-fit b (x .pivots .now) q in
+    let z = a .pre .1 .1 in
+    let r = resumes b (x .pivots .now) q (x .work .now) (z .sized) (z .pivoted) in
+    let turned = rw (
+      t .before .before .before .rtol2 .ensures,
+      t .atol2 .ensures,
+      a .pre .1 .0 .1,
+      same-size (s .nrtol),
+      same-size (s .natol),
+      slots-part b 53 (s .nrtol) empty (l .0) refl,
+      slots-part b 117 (s .natol) empty (l .1) refl,
+    ) at (m .resume .ensures) in
+    let w : With = record { rtol = rtolOf b; atol = atolOf b; work = x .work .now; ipiv = x .pivots .now } in
+    let order = order-after (decodeOf b) (x .kind) (x .numbers .now) (x .time) w (r .ranges) in
+    let room = resume-lent (decodeOf b) (x .numbers .now) (x .time) w (r .lent) (x .kind) .sized in
+    let low = ap (λ (l : Left). l .turn .common .nq) turned in
+    let long = ap (λ (l : Left). length (l .work)) turned in
+    rw (a .pre .1 .0 .1)
+    (
+      (z .states .0, z .states .1, omega (arith, low, order)),
+      ((omega (arith, long, room), omega (arith, z .asked)), omega (arith, a .pre .0)),
+    )
+
+same-length : tie.Need-same-length
+same-length c = search needs
+
+same-length-2 : tie.Need-same-length-2
+same-length-2 c = search needs
+
+same-length-3 : tie.Need-same-length-3
+same-length-3 c = search needs
+
+same-length-4 : tie.Need-same-length-4
+same-length-4 c = search needs
+
+returns : tie.Need-returns
+unfolding goOf
+returns c =
+    let e = c .before .before .before .before in
+    let m = e .before .before .before .before .before .before .before .before in
+    let t = m .before .before .before .before .before .before .before in
+    let a = t .before .before .before .before .before .before .before .before .before .before .before in
+    let x = a .args in
+    let b = x .bytes .now in
+    let s = decodeOf b .settings in
+    let q = a .pre .1 .0 .0 in
+    let l = lists-fit b (x .pivots .now) q in
+    let turned = rw (
+      t .before .before .before .rtol2 .ensures,
+      t .atol2 .ensures,
+      a .pre .1 .0 .1,
+      same-size (s .nrtol),
+      same-size (s .natol),
+      slots-part b 53 (s .nrtol) empty (l .0) refl,
+      slots-part b 117 (s .natol) empty (l .1) refl,
+    ) at (m .resume .ensures) in
+    let settled = rw (a .pre .1 .0 .1) at (e .settle .ensures) in
+    let lent : Buffers = record {
+      work = x .work .now; pivots = x .pivots .now; session = b; question = x .question .now;
+    } in
+    ap (put _ _) settled ∙ ap (λ (l : Left). written s l lent) turned
+
+pub go-spec : {M : Type 1} → statement M
+go-spec =
+    tie.close
+    (tie.spec
+    rtol-requires
+    atol-requires
+    sub-resume
+    part-resume-start
+    part-resume-end
+    sub-resume-2
+    part-resume-start-2
+    part-resume-end-2
+    resume-requires
+    settle-requires
+    same-length
+    same-length-2
+    same-length-3
+    same-length-4
+    returns)

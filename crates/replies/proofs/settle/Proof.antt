@@ -1,0 +1,57 @@
+-- `settle` meets its contract. Assumes nothing.
+use mathlib.Core.Path.{sym, _∙_}
+use Prim.Native.Nat.{_-_}
+use borrow.Author.Needs.{needs}
+use Rattle.replies.specs.Replies.{settledOf}
+use Rattle.replies.proofs.settle.Statement.{statement}
+use Rattle.replies.proofs.settle.Tie as tie
+
+is-unasked-requires : tie.Need-is-unasked-requires
+is-unasked-requires c κs = search needs
+
+answer-requires : tie.Need-answer-requires
+answer-requires c κs = search needs
+
+returns : tie.Need-returns
+unfolding settledOf
+returns c = rw (sym (c .before .before .is-unasked .ensures) ∙ c .before .if1 .taken, c .answer .ensures)
+
+encode-requires : tie.Need-encode-requires
+encode-requires c κs = search needs
+
+write-question-requires : tie.Need-write-question-requires
+write-question-requires c κs = search needs
+
+answer-requires-2 : tie.Need-answer-requires-2
+answer-requires-2 c κs = search needs
+
+same-length : tie.Need-same-length
+same-length c = search needs
+
+same-length-2 : tie.Need-same-length-2
+same-length-2 c = search needs
+
+returns-2 : tie.Need-returns-2
+unfolding settledOf
+returns-2 c =
+    let c6 = c .before .before .before .before .before .before in
+    rw (
+      sym (c6 .before .before .before .before .before .is-unasked .ensures) ∙ c6 .before .before .before .before .if1 .left,
+      c .answer2 .ensures,
+      c .before .before .before .write-question .ensures,
+      c6 .before .encode .ensures,
+    )
+
+pub settle-spec : {M : Type 1} → statement M
+settle-spec =
+    tie.close
+    (tie.spec
+    is-unasked-requires
+    answer-requires
+    returns
+    encode-requires
+    write-question-requires
+    answer-requires-2
+    same-length
+    same-length-2
+    returns-2)

@@ -1,0 +1,44 @@
+-- What an accepted start answers, and what every lent slice holds then.
+use mathlib.Core.List.{List}
+use Prim.Native.Nat.{ℕ, _*_}
+use lib.ListN.{length, set}
+use lib.Ieee.{Float}
+use Rattle.loops.specs.For.{for}
+use Rattle.loops.specs.Part.{putPart}
+use Rattle.numbers.specs.Float.{zeroF}
+use Rattle.common.specs.declared.Settings.{Settings}
+use Rattle.common.specs.declared.Common.{Common}
+use Rattle.history.specs.Columns.{fillOf}
+use Rattle.turns.specs.declared.Phase.the-variants as Phase
+use Rattle.turns.specs.declared.Question.the-variants as Question
+use Rattle.reports.specs.Reports.{initialOf}
+use Rattle.session.specs.Session.{encodeOf, putTolerancesOf}
+use Rattle.answers.specs.Answers.{answerOf}
+use Rattle.answers.specs.Called.{Buffers, Called}
+
+abbrev pub clearAt : ℕ → List ℕ → List ℕ
+clearAt i pivots = set pivots i 0
+
+unfoldable pub clearedOf : List ℕ → List ℕ
+clearedOf pivots = for 0 (length pivots) clearAt pivots
+
+-- the session of a start, with its tolerances
+unfoldable pub keptOf : Settings → Common → List Float → List Float → List ℕ → List ℕ
+keptOf s c rtol atol bytes =
+    putTolerancesOf rtol atol (encodeOf (record { settings = s; common = c; phase = Phase.FirstDerivative }) bytes)
+
+-- all 0 but for y
+abbrev pub laidOf : ℕ → List Float → List Float → List Float
+laidOf n y0 work = putPart (17 * n) (length y0) (fillOf (length work) 0 zeroF work) y0
+
+-- work and pivots are filled with 0 first, y is the start's, and its derivative is wanted
+unfoldable pub beganOf : Settings → Float → Float → List Float → List Float → List Float → Buffers → Called
+beganOf s x0 h y0 rtol atol b = record {
+  reply = answerOf (Question.Derivative (record { time = x0 }));
+  lent = record {
+    work = laidOf (s .n) y0 (b .work);
+    pivots = clearedOf (b .pivots);
+    session = keptOf s (initialOf s x0 h) rtol atol (b .session);
+    question = putPart 0 (length y0) (b .question) y0;
+  };
+}
