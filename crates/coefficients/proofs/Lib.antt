@@ -3,4 +3,3 @@ pub mod Test
 pub mod Product
 pub mod Published
 pub mod Setup
-pub mod Keys
