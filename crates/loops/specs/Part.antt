@@ -1,4 +1,5 @@
--- A part of a list, lent as `&l[a..a + n]` or `&mut l[a..a + n]`: `part a n l` is what is lent, and `putPart a n l s` the whole when the
+-- A part of a list, lent as `&l[a..a + n]` or `&mut l[a..a + n]`: `part a n l` is what is lent, and `putPart a n l s`
+-- the whole when the
 -- part is back as s. (They are the logic's `midOf` and `putMid`.)
 --     length-part, length-putPart, getD-part    sizes and elements
 --     getD-mid, set-mid     an element of the part, read and written in the whole

@@ -1,4 +1,5 @@
--- The stored sample: cases of five numbers, a kind, three arguments and the answer's pattern, and how many of them differ from ours.
+-- The stored sample: cases of five numbers, a kind, three arguments and the answer's pattern, and how many of them
+-- differ from ours.
 -- Kinds: 0 root, 1 square root, 2 elco, 3 tesco, 4 cm1, 5 cm2, and any other SM1.
 use mathlib.Core.Bool.{Bool, cond}
 use mathlib.Core.List.{List}

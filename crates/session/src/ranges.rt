@@ -27,7 +27,8 @@ fn run(u: &[usize; 34], low: &[usize; 34], high: &[usize; 34], a: usize, e: usiz
     true
 }
 
-// Whether each of all words is. Two runs, each short enough to be unrolled: the tables then become constants of the code.
+// Whether each of all words is. Two runs, each short enough to be unrolled: the tables then become constants of the
+// code.
 fn words(u: &[usize; 34]) -> bool
     ensures { λ r. ⌜ r ≡ every (wordInRange (now (u .entry))) 34 ⌝ }
 {

@@ -1,4 +1,5 @@
--- `probe_ewset_scalar_like` meets its contract: each way returns what `ewsetLikeLeft` says under the tests that led there.
+-- `probe_ewset_scalar_like` meets its contract: each way returns what `ewsetLikeLeft` says under the tests that led
+-- there.
 -- Assumes nothing.
 use mathlib.Core.Path.{sym, _∙_}
 use borrow.Author.Needs.{needs}

@@ -1,4 +1,5 @@
--- `probe_stoda_adjust_step_size` meets its contract: each way returns what `adjustLeft` says under the tests that led there.
+-- `probe_stoda_adjust_step_size` meets its contract: each way returns what `adjustLeft` says under the tests that led
+-- there.
 -- Assumes nothing.
 use mathlib.Core.Path.{sym, _∙_}
 use native.Mathlib.Omega.{arith}

@@ -1,4 +1,5 @@
--- `probe_stoda_first_call_init` meets its contract: each way returns what `initLeft` says under the tests that led there.
+-- `probe_stoda_first_call_init` meets its contract: each way returns what `initLeft` says under the tests that led
+-- there.
 -- Assumes nothing.
 use mathlib.Core.Path.{sym, _∙_}
 use native.Mathlib.Omega.{arith}

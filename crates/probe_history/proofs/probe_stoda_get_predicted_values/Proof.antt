@@ -1,4 +1,5 @@
--- `probe_stoda_get_predicted_values` meets its contract: each way returns what `predictedLeft` says under the tests that led there.
+-- `probe_stoda_get_predicted_values` meets its contract: each way returns what `predictedLeft` says under the tests
+-- that led there.
 -- Assumes nothing.
 use mathlib.Core.Path.{sym, _∙_}
 use native.Mathlib.Omega.{arith}
