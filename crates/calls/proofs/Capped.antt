@@ -10,6 +10,7 @@ use Prim.Native.Nat.{ℕ, _≤_}
 use native.Mathlib.Omega.{arith}
 use lib.Dec.{eqb}
 use lib.Ieee.{Float}
+use Rattle.loops.specs.Test.{both}
 use Rattle.common.specs.declared.Common.{Common}
 use Rattle.turns.specs.declared.Answer.{Answer}
 use Rattle.turns.specs.declared.Question.{Question}
@@ -18,7 +19,6 @@ use Rattle.turns.specs.declared.Status.{Status}
 use Rattle.turns.specs.declared.Status.the-variants as Status
 use Rattle.turns.specs.Turns.{Left}
 use Rattle.session.specs.Session.{decodeOf}
-use Rattle.session.proofs.Within.{both}
 use Rattle.rules.specs.Play.{Given, derivativeAt, jacobianAt, Ending, Play, ret, ask, tell, say}
 use Rattle.rules.specs.Play.{finished, stepRefused, weightRefused, exhausted}
 use Rattle.rules.specs.Rules.{Start}

@@ -8,11 +8,11 @@ use mathlib.Core.Path.{_≡_, refl, sym, ap, _∙_}
 use Prim.Native.Nat.{ℕ, suc}
 use native.Mathlib.Omega.{arith}
 use lib.ListN.{length}
+use Rattle.loops.specs.Test.{both}
 use Rattle.turns.specs.declared.Question.the-variants as Question
 use Rattle.turns.specs.Turns.{Left}
 use Rattle.refusals.specs.Start.{settingsOf}
 use Rattle.fields.specs.Fields.{Fit}
-use Rattle.session.proofs.Within.{both}
 use Rattle.rules.specs.Play.{Given, Play, ret, ask, tell, say}
 use Rattle.rules.specs.Rules.{Start}
 use Rattle.rules.specs.Steps.{Step, noted, marked}

@@ -10,6 +10,7 @@ use native.Mathlib.Omega.{arith}
 use lib.Ieee.{Float}
 use lib.ListN.{length, take, drop, length-append}
 use lib.Seq.{take-at, length-take-le}
+use Rattle.loops.specs.Test.{both}
 use Rattle.loops.specs.Part.{part, putPart, length-part}
 use Rattle.numbers.specs.Float.{zeroF}
 use Rattle.common.specs.declared.Common.{Common}
@@ -20,7 +21,6 @@ use Rattle.turns.specs.declared.Question.{Question}
 use Rattle.turns.specs.declared.Question.the-variants as Question
 use Rattle.turns.specs.Turns.{Left}
 use Rattle.fields.specs.Fields.{Fit}
-use Rattle.session.proofs.Within.{both}
 use Rattle.rules.specs.Play.{Given, Play}
 use Rattle.rules.specs.Rules.{Start}
 use Rattle.follows.specs.Seen.{Shown, snapshotOf, shownAs, isTaken, next, step}

@@ -12,12 +12,12 @@ use lib.Dec.{eqb, leb}
 use lib.Ieee.{Float}
 use lib.ListN.{length}
 use borrow.Author.Tests.{eqb-true, leb-true}
+use Rattle.loops.specs.Test.{both}
 use Rattle.turns.specs.declared.Question.{Question}
 use Rattle.turns.specs.declared.Status.{Status}
 use Rattle.turns.specs.declared.Status.the-variants as Status
 use Rattle.turns.specs.Turns.{Left}
 use Rattle.machine.specs.Resume.{isDerivative, isJacobian, isAnswer as isReply}
-use Rattle.session.proofs.Within.{both}
 use Rattle.rules.specs.Play.{Given, derivativeAt, jacobianAt, Play, ret, ask, tell, say}
 use Rattle.rules.specs.Play.{finished, stepRefused, weightRefused, exhausted}
 use Rattle.follows.specs.Seen.{asks}

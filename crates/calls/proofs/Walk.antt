@@ -14,6 +14,7 @@ use lib.Ieee.{Float}
 use lib.ListN.{length, take, drop, replicate, length-replicate}
 use lib.Seq.{take-at, drop-at, length-take-le}
 use borrow.Author.Tests.{eqb-true}
+use Rattle.loops.specs.Test.{both}
 use Rattle.loops.specs.Part.{part, putPart}
 use Rattle.numbers.specs.Float.{zeroF}
 use Rattle.turns.specs.declared.Kind.{Kind}
@@ -25,7 +26,6 @@ use Rattle.machine.specs.Resume.{isAsked}
 use Rattle.refusals.specs.Start.{settingsOf}
 use Rattle.fields.specs.Fields.{Fit}
 use Rattle.session.specs.Session.{encodeOf}
-use Rattle.session.proofs.Within.{both}
 use Rattle.rules.specs.Play.{Given, Play, ret, ask, tell, say}
 use Rattle.rules.specs.Rules.{Start, beginning, start}
 use Rattle.rules.specs.Steps.{Step}

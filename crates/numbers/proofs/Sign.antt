@@ -15,6 +15,7 @@ use lib.Ieee.Fits.{up-pos}
 use lib.Ieee.Bits.{toBits-lt}
 
 use borrow.Author.Tests.{lt-ltb, le-ltb, le-leb, lt-leb}
+use Rattle.loops.specs.Test.{differs}
 use Rattle.numbers.specs.Float.{zeroF, oneF}
 use Rattle.numbers.specs.Sign.{absOf, negative, signumOf, copysignOf}
 use Rattle.numbers.proofs.Unique.{round-own}
@@ -29,9 +30,6 @@ zero-exponent s (pos (suc k)) h =
 zero-exponent s (negsuc k) h =
     let q : 1 * 2 ^ suc k ≡ 1 = eqb→eq _ _ h in
     absurd (omega (arith, pow-suc 2 k))
-
-differs : {A : Type 0} → false ≡ true → A
-differs p = absurd (let z : _≡_ {A = ℕ} 0 1 = cc in omega arith)
 
 pub abs-positive : (x : Float) → Ieee.lt zeroF x ≡ true → absOf x ≡ x
 unfolding absOf Ieee.lt Ieee.ofBits

@@ -4,11 +4,8 @@ use mathlib.Core.Path.{_≡_, refl}
 use mathlib.Core.Bool.{Bool, true, false, _&&_}
 use lib.Dec.{leb}
 use borrow.Author.Tests.{leb-true}
+use Rattle.loops.specs.Test.{both}
 use Rattle.probe.specs.Probe.{isOrder}
-
-pub both : (a b : Bool) → (a && b) ≡ true → (a ≡ true) × (b ≡ true)
-both true b h = (refl, h)
-both false b h = (h, (cc))
 
 pub within : (order last : ℕ) → isOrder order last ≡ true → (1 ≤ order) × (order ≤ last)
 unfolding isOrder

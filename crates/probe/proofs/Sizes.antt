@@ -9,9 +9,9 @@ use lib.Dec.{eqb, leb}
 use lib.ListN.{length}
 use lib.Ieee.{Float}
 use borrow.Author.Tests.{leb-true, eqb-true}
+use Rattle.loops.specs.Test.{both}
 use Rattle.vectors.specs.Tolerance.{List1OrN}
 use Rattle.probe.specs.Leaves.{isMatrix, isList, isBehind, isWeighed, isSystem}
-use Rattle.probe.proofs.Order.{both}
 
 either : (a b : Bool) → (a || b) ≡ true → (a ≡ true) ⊎ (b ≡ true)
 either true b h = inl refl

@@ -8,12 +8,9 @@ use lib.Dec.{eqb, leb, ltb}
 use lib.ListN.{length, getD}
 use lib.Ieee.{Float}
 use borrow.Author.Tests.{leb-true, ltb-true, eqb-true}
+use Rattle.loops.specs.Test.{both}
 use Rattle.history.specs.Steps.{InRange}
 use Rattle.probe_history.specs.Lent.{settingsOf, commonOf, areColumns, inRange, areLimits, isTaken}
-
-both : (a b : Bool) → (a && b) ≡ true → (a ≡ true) × (b ≡ true)
-both true b h = (refl, h)
-both false b h = (h, (cc))
 
 pub columns-fit : (n nq nqnyh len : ℕ) → areColumns n nq nqnyh len ≡ true
     → (nq ≤ 12) × (nq * n ≤ nqnyh) × (nqnyh + n ≤ len)

@@ -9,6 +9,7 @@ use native.Mathlib.Omega.{arith}
 use borrow.Author.Tests.{eqb-true, eqb-false, ltb-true, ltb-false}
 use lib.Dec.{eqb, ltb}
 use lib.Ieee.{Float}
+use Rattle.loops.specs.Test.{differs}
 use Rattle.loops.specs.For.{for, times}
 use Rattle.numbers.specs.Float.{_⊖_, zeroF}
 use Rattle.numbers.specs.Sign.{signumOf, refused}
@@ -20,9 +21,6 @@ use Rattle.refusals.specs.Start.{isList, listsOf, sizesOf, largeOf, limi
 use Rattle.refusals.specs.Accepted.{Sizes, Limits, Started}
 
 -- ---- one condition
-
-differs : {X : Type 0} → true ≡ false → X
-differs p = absurd (let z : _≡_ {A = ℕ} 0 1 = ap (λ (b : Bool). cond b 0 1) p in omega arith)
 
 also-at : (r : Refusal) (e b : Bool) (k : ℕ) → eqb (r .number) 0 ≡ e → 1 ≤ k
     → cond e (cond b (plain k) r) r .number ≡ 0 → (r .number ≡ 0) × (b ≡ false)
@@ -44,7 +42,7 @@ else-none a b q = else-at a b (eqb (a .number) 0) refl q
 
 pub not-false : (b : Bool) → not b ≡ false → b ≡ true
 not-false true p = refl
-not-false false p = differs p
+not-false false p = differs (sym p)
 
 pub same : (a b : ℕ) → not (eqb a b) ≡ false → a ≡ b
 same a b p = eqb-true a b (not-false (eqb a b) p)
@@ -57,7 +55,7 @@ listed : (len n : ℕ) → not (isList len n) ≡ false → (len ≡ 1) ⊎ (len
 listed len n q = list-at len n (eqb len 1) refl q
 
 positive : (a : ℕ) → eqb a 0 ≡ false → 1 ≤ a
-positive zero p = differs p
+positive zero p = differs (sym p)
 positive (suc a) p = omega arith
 
 -- ---- lengths and settings

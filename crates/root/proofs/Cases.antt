@@ -12,10 +12,10 @@ use lib.Ieee.{Float, nan, inf, fin, binary64, up, down}
 use lib.Ieee.Fits.{up-pos}
 use lib.Ieee.Positive.{positive}
 use borrow.Author.Tests.{lt-ltb, ne-eqb, le-leb, lt-leb}
+use Rattle.loops.specs.Test.{differs}
 use Rattle.numbers.specs.Float.{lit, zeroF}
 use Rattle.root.specs.Root.{bitsOf, valueOf, rootOf}
 use Rattle.root.specs.Largest.{infinityBits}
-use Rattle.root.proofs.Laws.{differs}
 
 pub accepted : (x : Float) (k : ℕ) → 2 ≤ k → k ≤ 13 → rootOf x k ≡ record { value = valueOf x k }
 unfolding rootOf

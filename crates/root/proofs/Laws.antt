@@ -1,13 +1,10 @@
--- General laws: false is not true, and two loops keep what one turn of each keeps between their states.
+-- Two loops keep what one turn of each keeps between their states.
 -- Assumes nothing.
 use mathlib.Core.Path.{_≡_}
 use mathlib.Core.Bool.{true, false}
 use Prim.Native.Nat.{ℕ, zero, suc, _+_, _-_}
 use native.Mathlib.Omega.{arith}
 use Rattle.loops.specs.For.{for, times}
-
-pub differs : {A : Type 0} → false ≡ true → A
-differs p = absurd (let z : _≡_ {A = ℕ} 0 1 = cc in omega arith)
 
 module _ {S : Type 0} (R : S → S → Type 0) (f g : ℕ → S → S)
     (turn : (i : ℕ) (s t : S) → R s t → R (f i s) (g i t)) where

@@ -17,11 +17,12 @@ use lib.Ieee.{Float, nan, inf, fin, binary64, ofBits, toBits, fits, mul, le, lt}
 use lib.Ieee.Bits.{is-true, ofBits-toBits}
 use lib.Ieee.Positive.{positive}
 use borrow.Author.Tests.{not-true}
+use Rattle.loops.specs.Test.{differs}
 use Rattle.loops.specs.For.{times, stays}
 use Rattle.numbers.proofs.Bits.{past-infinity}
 use Rattle.root.specs.Root.{factor, powerOf, keepOf, turnOf, bitsOf, valueOf, rootOf}
 use Rattle.root.specs.Largest.{infinityBits, unsigned, productOf, Largest, LargestFloat}
-use Rattle.root.proofs.Laws.{differs, alike}
+use Rattle.root.proofs.Laws.{alike}
 use Rattle.root.proofs.Cases.{accepted}
 use Rattle.root.proofs.Unsigned.{zero-le, le-inf, infinity-above, le-trans, lt-is}
 use Rattle.root.proofs.Unsigned.{positive-unsigned, above-unsigned, mul-unsigned, mul-up}

@@ -18,8 +18,8 @@ use lib.Ieee.Bits.{is-true}
 use lib.Ieee.Order.{round-mono, kept, drop}
 use lib.Ieee.Positive.{positive, num, den, den-pos, through, le→cross}
 use borrow.Author.Tests.{leb-true, leb-false, le-leb, lt-ltb, le-ltb, eq-eqb, ne-eqb}
+use Rattle.loops.specs.Test.{differs}
 use Rattle.root.specs.Largest.{unsigned}
-use Rattle.root.proofs.Laws.{differs}
 
 -- ---- the order, as one comparison of numbers
 at-most : (a b : ℕ) → (ltb a b || (eqb a b && true)) ≡ leb a b

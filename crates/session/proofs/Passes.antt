@@ -16,6 +16,7 @@ use lib.ListN.{length, getD}
 use lib.Ieee as Ieee
 use lib.Ieee.{Float, nan, binary64, ofBits}
 use borrow.Author.Tests.{lt-ltb, le-leb}
+use Rattle.loops.specs.Test.{both}
 use Rattle.numbers.specs.Float.{zeroF}
 use Rattle.common.specs.declared.MethodFamily.{MethodFamily}
 use Rattle.common.specs.declared.MethodFamily.the-variants.{Adams, Bdf}
@@ -35,7 +36,7 @@ use Rattle.words.proofs.Rows.{same-default}
 use Rattle.session.proofs.Back.{slot-fits, slot-back, rtol-slot, atol-slot, encoded-other}
 use Rattle.session.proofs.Back.{counts-back, decode-encode}
 use Rattle.session.proofs.Every.{every-at, every-all}
-use Rattle.session.proofs.Within.{both, relates}
+use Rattle.session.proofs.Within.{relates}
 
 -- ---- what is in the ranges passes
 

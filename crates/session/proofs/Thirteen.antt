@@ -15,6 +15,7 @@ use lib.ListN.{length, getD, take}
 use lib.Seq.{length-take-le, ext-getD}
 use lib.Ieee.{Float}
 use borrow.Author.Tests.{ltb-true}
+use Rattle.loops.specs.Test.{both}
 use Rattle.vectors.specs.Tolerance.{List1OrN}
 use Rattle.turns.specs.Ranges.{Accepted, Counts, Orders, Ranges}
 use Rattle.turns.specs.Requires.{Resumes}
@@ -27,7 +28,7 @@ use Rattle.session.specs.Session.{tolerancesInRange}
 use Rattle.session.specs.Session.{pivotBelow, pivotsBelow, inRangeOf}
 use Rattle.words.proofs.Rows.{length-counts, length-floats}
 use Rattle.session.proofs.Every.{every-at}
-use Rattle.session.proofs.Within.{both, low, high, Related, words-pass, related}
+use Rattle.session.proofs.Within.{low, high, Related, words-pass, related}
 
 -- ---- what passes is in the ranges
 

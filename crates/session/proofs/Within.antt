@@ -12,6 +12,7 @@ use native.Mathlib.Omega.{arith}
 use lib.Dec.{eqb, ltb, leb, lit<}
 use lib.ListN.{getD}
 use borrow.Author.Tests.{ltb-true, leb-true, eqb-true, lt-ltb, le-leb, eq-eqb}
+use Rattle.loops.specs.Test.{both}
 use Rattle.common.specs.declared.Settings.{Settings}
 use Rattle.common.specs.declared.Common.{Common}
 use Rattle.common.specs.Limits.{mxncfOf}
@@ -19,10 +20,6 @@ use Rattle.fields.specs.Fields.{lowest, highest}
 use Rattle.session.specs.Session.{every, wordInRange, oneOrN, OneOrN}
 use Rattle.session.specs.Session.{listsInRange, ordersInRange, countersInRange, fieldsInRange}
 use Rattle.session.proofs.Every.{every-at}
-
-pub both : (a b : Bool) → a && b ≡ true → (a ≡ true) × (b ≡ true)
-both true b e = (refl, e)
-both false b e = (e, let z : _≡_ {A = Bool} false true = e in cc)
 
 either : (a b : Bool) → a || b ≡ true → (a ≡ true) ⊎ (b ≡ true)
 either true b e = inl refl

@@ -16,12 +16,10 @@ use lib.Ieee.{Float, nan, inf, fin, binary64, up, down, top, ofBits, toBits}
 use lib.Ieee.Fits.{up-pos}
 use lib.Ieee.Bits.{ofBits-toBits, toBits-lt}
 use borrow.Author.Tests.{ne-eqb, lt-ltb}
+use Rattle.loops.specs.Test.{differs}
 use Rattle.numbers.specs.Float.{zeroF}
 use Rattle.numbers.proofs.Bits.{past-infinity}
 use Rattle.sqrt.specs.Sqrt.{bitsOf, sqrtOf}
-
-differs : {A : Type 0} → false ≡ true → A
-differs p = absurd (let z : _≡_ {A = ℕ} 0 1 = cc in omega arith)
 
 -- a number that is not 0, as the tests see it: its size times the other denominator, which is 1
 size-pos : (m : ℕ) (e : ℤ) → 0 < suc m * up e * 1

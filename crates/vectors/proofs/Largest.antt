@@ -16,13 +16,14 @@ use lib.ListN.{length, getD}
 use lib.Ieee as Ieee
 use lib.Ieee.{Float, nan}
 use lib.Ieee.Compare.{differs-from-itself, nan-differs}
+use Rattle.loops.specs.Test.{differs}
 use Rattle.loops.specs.For.{for}
 use Rattle.numbers.specs.Float.{_⊗_, zeroF, uround}
 use Rattle.numbers.specs.Sign.{absOf}
 use Rattle.numbers.specs.Order.{maxOf}
 use Rattle.sqrt.proofs.Laws.{carries}
 use Rattle.vectors.specs.Norm.{vmnormOf, rowOf, fnormOf}
-use Rattle.vectors.proofs.Order.{Number, nan-or, differs, le-refl, le-of-lt, lt-number, le-trans, total}
+use Rattle.vectors.proofs.Order.{Number, nan-or, le-refl, le-of-lt, lt-number, le-trans, total}
 
 -- x is a NaN, or at most y
 abbrev pub NanOrLe : Float → Float → Type 0

@@ -17,6 +17,7 @@ use lib.ListN.{length, getD, set, length-set}
 use lib.Seq.{getD-set-same, getD-set-other}
 use lib.Ieee as Ieee
 use lib.Ieee.{Float, nan}
+use Rattle.loops.specs.Test.{differs}
 use Rattle.loops.specs.For.{for, keeps}
 use Rattle.loops.specs.Part.{part, length-part, getD-part}
 use Rattle.numbers.specs.Float.{_⊕_, _⊗_, _⊘_, zeroF, oneF, uround}
@@ -25,7 +26,6 @@ use Rattle.numbers.specs.Order.{maxOf}
 use Rattle.sqrt.proofs.Laws.{carries}
 use Rattle.vectors.specs.Tolerance.{List1OrN, toleranceOf}
 use Rattle.vectors.specs.Weights.{ewsetOf, ewsetLikeOf, Inversion, invertAt, invertOf}
-use Rattle.vectors.proofs.Order.{differs}
 use Rattle.vectors.proofs.Largest.{max-above}
 
 pub serves : (list : List Float) (i j : ℕ) → j ≤ i → List1OrN list i → List1OrN list j

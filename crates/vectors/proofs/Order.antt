@@ -17,9 +17,7 @@ use lib.Ieee.Fits.{down-pos}
 use lib.Ieee.Compare.{differs-from-itself}
 use borrow.Author.Tests.{leb-true, leb-false, le-leb, lt-leb, lt-ltb, le-ltb, ltb-false}
 use borrow.Author.Tests.{eq-eqb, ne-eqb, eqb-true, eqb-false, not-false}
-
-pub differs : {A : Type 0} → false ≡ true → A
-differs p = absurd (let z : _≡_ {A = ℕ} 0 1 = cc in omega arith)
+use Rattle.loops.specs.Test.{differs}
 
 -- ---- finite floats: ±a is at most ±b where one sum of magnitudes is at most another
 abbrev plus : Bool → ℕ → ℕ

@@ -12,7 +12,7 @@ use lib.Dec.{eqb, leb}
 use lib.Ieee as Ieee
 use lib.Ieee.{Float}
 use Rattle.numbers.specs.Float.{_⊗_, oneF, uround, d2, d100}
-use Rattle.vectors.proofs.Order.{differs}
+use Rattle.loops.specs.Test.{differs}
 use Rattle.common.specs.declared.MethodFamily.{MethodFamily}
 use Rattle.common.specs.declared.MethodFamily.the-variants.{Adams, Bdf}
 use Rattle.common.specs.declared.Settings.{Settings}
