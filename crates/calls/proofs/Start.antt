@@ -34,7 +34,7 @@ use Rattle.session.specs.Session.{encodeOf, decodeOf, putTolerancesOf, OneOrN}
 use Rattle.session.specs.Session.{fieldsInRange, tolerancesInRange, pivotsBelow, inRangeOf}
 use Rattle.session.proofs.Back.{length-encode, encoded-count, finished-encode, decode-encode, counts-back}
 use Rattle.session.proofs.Back.{length-put-tolerances, put-other, counts-put, decode-put, rtol-put, atol-put}
-use Rattle.session.proofs.Passes.{counts-fit, fields-in-range, pivots-in-range, tolerances-put}
+use Rattle.session.proofs.Passes.{assembled, counts-fit, fields-in-range, pivots-in-range, tolerances-put}
 use Rattle.rules.specs.Play.{Given}
 use Rattle.rules.specs.Rules.{Start, beginning}
 use Rattle.follows.specs.Seen.{sessionOf, after}
@@ -198,13 +198,6 @@ module _ (p : Problem) (b : Buffers) (begins : Begins p b) where
       tolerances-put (p .rtol) (p .atol) (encodeOf first (b .session)) (rw length-encode room) (given .s) refl refl
       (short (p .rtol) r) (short (p .atol) a) (f .rtol) (f .atol)
       (signs-of (p .rtol) r (given-is .relative)) (signs-of (p .atol) a (given-is .absolute))
-
-  -- the test of 13, of its parts
-  assembled : (t ipiv : List ℕ) (x : Session) (u : List ℕ) → decodeOf t ≡ x → countsIn t ≡ u
-      → fieldsInRange u (x .settings) (x .common) ≡ true → tolerancesInRange t (x .settings) ≡ true
-      → pivotsBelow ipiv (x .settings .n) ≡ true → inRangeOf t ipiv ≡ true
-  unfolding inRangeOf
-  assembled t ipiv x u d w f l q = rw (d, w, f, l) q
 
   decoded : decodeOf begunBytes ≡ first
   decoded =

@@ -33,6 +33,7 @@ use Rattle.turns.specs.Turns.{Kept, askedOf, finishedOf as endedOf, withDerivat
 use Rattle.passes.specs.Pass.{factoredOf}
 use Rattle.passes.specs.Pass.{openedAt, openedOf}
 use Rattle.passes.specs.Pass.{jacobianOf, columnAt, columnOf, furtherOf, restepOf}
+use Rattle.passes.proofs.Inside.{lent-length, lent-factored}
 use Rattle.reports.specs.Reports.{firstDerivativeOf, takenOf as storedOf}
 use Rattle.reports.specs.Reports.{firstReportOf, firstModifiedOf, afterReportOf, restartOf, modifiedOf}
 use Rattle.machine.specs.Resume.{With, isDerivative, isAnswer, isAsked, unasked, firstAnsweredOf, answeredOf, takenOf}
@@ -40,7 +41,7 @@ use Rattle.machine.specs.Resume.{resumeOf}
 use Rattle.follows.proofs.Ranges.{coreOf, Within, within-factored, within-column}
 use Rattle.follows.proofs.Ranges.{within-restep}
 use Rattle.follows.proofs.Ranges.{within-restart}
-use Rattle.follows.proofs.Session.{Fine, FineLeft, lent-length, Stays, open-fine, go-on-fine, iterations-fine}
+use Rattle.follows.proofs.Session.{Fine, FineLeft, Stays, open-fine, go-on-fine, iterations-fine}
 use Rattle.follows.proofs.Session.{iterate-fine, factored-at-fine, ask-column-fine, begin-fine, weighted-fine}
 use Rattle.follows.proofs.Session.{lent-inverted}
 
@@ -123,21 +124,12 @@ module _ (s : Settings) (acc : Accepted s) where
 
   -- ---- replies that change the pivots
 
-  lent-factored : (c : Common) (work : List Float) (ipiv : List ℕ) → Lent (s .n) work ipiv
-      → Lent (s .n) (finishedOf s c work ipiv .work) (finishedOf s c work ipiv .ipiv)
-  lent-factored c work ipiv l =
-      record {
-        sized = length-finished s c work ipiv (omega (arith, l .sized)) ∙ l .sized;
-        pivots = length-finished-ipiv s c work ipiv ∙ l .pivots;
-        below = finished-below s c work ipiv (l .below);
-      }
-
   module _ (rtol atol : List Float) where
     factored-fine : (c : Common) (ipiv : List ℕ) (work : List Float) → Within s 1 (coreOf c)
         → Lent (s .n) work ipiv → FineLeft s (factoredOf s c rtol atol ipiv work)
     unfolding factoredOf
     factored-fine c ipiv work p l =
-        factored-at-fine s acc _ rtol atol _ _ _ (within-factored s acc c p work ipiv) (lent-factored c work ipiv l)
+        factored-at-fine s acc _ rtol atol _ _ _ (within-factored s acc c p work ipiv) (lent-factored s c work ipiv l)
 
     jacobian-fine : (f : List Float) (c : Common) (ipiv : List ℕ) (work : List Float) → Within s 1 (coreOf c)
         → Lent (s .n) work ipiv → FineLeft s (jacobianOf s c rtol atol f ipiv work)

@@ -38,6 +38,7 @@ use Rattle.turns.specs.declared.Answer.the-variants.{Modified}
 use Rattle.turns.specs.declared.Phase.{Phase}
 use Rattle.turns.specs.declared.Phase.the-variants as Phase
 use Rattle.turns.specs.Ranges.{Accepted, Lent}
+use Rattle.passes.proofs.Inside.{lent-length}
 use Rattle.turns.specs.Requires.{UnlessFinished}
 use Rattle.turns.specs.Turns.{Kept, Left, askedInStepOf, finishedOf as endedOf}
 use Rattle.turns.specs.Begin.{cutOf, preparedAt, preparedOf, isCut, openPassOf, predictedAt, beganOf}
@@ -72,11 +73,6 @@ Fine s phase c work ipiv =
 
 abbrev pub FineLeft : Settings → Left → Type 0
 FineLeft s l = Fine s (l .turn .phase) (l .turn .common) (l .work) (l .ipiv)
-
--- another work of the same length
-pub lent-length : {n : ℕ} {work : List Float} {ipiv : List ℕ} (w : List Float) → length w ≡ length work
-    → Lent n work ipiv → Lent n w ipiv
-lent-length w e p = record { sized = e ∙ p .sized; pivots = p .pivots; below = p .below }
 
 module _ (s : Settings) (acc : Accepted s) where
   module _ (ipiv : List ℕ) where

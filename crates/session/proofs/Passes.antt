@@ -151,7 +151,7 @@ module _ (x : Session) (fits : Fits x) (r : Ranges (x .settings) (x .common)) wh
       })
 
 -- the test on a record, of its parts
-assembled : (t ipiv : List ℕ) (x : Session) (u : List ℕ) → decodeOf t ≡ x → countsIn t ≡ u
+pub assembled : (t ipiv : List ℕ) (x : Session) (u : List ℕ) → decodeOf t ≡ x → countsIn t ≡ u
     → fieldsInRange u (x .settings) (x .common) ≡ true → tolerancesInRange t (x .settings) ≡ true
     → pivotsBelow ipiv (x .settings .n) ≡ true → inRangeOf t ipiv ≡ true
 unfolding inRangeOf
