@@ -2,6 +2,7 @@
 
 import bisect
 
+from . import answer
 from . import run as calls
 from .library import LIBRARY
 
@@ -54,6 +55,10 @@ class Result(dict):
     end         the library's name of the end; number is its number
     nfev, njev, nlu, accepted, rejected, steps_total, h   the library's counts and last step size
     counts      derivatives requested in each accepted step; cap: what no step can exceed
+
+    Where the tolerances were asked of the answer, nfev, njev and nlu are those of all the runs made, and there are
+    runs        how many; the last had its tolerances divided by cut
+    error       the largest difference between the last two, in the tolerances asked: at most 1 where success is true
     """
 
     __getattr__ = dict.__getitem__
@@ -97,9 +102,12 @@ def solve_ivp(
     msbp=20,
     mxncf=10,
     report=None,
+    tolerances="step",
 ):
     """Solves y' = fun(t, y) over t_span, in the manner of scipy.integrate.solve_ivp(method="LSODA").
 
+    rtol and atol bound the error of each step, as scipy's do; over a run errors add up. With tolerances="answer" they are asked of the
+    poses handed out: the run is made again with tighter ones until it repeats itself within those asked (no report is called then).
     jac(t, y) gives the Jacobian as rows, jac[i][j] = df_i/dy_j; without it the Jacobian is taken by differences.
     report(previous, t, y, count) is called after each accepted step; True interrupts the run.
     Bad input raises Refused with the library's number, and what a callback raises ends the run.
@@ -118,6 +126,11 @@ def solve_ivp(
         if any(not min(t0, tend) <= t <= max(t0, tend) for t in t_eval):
             raise ValueError("a time in t_eval is not within t_span")
 
+    if tolerances not in ("step", "answer"):
+        raise ValueError('tolerances are those of a "step" or of the "answer"')
+    if tolerances == "answer" and report is not None:
+        raise ValueError("a report goes with the tolerances of a step: those of the answer take several runs")
+
     options = LIBRARY.raimsklo_defaults()
     options.max_steps, options.mxordn, options.mxords = max_steps, mxordn, mxords
     options.maxcor, options.msbp, options.mxncf = maxcor, msbp, mxncf
@@ -127,43 +140,55 @@ def solve_ivp(
             setattr(options, "has_" + name, 1)
             setattr(options, name, value)
 
+    rtol, atol = _list(rtol), _list(atol)
+    if tolerances == "step":
+        return _solve(fun, jac, t0, tend, y0, rtol, atol, options, t_eval, dense_output, report)
+    result = answer.within(lambda r, a: _solve(fun, jac, t0, tend, y0, r, a, options, t_eval, True, None), rtol, atol)
+    if not dense_output:
+        result.sol = None
+    return result
+
+
+def _solve(fun, jac, t0, tend, y0, rtol, atol, options, t_eval, dense_output, report):
+    """One run."""
+    n = len(y0)
     sol = DenseOutput(n, t0, y0)
     times, poses, counts = [t0], [y0], []
-    if n == 0 or (t0 == tend and first_step is None):
+    if n == 0 or (t0 == tend and not options.has_first_step):
         # the library refuses a computed first step of an interval without length (11): there is nothing to do
         return _result(None, sol, times, poses, counts, t_eval, dense_output, options, n)
 
-    run = calls.Run(t0, tend, y0, _list(rtol), _list(atol), options)
+    run = calls.Run(t0, tend, y0, rtol, atol, options)
     while not run.ended:
-        answer, y = run.answer, run.y
-        if answer.number == calls.DERIVATIVE_WANTED:
-            run.reply(calls.DERIVATIVE, _list(fun(answer.time, _state(y))))
-        elif answer.number == calls.JACOBIAN_WANTED:
-            rows = [_list(row) for row in _list(jac(answer.time, _state(y)))]
+        asked, y = run.answer, run.y
+        if asked.number == calls.DERIVATIVE_WANTED:
+            run.reply(calls.DERIVATIVE, _list(fun(asked.time, _state(y))))
+        elif asked.number == calls.JACOBIAN_WANTED:
+            rows = [_list(row) for row in _list(jac(asked.time, _state(y)))]
             if len(rows) != n or any(len(row) != n for row in rows):
                 raise ValueError(f"jac must give {n} rows of {n} numbers")
             run.reply(calls.JACOBIAN, [rows[i][j] for j in range(n) for i in range(n)])
         else:
             kind = calls.CONTINUE
-            if answer.number == calls.REPORT:
-                sol._add(answer.previous, answer.time, run.snapshot)
-                times.append(answer.time)
+            if asked.number == calls.REPORT:
+                sol._add(asked.previous, asked.time, run.snapshot)
+                times.append(asked.time)
                 poses.append(y)
-                counts.append(answer.count)
-                if report is not None and report(answer.previous, answer.time, _state(y), answer.count):
+                counts.append(asked.count)
+                if report is not None and report(asked.previous, asked.time, _state(y), asked.count):
                     kind = calls.INTERRUPT
-            run.reply(kind, y, answer.time)
+            run.reply(kind, y, asked.time)
     return _result(run.answer, sol, times, poses, counts, t_eval, dense_output, options, n)
 
 
-def _result(answer, sol, times, poses, counts, t_eval, dense_output, options, n):
+def _result(ended, sol, times, poses, counts, t_eval, dense_output, options, n):
     if t_eval is not None:
         # where the run ended early, poses beyond its last accepted step do not exist
         low, high = min(times[0], times[-1]), max(times[0], times[-1])
         times = [t for t in t_eval if low <= t <= high]
         poses = [sol._at(t) for t in times]
-    number = 110 if answer is None else answer.number
-    count = lambda name: 0 if answer is None else getattr(answer, name)  # noqa: E731
+    number = 110 if ended is None else ended.number
+    count = lambda name: 0 if ended is None else getattr(ended, name)  # noqa: E731
     return Result(
         t=_array(times),
         y=_columns(poses, n),

@@ -82,6 +82,48 @@ class Solves(unittest.TestCase):
         self.assertAlmostEqual(result.y[0][-1], math.exp(-2), delta=1e-5)
 
 
+class Answers(unittest.TestCase):
+    """Tolerances asked of the answer."""
+
+    def test_within(self):
+        for asked in (1e-3, 1e-4, 1e-5):
+            one = solve_ivp(swing, (0, 10), [1, 0], rtol=0.0, atol=asked)
+            result = solve_ivp(swing, (0, 10), [1, 0], rtol=0.0, atol=asked, tolerances="answer")
+            self.assertTrue(result.success)
+            self.assertLessEqual(result.error, 1.0)
+            self.assertGreater(max(abs(y - math.cos(t)) for t, y in zip(one.t, one.y[0])), asked)
+            self.assertLessEqual(max(abs(y - math.cos(t)) for t, y in zip(result.t, result.y[0])), asked)
+            self.assertGreater(result.nfev, one.nfev)
+            # the run handed out is the one with the tolerances that the result names
+            again = solve_ivp(swing, (0, 10), [1, 0], rtol=0.0, atol=asked / result.cut)
+            self.assertEqual([list(row) for row in result.y], [list(row) for row in again.y])
+
+    def test_times_asked_for(self):
+        result = solve_ivp(
+            swing, (0, 10), [1, 0], t_eval=[2, 7], dense_output=True, rtol=0.0, atol=1e-4, tolerances="answer"
+        )
+        self.assertEqual(list(result.t), [2.0, 7.0])
+        for t, y in zip(result.t, result.y[0]):
+            self.assertAlmostEqual(y, math.cos(t), delta=1e-4)
+        self.assertAlmostEqual(result.sol(5.0)[0], math.cos(5.0), delta=1e-3)
+
+    def test_no_pose_where_they_are_not_met(self):
+        result = solve_ivp(swing, (0, 10), [1, 0], rtol=0.0, atol=1e-6, tolerances="answer", max_steps=2000, dense_output=True)
+        self.assertEqual((result.success, result.status, result.end), (False, -1, "needs more steps"))
+        self.assertEqual((len(result.t), [len(row) for row in result.y], result.sol), (0, [0, 0], None))
+        self.assertGreater(result.error, 1.0)
+        wild = solve_ivp(lambda t, y: [float("nan")], (0, 1), [0.0], tolerances="answer", first_step=0.5)
+        self.assertEqual((wild.success, len(wild.t), wild.runs), (False, 0, 16))
+
+    def test_arguments(self):
+        with self.assertRaises(ValueError):
+            solve_ivp(swing, (0, 1), [1, 0], tolerances="both")
+        with self.assertRaises(ValueError):
+            solve_ivp(swing, (0, 1), [1, 0], tolerances="answer", report=lambda *given: False)
+        with self.assertRaises(Refused):
+            solve_ivp(swing, (0, 1), [1, 0], rtol=-1.0, tolerances="answer")
+
+
 class Ends(unittest.TestCase):
     def test_needs_more_steps(self):
         result = solve_ivp(swing, (0, 10), [1, 0], max_steps=3)
