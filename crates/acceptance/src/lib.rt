@@ -59,20 +59,21 @@ fn test_family(s: Settings, c: Common, dsm: f64, work: &mut [f64]) -> Chosen
     ensures { λ r. ⌜ _≡_ {A = Settled} (record { branch = r .branch; common = r .common; work = now (work .exit) })
         (testFamilyOf s c dsm (now (work .entry))) ⌝ }
 {
+    let mut change = Change::Stay;
     if c.icount < 1000000 {
-        return match family::compare_families(s, c, dsm, work) {
-            Change::Stay => keep_family(s, c, dsm, work),
-            Change::Gap => Chosen {
-                branch: Branch::CoefficientGap,
-                common: c,
-            },
-            Change::To(to) => Chosen {
-                branch: Branch::FamilyChanged,
-                common: family::change_family(s, c, to, work),
-            },
-        };
+        change = family::compare_families(s, c, dsm, work);
     }
-    keep_family(s, c, dsm, work)
+    match change {
+        Change::Stay => keep_family(s, c, dsm, work),
+        Change::Gap => Chosen {
+            branch: Branch::CoefficientGap,
+            common: c,
+        },
+        Change::To(to) => Chosen {
+            branch: Branch::FamilyChanged,
+            common: family::change_family(s, c, to, work),
+        },
+    }
 }
 
 // The step is accepted with the error dsm.

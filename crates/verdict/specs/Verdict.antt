@@ -25,6 +25,10 @@ rmOf c del = cond (Ieee.le del (d1024 ⊗ c .delp)) (del ⊘ c .delp) d1024
 unfoldable pub ratedOf : Common → Float → Common
 ratedOf c del = with-rate (maxOf (c .rate) (rmOf c del)) (with-convrate (maxOf (d0·2 ⊗ c .convrate) (rmOf c del)) c)
 
+-- in the first iteration nothing new is known
+unfoldable pub knownRateOf : Common → Float → Common
+knownRateOf c del = cond (eqb (c .m) 0) c (ratedOf c del)
+
 -- del·min(1.5, convrate) / (tesco·conit)
 unfoldable pub dconOf : Common → Float → Float
 dconOf c del = del ⊗ minOf d1·5 (c .convrate) ⊘ (tescoOf (c .table) (c .nq) 1 ⊗ c .conit)

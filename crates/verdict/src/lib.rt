@@ -2,7 +2,7 @@
 ghost use mathlib.Core.Path.{_≡_};
 ghost use Prim.Native.Nat.{_≤_, _<_};
 ghost use Rattle.history.specs.Steps.{InRange};
-ghost use Rattle.verdict.specs.Verdict.{ratedOf, dconOf, estimatedOf, furtherOf, giveUpOf, convergedOf};
+ghost use Rattle.verdict.specs.Verdict.{ratedOf, knownRateOf, dconOf, estimatedOf, furtherOf, giveUpOf, convergedOf};
 ghost use Rattle.verdict.specs.Verdict.{testedOf, judgeOf};
 use common::Common;
 use common::Settings;
@@ -38,6 +38,16 @@ fn rated(c: Common, del: f64) -> Common
     d.rate = numbers::max(c.rate, rm);
     d.convrate = numbers::max(0.2 * c.convrate, rm);
     d
+}
+
+// The record with what is known of the rate: in the first iteration nothing new.
+fn known_rate(c: Common, del: f64) -> Common
+    ensures { λ r. ⌜ r ≡ knownRateOf c del ⌝ }
+{
+    if c.m == 0 {
+        return c;
+    }
+    rated(c, del)
 }
 
 // The size of the correction against what the error test allows.
@@ -136,10 +146,9 @@ pub fn judge(s: Settings, c: Common, x: Correction, pnorm: f64) -> Verdict
     }
     if c.m == 0 {
         let meth = c.meth;
-        if common::is_bdf(meth) {
-            return tested(s, c, del);
+        if !common::is_bdf(meth) {
+            return further(s, c, del);
         }
-        return further(s, c, del);
     }
-    tested(s, rated(c, del), del)
+    tested(s, known_rate(c, del), del)
 }

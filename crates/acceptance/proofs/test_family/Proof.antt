@@ -1,13 +1,70 @@
 -- `test_family` meets its contract: each outcome of the test has its own way.
 -- Assumes nothing.
-use mathlib.Core.Path.{ap}
+use mathlib.Core.Path.{_≡_, refl, ap, _∙_}
+use mathlib.Core.Bool.{Bool, true, false, cond}
+use mathlib.Core.List.{List}
+use mathlib.Core.Logic.{⊎-elim}
+use Prim.Native.Nat.{ℕ}
 use native.Mathlib.Omega.{arith}
+use lib.Dec.{ltb}
+use lib.Ieee.{Float}
 use borrow.Author.Needs.{needs}
 use borrow.Author.Tests.{lt-ltb, le-ltb}
-use Rattle.acceptance.specs.Accept.{changedFamily, testFamilyOf, testedOf}
+use Rattle.common.specs.declared.Settings.{Settings}
+use Rattle.common.specs.declared.Common.{Common}
+use Rattle.family.specs.declared.Change.{Change}
+use Rattle.family.specs.declared.Change.the-variants.{Stay}
+use Rattle.family.specs.Family.{changeOf}
+use Rattle.acceptance.specs.Accept.{changedFamily, testFamilyOf, testedOf, keepFamilyOf}
 use Rattle.family.proofs.Ranges.{orderWithin, change-within}
 use Rattle.acceptance.proofs.test_family.Statement.{statement}
 use Rattle.acceptance.proofs.test_family.Tie as tie
+
+-- what the test says; not made, it is as one that says to stay
+said : (j : tie.Joined1) → Change
+said j =
+    let a = j .before .before .before .args in
+    cond (ltb (a .c .icount) 1000000) (changeOf (a .s) (a .c) (a .dsm) (a .work .now)) Stay
+
+change : (j : tie.Joined1) → j .if1 .change ≡ said j
+unfolding said
+change j =
+    ⊎-elim
+    (λ w. w .3 ∙ rw (lt-ltb _ _ (w .0 .taken)) (w .2 .ensures))
+    (λ w. w .1 ∙ rw (le-ltb _ _ (w .0 .left)))
+    (j .if1 .came)
+
+-- a change goes to an order from 1 to the one in force, and so does what the test says
+or-stay : (q : ℕ) (t : Bool) (x : Change) → orderWithin q x → orderWithin q (cond t x Stay)
+unfolding orderWithin
+or-stay q true x p = p
+or-stay q false x p = omega arith
+
+within : (j : tie.Joined1) → orderWithin (j .before .before .before .args .c .nq) (said j)
+unfolding said
+within j =
+    let a = j .before .before .before in
+    let m = a .pre .1 .0 in
+    let x = a .args in
+    or-stay (x .c .nq) (ltb (x .c .icount) 1000000) _
+    (change-within (x .s) (x .c) (x .dsm) (x .work .now) (a .pre .0 .order .0) (m .0) (m .1))
+
+-- each outcome has its way
+way : (s : Settings) (c : Common) (dsm : Float) (work : List Float) (t : Bool) (x : Change)
+    → testedOf s c dsm work (cond t x Stay) ≡ cond t (testedOf s c dsm work x) (keepFamilyOf s c dsm work)
+unfolding testedOf
+way s c dsm work true x = refl
+way s c dsm work false x = refl
+
+tested : (j : tie.Joined1)
+    → testedOf (j .before .before .before .args .s) (j .before .before .before .args .c)
+        (j .before .before .before .args .dsm) (j .before .before .before .args .work .now) (j .if1 .change)
+    ≡ testFamilyOf (j .before .before .before .args .s) (j .before .before .before .args .c)
+        (j .before .before .before .args .dsm) (j .before .before .before .args .work .now)
+unfolding testFamilyOf said
+tested j =
+    let a = j .before .before .before .args in
+    rw (change j) (way (a .s) (a .c) (a .dsm) (a .work .now) (ltb (a .c .icount) 1000000) _)
 
 compare-families-requires : tie.Need-compare-families-requires
 compare-families-requires c κs = search needs
@@ -21,60 +78,37 @@ keep-family-requires c κs = search needs
 enum-told-2 : tie.Need-enum-told-2
 enum-told-2 c = search needs
 
-enum-known-to : tie.Need-enum-known-to
-enum-known-to c = search needs
+enum-known-change : tie.Need-enum-known-change
+enum-known-change c = search needs
 
 change-family-requires : tie.Need-change-family-requires
 unfolding orderWithin
 change-family-requires c κs =
-    let k = c .before .before .before .before in
-    let a = c .before .before .before .before .before .before .before .before .before in
-    let m = a .pre .1 .0 in
-    let x = a .args in
-    let h = change-within (x .s) (x .c) (x .dsm) (x .work .now) (a .pre .0 .order .0) (m .0) (m .1) in
-    let q = rw (← k .compare-families .ensures, c .before .before .to .given .1) at h in
-    (a .pre .0, (q .0, q .1, omega arith))
+    let j = c .before .before .before .before in
+    let q = rw (← change j, c .before .before .change .given .1) at (within j) in
+    (j .before .before .before .pre .0, (q .0, q .1, omega arith))
 
 same-length : tie.Need-same-length
 same-length c = search needs
 
 returns : tie.Need-returns
-unfolding testFamilyOf testedOf
+unfolding testedOf
 returns c =
     let e = c .before .before .before .before in
-    let k = e .before .before in
-    rw (lt-ltb _ _ (k .before .before .if1 .taken), ← k .compare-families .ensures, e .enum-told .given .1)
-    (c .before .before .keep-family .ensures)
+    rw (← tested (e .before .before), e .enum-told .given .1) (c .before .before .keep-family .ensures)
+
+returns-2 : tie.Need-returns-2
+unfolding testedOf
+returns-2 c = rw (← tested (c .before .before), c .enum-told2 .given .1)
 
 same-length-2 : tie.Need-same-length-2
 same-length-2 c = search needs
 
-returns-2 : tie.Need-returns-2
-unfolding testFamilyOf testedOf
-returns-2 c =
-    let k = c .before .before in
-    rw (lt-ltb _ _ (k .before .before .if1 .taken), ← k .compare-families .ensures, c .enum-told2 .given .1)
-
-same-length-3 : tie.Need-same-length-3
-same-length-3 c = search needs
-
 returns-3 : tie.Need-returns-3
-unfolding testFamilyOf testedOf
+unfolding testedOf
 returns-3 c =
     let e = c .before .before .before .before .before in
-    let k = e .before .before in
-    rw (lt-ltb _ _ (k .before .before .if1 .taken), ← k .compare-families .ensures, e .to .given .1)
-    (ap changedFamily (c .before .before .change-family .ensures))
-
-keep-family-requires-2 : tie.Need-keep-family-requires-2
-keep-family-requires-2 c κs = search needs
-
-same-length-4 : tie.Need-same-length-4
-same-length-4 c = search needs
-
-returns-4 : tie.Need-returns-4
-unfolding testFamilyOf
-returns-4 c = rw (le-ltb _ _ (c .before .before .before .before .if1 .left)) (c .before .before .keep-family2 .ensures)
+    rw (← tested (e .before .before), e .change .given .1) (ap changedFamily (c .before .before .change-family .ensures))
 
 pub test-family-spec : {M : Type 1} → statement M
 test-family-spec =
@@ -84,14 +118,10 @@ test-family-spec =
     enum-told
     keep-family-requires
     enum-told-2
-    enum-known-to
+    enum-known-change
     change-family-requires
     same-length
     returns
-    same-length-2
     returns-2
-    same-length-3
-    returns-3
-    keep-family-requires-2
-    same-length-4
-    returns-4)
+    same-length-2
+    returns-3)

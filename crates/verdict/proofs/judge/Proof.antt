@@ -1,10 +1,11 @@
 -- `judge` meets its contract: each way returns what `judgeOf` picks under the tests that led there.
 -- Assumes nothing.
 use mathlib.Core.Path.{sym, _∙_}
+use mathlib.Core.Logic.{⊎-elim}
 use borrow.Author.Needs.{needs}
 use borrow.Author.Tests.{not-true, not-false, eq-eqb, ne-eqb}
-use Rattle.verdict.specs.Verdict.{ratedOf, judgeOf}
-use Rattle.verdict.proofs.Shared.{in-range-rated}
+use Rattle.verdict.specs.Verdict.{knownRateOf, judgeOf}
+use Rattle.verdict.proofs.Shared.{in-range-known}
 use Rattle.verdict.proofs.judge.Statement.{statement}
 use Rattle.verdict.proofs.judge.Tie as tie
 
@@ -29,8 +30,8 @@ returns-2 c =
 is-bdf-requires : tie.Need-is-bdf-requires
 is-bdf-requires c κs = search needs
 
-tested-requires : tie.Need-tested-requires
-tested-requires c κs = search needs
+further-requires : tie.Need-further-requires
+further-requires c κs = search needs
 
 returns-3 : tie.Need-returns-3
 unfolding judgeOf
@@ -38,37 +39,29 @@ returns-3 c =
     let first = c .before .before .before in
     let far = first .before .before in
     let solved = not-false (far .before .before .args .x .solved) (far .before .if1 .left) in
-    let family = sym (c .before .before .is-bdf .ensures) ∙ c .before .if4 .taken in
-    rw (solved, far .if2 .left, eq-eqb _ _ (first .if3 .taken), family) (c .tested .ensures)
-
-further-requires : tie.Need-further-requires
-further-requires c κs = search needs
-
-returns-4 : tie.Need-returns-4
-unfolding judgeOf
-returns-4 c =
-    let first = c .before .before .before in
-    let far = first .before .before in
-    let solved = not-false (far .before .before .args .x .solved) (far .before .if1 .left) in
-    let family = sym (c .before .before .is-bdf .ensures) ∙ c .before .if4 .left in
+    let family = sym (c .before .before .is-bdf .ensures) ∙ not-true _ (c .before .if4 .taken) in
     rw (solved, far .if2 .left, eq-eqb _ _ (first .if3 .taken), family) (c .further .ensures)
 
-rated-requires : tie.Need-rated-requires
-rated-requires c κs = search needs
+known-rate-requires : tie.Need-known-rate-requires
+known-rate-requires c κs = search needs
 
-tested-requires-2 : tie.Need-tested-requires-2
-unfolding ratedOf
-tested-requires-2 c κs =
+tested-requires : tie.Need-tested-requires
+tested-requires c κs =
     let a = c .before .before .before .before .before in
-    rw (c .rated .ensures) (in-range-rated (a .args .s) (a .args .c) (a .args .x .del) (a .pre .0), a .pre .1)
+    let k = in-range-known (a .args .s) (a .args .c) (a .args .x .del) (a .pre .0) (a .pre .1 .1) in
+    rw (c .known-rate .ensures) (k .0, (a .pre .1 .0, k .1))
 
-returns-5 : tie.Need-returns-5
-unfolding judgeOf
-returns-5 c =
+returns-4 : tie.Need-returns-4
+unfolding judgeOf knownRateOf
+returns-4 c =
     let later = c .before .before in
     let far = later .before .before in
     let solved = not-false (far .before .before .args .x .solved) (far .before .if1 .left) in
-    rw (solved, far .if2 .left, ne-eqb _ _ (later .if3 .left), ← c .before .rated .ensures) (c .tested2 .ensures)
+    rw (solved, far .if2 .left, c .tested .ensures, c .before .known-rate .ensures)
+    (⊎-elim
+    (λ w. rw (eq-eqb _ _ (w .0 .taken), sym (w .1 .ensures) ∙ not-false _ (w .2 .left)))
+    (λ w. rw (ne-eqb _ _ (w .left)))
+    (later .if3 .came))
 
 pub judge-spec : {M : Type 1} → statement M
 judge-spec =
@@ -79,10 +72,8 @@ judge-spec =
     converged-requires
     returns-2
     is-bdf-requires
-    tested-requires
-    returns-3
     further-requires
-    returns-4
-    rated-requires
-    tested-requires-2
-    returns-5)
+    returns-3
+    known-rate-requires
+    tested-requires
+    returns-4)
