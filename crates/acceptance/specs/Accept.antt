@@ -1,6 +1,5 @@
 -- An accepted step, as in `stoda`: the columns corrected, the family test where icount is below 0, the order choice
--- where
--- ialth comes to 0; and the end of a step, where acor is scaled and the weights are those of the new state.
+-- where ialth comes to 0; and the end of a step, where acor is scaled and the weights are those of the new state.
 use mathlib.Core.Bool.{cond}
 use mathlib.Core.List.{List}
 use Prim.Native.Nat.{ℕ, _+_, _-_, _*_}

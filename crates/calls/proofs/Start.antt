@@ -28,10 +28,9 @@ use Rattle.refusals.specs.declared.Refusal.{Refusal}
 use Rattle.refusals.specs.Start.{isNegative, startRefusalOf, settingsOf, firstStepOf}
 use Rattle.refusals.specs.Accepted.{Started}
 use Rattle.refusals.proofs.Accepted.{accepted}
-use Rattle.words.specs.Words.{countsIn}
 use Rattle.fields.specs.Fields.{countsOf, FloatsFit, Fits}
 use Rattle.session.specs.Session.{encodeOf, decodeOf, putTolerancesOf, OneOrN}
-use Rattle.session.specs.Session.{fieldsInRange, tolerancesInRange, pivotsBelow, inRangeOf}
+use Rattle.session.specs.Session.{tolerancesInRange}
 use Rattle.session.proofs.Back.{length-encode, encoded-count, finished-encode, decode-encode, counts-back}
 use Rattle.session.proofs.Back.{length-put-tolerances, put-other, counts-put, decode-put, rtol-put, atol-put}
 use Rattle.session.proofs.Passes.{assembled, counts-fit, fields-in-range, pivots-in-range, tolerances-put}

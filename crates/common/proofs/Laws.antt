@@ -1,7 +1,6 @@
 -- Bounds of the limits in force, and of the order whose coefficients are in force.
 -- Assumes nothing.
-use mathlib.Core.Path.{_≡_}
-use Prim.Native.Nat.{ℕ, _+_, _*_, _/_, _≤_, _<_, min}
+use Prim.Native.Nat.{ℕ, _*_, _/_, _≤_}
 use native.Mathlib.Nat.{mul-le-mul, mul-comm, le-div-iff-mul-le, div-le-of-le-mul, one-mul}
 use native.Mathlib.Omega.{arith}
 use Rattle.common.specs.declared.MethodFamily.{MethodFamily}

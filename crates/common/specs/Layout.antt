@@ -1,7 +1,7 @@
 -- The one lent slice `work`: the history of 13 columns, six vectors of n, then the matrix, n·n + 19·n numbers in all.
 --     0 history   13n ewt   14n savf   15n ftem   16n acor   17n y   18n y_fd   19n matrix
 use mathlib.Core.List.{List}
-use Prim.Native.Nat.{ℕ, _+_, _*_}
+use Prim.Native.Nat.{ℕ, _*_}
 use lib.Ieee.{Float}
 use Rattle.loops.specs.Part.{part}
 

@@ -15,9 +15,8 @@ use Rattle.common.specs.declared.MethodFamily.{MethodFamily}
 use Rattle.common.specs.declared.MethodFamily.the-variants.{Adams, Bdf}
 use Rattle.common.specs.declared.Settings.{Settings}
 use Rattle.common.specs.declared.Common.{Common}
-use Rattle.history.specs.Steps.{InRange}
 use Rattle.history.proofs.Laws.{length-for, length-stores}
-use Rattle.jacobian.proofs.Laws.{SameStep, same-moved, in-range-same}
+use Rattle.jacobian.proofs.Laws.{SameStep, same-moved}
 use Rattle.verdict.proofs.Shared.{chosen}
 use Rattle.corrector.specs.Iterate.{openOf, adamsResidualAt, adamsResidualOf, adamsUpdateAt, adamsUpdateOf}
 use Rattle.corrector.specs.Iterate.{bdfResidualOf, bdfUpdateAt, bdfUpdateOf, Corrected, adamsOf, bdfOf}
@@ -78,6 +77,3 @@ same-open c = same-moved c (openOf c)
 pub open-flags : (c : Common) → (openOf c .jcur ≡ c .jcur) × (openOf c .due ≡ c .due) × (openOf c .m ≡ 0)
 unfolding openOf
 open-flags c = (refl, refl, refl)
-
-pub in-range-open : (s : Settings) (c : Common) → InRange s c → InRange s (openOf c)
-in-range-open s c p = in-range-same _ (same-open c) p

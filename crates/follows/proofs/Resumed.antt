@@ -18,7 +18,6 @@ use Rattle.common.specs.Layout.{column}
 use Rattle.common.specs.Record.{with-tn, with-column}
 use Rattle.history.specs.Columns.{copyOf, slopeOf}
 use Rattle.history.proofs.Laws.{length-copy, length-slope}
-use Rattle.jacobian.specs.Jacobian.{finishedOf}
 use Rattle.jacobian.proofs.Laws.{length-supplied, length-restore}
 use Rattle.attempt.proofs.Laws.{restepped}
 use Rattle.turns.specs.declared.Answer.{Answer}

@@ -8,7 +8,7 @@
 use mathlib.Core.Path.{_≡_, refl, _∙_}
 use mathlib.Core.List.{List}
 use mathlib.Core.Bool.{Bool, true, false, cond}
-use Prim.Native.Nat.{ℕ, _+_, _*_, _^_, _≤_, _<_}
+use Prim.Native.Nat.{ℕ, _+_, _*_, _≤_}
 use native.Mathlib.Omega.{arith}
 use lib.ListN.{length, getD, length-set}
 use lib.Ieee.{Float, nan}
@@ -133,10 +133,6 @@ pub begin-flags : (c : Common) → (beginOf c .jcur ≡ true) × (beginOf c .due
 unfolding beginOf
 begin-flags c = (refl, refl, refl)
 
-pub in-range-begin : (s : Settings) (c : Common) → InRange s c → InRange s (beginOf c)
-unfolding beginOf
-in-range-begin s c p = same-range _ refl refl refl refl p
-
 module _ (s : Settings) (c : Common) (work : List Float) (ipiv : List ℕ) where
   -- the record after the factoring: nslp is nst, and nlu is raised where the factoring went through
   abbrev pub counted : Common
@@ -150,8 +146,3 @@ module _ (s : Settings) (c : Common) (work : List Float) (ipiv : List ℕ) where
       × (finishedOf s c work ipiv .common .due ≡ c .due) × (finishedOf s c work ipiv .common .m ≡ c .m)
   unfolding finishedOf
   finished-flags = (refl, refl, refl)
-
-  pub in-range-finished : c .nst < 2 ^ 62 → InRange s c → InRange s (finishedOf s c work ipiv .common)
-  unfolding finishedOf
-  in-range-finished few p =
-      record { n = p .n; order = p .order; table = p .table; used = p .used; steps = (few, p .steps .1) }

@@ -2,9 +2,9 @@
 --     abs-positive, abs-other   a number above 0 is its own magnitude; any other is subtracted from 0
 --     negative-bits             the sign is set where the pattern is 2^63 or more
 -- Assumes nothing.
-use mathlib.Core.Path.{_≡_, refl, sym, ap, _∙_}
-use mathlib.Core.Bool.{Bool, true, false, cond}
-use Prim.Native.Nat.{ℕ, zero, suc, _+_, _*_, _/_, _-_, _^_, _≤_, _<_}
+use mathlib.Core.Path.{_≡_, refl, sym}
+use mathlib.Core.Bool.{Bool, true, false}
+use Prim.Native.Nat.{zero, suc, _*_, _-_, _^_, _<_}
 use native.Mathlib.Nat.{zero-mul, zero-add, one-mul, mul-one, mul-pos, zero-lt-suc, pow-suc}
 use native.Mathlib.Omega.{arith}
 use lib.IntN.{ℤ, pos, negsuc}
@@ -14,7 +14,7 @@ use lib.Ieee.{Float, nan, inf, fin, binary64, up, down, top}
 use lib.Ieee.Fits.{up-pos}
 use lib.Ieee.Bits.{toBits-lt}
 
-use borrow.Author.Tests.{lt-ltb, le-ltb, le-leb, lt-leb}
+use borrow.Author.Tests.{lt-ltb, le-leb, lt-leb}
 use Rattle.loops.specs.Test.{differs}
 use Rattle.numbers.specs.Float.{zeroF, oneF}
 use Rattle.numbers.specs.Sign.{absOf, negative, signumOf, copysignOf}

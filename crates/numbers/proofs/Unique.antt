@@ -2,14 +2,14 @@
 --     unique       two floats that fit, of one sign and one value, are the same
 --     round-own    a float's own value, rounded, is the float
 -- Assumes nothing.
-use mathlib.Core.Path.{_≡_, refl, sym, ap, _∙_, subst}
-use mathlib.Core.Bool.{Bool, true, false, cond, _&&_}
-use Prim.Native.Nat.{ℕ, zero, suc, _+_, _-_, _*_, _/_, _%_, _^_, _≤_, _<_}
-use native.Mathlib.Nat.{mul-assoc, mul-comm, mul-one, one-mul, mul-right-comm, mul-lt-mul-of-pos-right, lt-of-mul-lt-mul-right, lt-of-not-le}
+use mathlib.Core.Path.{_≡_, sym, ap, _∙_, subst}
+use mathlib.Core.Bool.{Bool, cond, _&&_}
+use Prim.Native.Nat.{ℕ, suc, _+_, _-_, _*_, _/_, _%_, _^_, _≤_, _<_}
+use native.Mathlib.Nat.{mul-assoc, mul-comm, mul-one, mul-right-comm, mul-lt-mul-of-pos-right, lt-of-mul-lt-mul-right, lt-of-not-le}
 use native.Mathlib.Omega.{arith}
 use lib.IntN.{ℤ, pos, negsuc}
-use lib.Dec.{T, eqb, leb, ltb, leb→le, ltb→lt, eqb→eq}
-use lib.Pow.{pow-add, pow-pos, pow-mono, pow-lt}
+use lib.Dec.{T, eqb, leb, ltb, leb→le, ltb→lt}
+use lib.Pow.{pow-add, pow-pos, pow-lt}
 use lib.Ieee as Ieee
 use lib.Ieee.{Float, nan, inf, fin, Format, prec, emax, low, up, down, size, hid, top, toBits, round}
 use lib.Ieee.Exact.{HasValue, round-exact}

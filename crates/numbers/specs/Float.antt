@@ -1,7 +1,6 @@
 -- 64-bit floats: short names for the operations of lib.Ieee at binary64, and the constants of the method.
 -- A literal of the code is `ofBits` of its pattern. Each stands here once, named after its decimal (`d1·2` is 1.2), and
--- proofs/Literals.antt
--- shows that it is the float nearest to that decimal.
+-- proofs/Literals.antt shows that it is the float nearest to that decimal.
 use Prim.Native.Nat.{ℕ}
 use lib.IntN.{pos}
 use lib.Ieee as Ieee

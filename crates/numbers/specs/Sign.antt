@@ -1,6 +1,6 @@
 -- The sign of a float, as Rust's `abs`, `is_sign_negative`, `signum` and `copysign` see it: zeros have one.
 -- A NaN has none: it counts as positive.
-use mathlib.Core.Bool.{Bool, true, false, _||_}
+use mathlib.Core.Bool.{Bool, false, _||_}
 use lib.IntN.{pos}
 use lib.Ieee as Ieee
 use lib.Ieee.{Float, nan, inf, fin}

@@ -1,7 +1,7 @@
 -- What the test of an order tells. Assumes nothing.
 use Prim.Native.Nat.{ℕ, _≤_}
-use mathlib.Core.Path.{_≡_, refl}
-use mathlib.Core.Bool.{Bool, true, false, _&&_}
+use mathlib.Core.Path.{_≡_}
+use mathlib.Core.Bool.{true}
 use lib.Dec.{leb}
 use borrow.Author.Tests.{leb-true}
 use Rattle.loops.specs.Test.{both}

@@ -2,7 +2,7 @@
 --     floats   0 hmxi   1 tn   2 h   3 hu   4 rc   5 el0   6 conit   7 rmax   8 pdest   9 pdlast   10 convrate
 --     counts   0 n   1 mxordn   2 mxords   3 msbp   4 family   5 nq   6 lmax   7 nqnyh   8 ialth   9 icount   10 table
 --              11 nslp   12 nst   13 due
-use mathlib.Core.Bool.{Bool, true, false, cond, _&&_}
+use mathlib.Core.Bool.{Bool, false, cond, _&&_}
 use mathlib.Core.List.{List}
 use Prim.Native.Nat.{ℕ, _+_, _*_, _^_}
 use lib.Dec.{eqb, leb, ltb}

@@ -1,6 +1,5 @@
 // What the host calls, by C's rules. Nothing is asked of the host: each function answers at every argument, and its
-// contract
-// is one equation for the answer and for the whole contents of every lent slice, refused calls included.
+// contract is one equation for the answer and for the whole contents of every lent slice, refused calls included.
 ghost use mathlib.Core.Path.{_≡_};
 ghost use mathlib.Core.Bool.{true};
 ghost use Prim.Native.Nat.{ℕ, _+_, _*_, _≤_};

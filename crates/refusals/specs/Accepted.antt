@@ -1,5 +1,5 @@
 -- What a start that is not refused was given: lengths, settings, tolerances and first step in their ranges.
-use mathlib.Core.Bool.{Bool, true, false, _||_}
+use mathlib.Core.Bool.{false}
 use mathlib.Core.List.{List}
 use mathlib.Core.Path.{_≡_}
 use mathlib.Core.Logic.{_⊎_}

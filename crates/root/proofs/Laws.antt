@@ -1,9 +1,6 @@
 -- Two loops keep what one turn of each keeps between their states.
 -- Assumes nothing.
-use mathlib.Core.Path.{_≡_}
-use mathlib.Core.Bool.{true, false}
 use Prim.Native.Nat.{ℕ, zero, suc, _+_, _-_}
-use native.Mathlib.Omega.{arith}
 use Rattle.loops.specs.For.{for, times}
 
 module _ {S : Type 0} (R : S → S → Type 0) (f g : ℕ → S → S)

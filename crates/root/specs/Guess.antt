@@ -1,7 +1,6 @@
 -- Where the root of order k is looked for first: the exponent divided by k, then three steps of Halley's method. For x
--- and
--- its root well inside the range of the floats the root is the guess or a float next to it. Nothing rests on that: a
--- guess is taken only after the test that shows it to be the root.
+-- and its root well inside the range of the floats the root is the guess or a float next to it. Nothing rests on that:
+-- a guess is taken only after the test that shows it to be the root.
 use Prim.Native.Nat.{ℕ, _+_, _-_, _*_, _/_, _%_}
 use lib.Ieee as Ieee
 use lib.Ieee.{Float, binary64}

@@ -18,7 +18,6 @@ use lib.ListN.{length, getD, take, List·getD-eq-default}
 use lib.Seq.{ext-getD, getD-take, length-take-le}
 use lib.Ieee.{Float, nan, binary64, ofBits}
 use lib.Ieee.Bits.{ofBits-toBits, toBits-lt}
-use borrow.Author.Tests.{eqb-true}
 use Rattle.loops.specs.Part.{part}
 use Rattle.numbers.specs.Float.{zeroF}
 use Rattle.common.specs.declared.MethodFamily.{MethodFamily}
@@ -150,9 +149,6 @@ module _ (x : Session) (b : List ℕ) (room : 1448 ≤ length b) where
         ∙ ap (λ (f : List Float). sessionOf (countsOf x) f) floats-back
         ∙ record-back x
 
-    pub n-encode : storedN (encodeOf x b) ≡ x .settings .n
-    n-encode = encoded-count 1 (lit< tt) (fits .counts .n)
-
 -- ---- n and the phase
 
 pub finished-encode : (x : Session) (b : List ℕ) → 1448 ≤ length b
@@ -162,12 +158,6 @@ finished-encode x b room = rw (encoded-count x b room 0 (lit< tt) (phase-small (
 pub stored-n : (b : List ℕ) → decodeOf b .settings .n ≡ storedN b
 unfolding decodeOf
 stored-n b = counts-at b 1 (lit< tt)
-
-pub finished-phase : (b : List ℕ) → finishedIn b ≡ true → decodeOf b .phase ≡ Phase.Finished
-unfolding decodeOf phaseOf
-finished-phase b e =
-    let w : word b 0 ≡ 10 = eqb-true (word b 0) 10 e in
-    rw (counts-at b 0 (lit< tt), w)
 
 -- ---- the tolerances
 

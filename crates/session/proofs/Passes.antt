@@ -29,7 +29,7 @@ use Rattle.words.specs.Words.{word, float, countsIn, slotOf}
 use Rattle.fields.specs.States.{flagNumber, familyNumber, phaseNumber}
 use Rattle.fields.specs.Fields.{countsOf, lowest, highest, CountsFit, Fits}
 use Rattle.session.specs.Session.{encodeOf, decodeOf, putTolerancesOf, ListFits}
-use Rattle.session.specs.Session.{every, wordInRange, OneOrN, fieldsInRange}
+use Rattle.session.specs.Session.{wordInRange, OneOrN, fieldsInRange}
 use Rattle.session.specs.Session.{notNegativeAt, notNegative, tolerancesInRange}
 use Rattle.session.specs.Session.{pivotBelow, pivotsBelow, inRangeOf}
 use Rattle.words.proofs.Rows.{same-default}

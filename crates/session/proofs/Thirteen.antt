@@ -184,9 +184,6 @@ module _ (b ipiv : List ℕ) (q : inRangeOf b ipiv ≡ true) where
   unfolding decodeOf
   relation-of = relation (countsIn b) (floatsIn b 34 19) (parts b ipiv q .0)
 
-  pub tolerances-pass : tolerancesInRange b (decodeOf b .settings) ≡ true
-  tolerances-pass = parts b ipiv q .1
-
   pub pivots-pass : (k : ℕ) → k < length ipiv → getD ipiv k 0 < decodeOf b .settings .n
   unfolding pivotsBelow
   pivots-pass k h =

@@ -27,8 +27,7 @@ fn run(u: &[usize; 34], low: &[usize; 34], high: &[usize; 34], a: usize, e: usiz
     true
 }
 
-// Whether each of all words is. Two runs, each short enough to be unrolled: the tables then become constants of the
-// code.
+// Whether each of all words is. Two runs, each short enough to be unrolled, so that the tables become constants.
 fn words(u: &[usize; 34]) -> bool
     ensures { λ r. ⌜ r ≡ every (wordInRange (now (u .entry))) 34 ⌝ }
 {

@@ -7,7 +7,7 @@
 use mathlib.Core.Path.{_≡_, refl, _∙_}
 use mathlib.Core.Bool.{Bool, true, false}
 use mathlib.Core.List.{List}
-use Prim.Native.Nat.{ℕ, _≤_}
+use Prim.Native.Nat.{_≤_}
 use native.Mathlib.Nat.{mul-mod-left}
 use native.Mathlib.Omega.{arith}
 use lib.Ieee.{Float}
@@ -17,14 +17,12 @@ use Rattle.common.specs.declared.Common.{Common}
 use Rattle.common.specs.declared.MethodFamily.{MethodFamily}
 use Rattle.common.specs.declared.MethodFamily.the-variants.{Adams, Bdf}
 use Rattle.common.specs.Limits.{maxordOf}
-use Rattle.common.specs.Record.{with-tn, with-h, with-total, with-pnorm}
+use Rattle.common.specs.Record.{with-tn, with-pnorm}
 use Rattle.common.specs.Rules.{resetOf, firstCallInitOf}
 use Rattle.history.specs.Steps.{adjustOf, predictedOf}
 use Rattle.history.proofs.Laws.{length-rescale, length-predict}
 use Rattle.attempt.specs.Attempt.{Moved}
-use Rattle.turns.specs.declared.Phase.{Phase}
 use Rattle.turns.specs.Ranges.{Accepted, Orders}
-use Rattle.turns.specs.Turns.{askedOf, askedInStepOf}
 use Rattle.turns.specs.Begin.{isCut, cutOf, setupOf, preparedAt, preparedOf, enteredOf, predictedAt, openedOf}
 
 -- ---- one field, or some that `Orders` does not read
@@ -36,37 +34,11 @@ module _ {s : Settings} {c : Common} (o : Orders s c) where
         kflag = o .kflag; ncf = o .ncf; m = o .m; column = o .column;
       }
 
-  pub orders-h : (h : Float) → Orders s (with-h h c)
-  orders-h h = record {
-        nq = o .nq; lmax = o .lmax; nqnyh = o .nqnyh; table = o .table; ialth = o .ialth; icount = o .icount;
-        kflag = o .kflag; ncf = o .ncf; m = o .m; column = o .column;
-      }
-
-  pub orders-total : (k : ℕ) → Orders s (with-total k c)
-  orders-total k = record {
-        nq = o .nq; lmax = o .lmax; nqnyh = o .nqnyh; table = o .table; ialth = o .ialth; icount = o .icount;
-        kflag = o .kflag; ncf = o .ncf; m = o .m; column = o .column;
-      }
-
   -- no failure yet
   pub orders-entered : (t : Float) → Orders s (enteredOf t c)
   orders-entered t = record {
         nq = o .nq; lmax = o .lmax; nqnyh = o .nqnyh; table = o .table; ialth = o .ialth; icount = o .icount;
         kflag = omega arith; ncf = omega arith; m = o .m; column = o .column;
-      }
-
-  pub orders-asked : (p : Phase) → Orders s (askedOf c p .common)
-  unfolding askedOf
-  orders-asked p = record {
-        nq = o .nq; lmax = o .lmax; nqnyh = o .nqnyh; table = o .table; ialth = o .ialth; icount = o .icount;
-        kflag = o .kflag; ncf = o .ncf; m = o .m; column = o .column;
-      }
-
-  pub orders-asked-in-step : (p : Phase) → Orders s (askedInStepOf c p .common)
-  unfolding askedInStepOf
-  orders-asked-in-step p = record {
-        nq = o .nq; lmax = o .lmax; nqnyh = o .nqnyh; table = o .table; ialth = o .ialth; icount = o .icount;
-        kflag = o .kflag; ncf = o .ncf; m = o .m; column = o .column;
       }
 
   pub orders-predicted : Orders s (predictedOf s c)

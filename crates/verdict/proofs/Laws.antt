@@ -18,8 +18,7 @@ use Rattle.common.specs.declared.MethodFamily.the-variants.{Adams, Bdf}
 use Rattle.common.specs.declared.Settings.{Settings}
 use Rattle.common.specs.declared.Common.{Common}
 use Rattle.common.specs.Record.{isBdf, with-jcur, with-due, with-m, with-delp}
-use Rattle.history.specs.Steps.{InRange}
-use Rattle.jacobian.proofs.Laws.{SameStep, moved, same-moved, in-range-same}
+use Rattle.jacobian.proofs.Laws.{SameStep, moved, same-moved}
 use Rattle.verdict.specs.declared.Pass.the-variants.{Converged, Retry, NoConvergence, Further}
 use Rattle.verdict.specs.declared.Verdict.{Verdict}
 use Rattle.verdict.specs.declared.Correction.{Correction}
@@ -106,10 +105,6 @@ same-ways {s} {c} (goes-on d m l j u) = same-moved c d
 
 pub same-judge : (s : Settings) (c : Common) (x : Correction) (pnorm : Float) → SameStep c (judgeOf s c x pnorm .common)
 same-judge s c x pnorm = same-ways (judge-ways s c x pnorm)
-
-pub in-range-judge : (s : Settings) (c : Common) (x : Correction) (pnorm : Float) → InRange s c
-    → InRange s (judgeOf s c x pnorm .common)
-in-range-judge s c x pnorm p = in-range-same _ (same-judge s c x pnorm) p
 
 -- what a verdict tells: m stays below maxcor and rises with Further alone; Retry comes from an old Jacobian alone and
 -- makes one due; nothing else changes due, and nothing but convergence changes jcur

@@ -14,7 +14,7 @@ use native.Mathlib.Nat.{not-suc-le-zero, le-of-suc-le-suc, eq-or-lt-of-le, eq-ze
 use lib.ListN.{length, getD, set, replicate, length-set, length-replicate}
 use lib.Seq.{getD-set-same, getD-set-other, getD-take, ext-getD}
 use lib.Ieee.{Float, binary64, toBits, ofBits}
-use Rattle.loops.specs.For.{for, times}
+use Rattle.loops.specs.For.{times}
 use Rattle.loops.specs.Part.{part, length-part}
 use Rattle.numbers.specs.Float.{zeroF}
 use Rattle.words.specs.Words.{putWord, word, float, countsIn, putCountsOf}

@@ -1,7 +1,8 @@
 //! LSODA, the automatic Adams/BDF solver for y' = f(t, y), over a machine-checked library.
 //!
 //! The library never calls back and allocates nothing: it asks, and is replied to. [`Solver`] is that machine with its
-//! buffers, for callers that keep control; [`solve`] drives it with closures.
+//! buffers, for callers that keep control; [`solve`] drives it with closures, [`steps`] is an iterator over accepted
+//! steps, and [`solve_dense`] keeps them for poses at any time. `examples/` has four problems.
 //!
 //! ```
 //! use raimsklo::{solve, Control, Options, Problem};
@@ -17,9 +18,12 @@
 //! A pose is handed out by a report alone, and a report follows an accepted step alone.
 
 mod calls;
+mod refused;
+mod steps;
 
 use calls::Answer;
-use std::fmt;
+pub use refused::{Reason, Refused};
+pub use steps::{solve_dense, steps, Accepted, Dense, Steps};
 
 /// The options of a run, those of the published `LSODA`. [`Options::default`] has its values.
 #[repr(C)]
@@ -93,6 +97,13 @@ pub struct Problem<'a> {
     pub options: Options,
 }
 
+impl Problem<'_> {
+    /// The same problem with the Jacobian taken by differences.
+    fn by_differences(&self) -> Self {
+        Problem { options: Options { supplied: 0, ..self.options }, ..*self }
+    }
+}
+
 /// How a run ended.
 #[derive(Clone, Copy, Debug, PartialEq, Eq)]
 pub enum End {
@@ -103,45 +114,6 @@ pub enum End {
     PoorConvergence,
     CoefficientGap,
 }
-
-/// A refused call, by the number of the refusals' table.
-#[derive(Clone, Copy, Debug, PartialEq)]
-pub struct Refused {
-    pub number: usize,
-    /// Of 9, 10 and 12.
-    pub index: usize,
-    /// Of 11.
-    pub value: f64,
-}
-
-impl fmt::Display for Refused {
-    fn fmt(&self, f: &mut fmt::Formatter<'_>) -> fmt::Result {
-        let Refused { number, index, value } = *self;
-        write!(f, "refused ({number}): ")?;
-        match number {
-            1 => write!(f, "more than 64 states"),
-            2 => write!(f, "a tolerance list is neither 1 long nor as long as y0"),
-            3 => write!(f, "the length of a buffer is wrong"),
-            4 => write!(f, "a setting is above 1,000,000"),
-            5 => write!(f, "max_steps is 0"),
-            6 => write!(f, "maxcor is 0"),
-            7 => write!(f, "mxordn or mxords is 0"),
-            8 => write!(f, "banded storage is not supported"),
-            9 => write!(f, "rtol[{index}] is below 0"),
-            10 => write!(f, "atol[{index}] is below 0"),
-            11 => write!(f, "the first step {value:?} is zero, NaN or leads away from the end"),
-            12 => write!(f, "the weight rtol*|y|+atol of state {index} is at most 0"),
-            13 => write!(f, "the session holds a value out of its range"),
-            14 => write!(f, "another reply was asked for, or the run has ended"),
-            15 => write!(f, "the snapshot's header is damaged"),
-            16 => write!(f, "the pose has another length than the snapshot's states"),
-            17 => write!(f, "the snapshot's history is too short or its step is zero"),
-            _ => write!(f, "unknown"),
-        }
-    }
-}
-
-impl std::error::Error for Refused {}
 
 /// The end of a run, with its counts.
 #[derive(Clone, Copy, Debug, PartialEq)]
@@ -247,7 +219,7 @@ impl Solver {
 
     fn take(&mut self, answer: Answer) -> Result<(), Refused> {
         if answer.number < 100 {
-            return Err(Refused { number: answer.number, index: answer.index, value: answer.value });
+            return Err(Refused::new(answer.number, answer.index, answer.value));
         }
         self.answer = answer;
         Ok(())
@@ -325,13 +297,14 @@ impl Solver {
     }
 }
 
-/// Runs a problem with its derivative, and a report after each accepted step.
+/// Runs a problem with its derivative, the Jacobian by differences, and a report after each accepted step.
+/// A closure that panics leaves by unwinding: no foreign frame stands between it and the caller.
 pub fn solve(
     problem: &Problem,
     derivative: impl FnMut(f64, &[f64], &mut [f64]),
     report: impl FnMut(&Step) -> Control,
 ) -> Result<Finished, Refused> {
-    drive(problem, derivative, |_, _, _| unreachable!("no Jacobian is asked for"), report)
+    drive(&problem.by_differences(), derivative, |_, _, _| unreachable!("the Jacobian is taken by differences"), report)
 }
 
 /// As [`solve`], with a Jacobian: n·n numbers, column by column.
@@ -389,7 +362,7 @@ pub fn interpolate(time: f64, pose: &mut [f64], snapshot: &[f64]) -> Result<(), 
     };
     match number {
         0 => Ok(()),
-        number => Err(Refused { number, index: 0, value: 0.0 }),
+        number => Err(Refused::new(number, 0, 0.0)),
     }
 }
 

@@ -1,6 +1,5 @@
 -- `el` meets its contract: the order in force is from 1 to 12, since nqnyh is from n to 12·n.
 -- Assumes nothing.
-use mathlib.Core.Path.{_∙_}
 use borrow.Author.Needs.{needs}
 use Rattle.common.proofs.Laws.{order-from, order-to}
 use Rattle.common.proofs.el.Statement.{statement}

@@ -1,6 +1,5 @@
 -- `maxord` meets its contract: each arm's callee gives the limit of its family.
 -- Assumes nothing.
-use mathlib.Core.Path.{_∙_}
 use borrow.Author.Needs.{needs}
 use Rattle.common.proofs.maxord.Statement.{statement}
 use Rattle.common.proofs.maxord.Tie as tie

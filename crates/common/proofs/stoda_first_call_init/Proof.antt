@@ -1,6 +1,5 @@
 -- `stoda_first_call_init` meets its contract: field by field.
 -- Assumes nothing.
-use Prim.Native.Nat.{_≤_}
 use native.Mathlib.Omega.{arith}
 use borrow.Author.Needs.{needs}
 use Rattle.common.proofs.Laws.{maxord-le}

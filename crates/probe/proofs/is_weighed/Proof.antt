@@ -1,6 +1,5 @@
 -- `is_weighed` meets its contract: each way returns what `isWeighed` says under the tests that led there.
 -- Assumes nothing.
-use mathlib.Core.Path.{sym, _∙_}
 use borrow.Author.Needs.{needs}
 use borrow.Author.Tests.{not-true, not-false}
 use Rattle.probe.specs.Leaves.{isWeighed}

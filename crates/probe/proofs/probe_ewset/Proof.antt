@@ -2,7 +2,7 @@
 -- Assumes nothing.
 use mathlib.Core.Path.{sym, _∙_}
 use borrow.Author.Needs.{needs}
-use Rattle.probe.specs.Leaves.{isWeighed, isList, isBehind, ewsetLeft}
+use Rattle.probe.specs.Leaves.{ewsetLeft}
 use Rattle.probe.proofs.Sizes.{list-serves, behind-fits, weighed}
 use Rattle.probe.proofs.probe_ewset.Statement.{statement}
 use Rattle.probe.proofs.probe_ewset.Tie as tie

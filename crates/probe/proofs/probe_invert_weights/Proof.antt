@@ -1,8 +1,6 @@
 -- `probe_invert_weights` meets its contract: each arm returns what `indexOf` says of its outcome.
 -- Assumes nothing.
-use mathlib.Core.Path.{ap, sym, _∙_}
 use borrow.Author.Needs.{needs}
-use Rattle.probe.specs.Leaves.{indexOf}
 use Rattle.probe.proofs.probe_invert_weights.Statement.{statement}
 use Rattle.probe.proofs.probe_invert_weights.Tie as tie
 

@@ -1,8 +1,6 @@
 -- `probe_vmnorm` meets its contract: each way returns what `vmnormAt` says under the tests that led there.
 -- Assumes nothing.
-use native.Mathlib.Omega.{arith}
 use borrow.Author.Needs.{needs}
-use lib.ListN.{length}
 use borrow.Author.Tests.{le-leb, lt-leb}
 use Rattle.probe.specs.Leaves.{vmnormAt}
 use Rattle.probe.proofs.probe_vmnorm.Statement.{statement}

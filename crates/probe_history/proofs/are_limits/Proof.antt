@@ -1,6 +1,5 @@
 -- `are_limits` meets its contract: each way returns what `areLimits` says under the tests that led there.
 -- Assumes nothing.
-use native.Mathlib.Omega.{arith}
 use borrow.Author.Tests.{le-leb, lt-leb}
 use Rattle.probe_history.specs.Lent.{areLimits}
 use Rattle.probe_history.proofs.are_limits.Statement.{statement}

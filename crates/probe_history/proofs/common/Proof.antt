@@ -1,7 +1,6 @@
 -- `common` meets its contract: field by field.
 -- Assumes nothing.
 use borrow.Author.Needs.{needs}
-use native.Mathlib.Omega.{arith}
 use Rattle.probe_history.specs.Lent.{commonOf}
 use Rattle.probe_history.proofs.common.Statement.{statement}
 use Rattle.probe_history.proofs.common.Tie as tie

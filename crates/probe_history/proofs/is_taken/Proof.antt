@@ -1,8 +1,6 @@
 -- `is_taken` meets its contract: each way returns what `isTaken` says under the tests that led there.
 -- Assumes nothing.
-use native.Mathlib.Omega.{arith}
 use borrow.Author.Needs.{needs}
-use lib.ListN.{length}
 use borrow.Author.Tests.{eq-eqb, ne-eqb, not-true, not-false}
 use Rattle.probe_history.specs.Lent.{isTaken}
 use Rattle.probe_history.proofs.is_taken.Statement.{statement}

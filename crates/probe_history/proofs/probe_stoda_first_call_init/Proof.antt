@@ -2,7 +2,6 @@
 -- there.
 -- Assumes nothing.
 use mathlib.Core.Path.{sym, _∙_}
-use native.Mathlib.Omega.{arith}
 use borrow.Author.Needs.{needs}
 use Rattle.probe_history.specs.Left.{initLeft}
 use Rattle.probe_history.proofs.Taken.{taken}

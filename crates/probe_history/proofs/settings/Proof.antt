@@ -2,7 +2,6 @@
 -- Assumes nothing.
 use mathlib.Core.Path.{refl}
 use borrow.Author.Needs.{needs}
-use native.Mathlib.Omega.{arith}
 use Rattle.probe_history.specs.Lent.{settingsOf}
 use Rattle.probe_history.proofs.settings.Statement.{statement}
 use Rattle.probe_history.proofs.settings.Tie as tie

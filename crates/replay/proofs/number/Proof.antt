@@ -1,6 +1,5 @@
 -- `number` meets its contract: each way returns what `numberOf` picks at the kind that led there.
 -- Assumes nothing.
-use native.Mathlib.Omega.{arith}
 use borrow.Author.Needs.{needs}
 use borrow.Author.Tests.{ne-eqb}
 use Rattle.replay.specs.Replay.{numberOf}

@@ -1,6 +1,5 @@
 -- `called` meets its contract: the lists are filled one after the other, and then lent to the function.
 -- Assumes nothing.
-use native.Mathlib.Omega.{arith}
 use borrow.Author.Needs.{needs}
 use Rattle.replay_leaves.specs.Leaf.{calledOf}
 use Rattle.replay_leaves.proofs.leaf.called.Statement.{statement}

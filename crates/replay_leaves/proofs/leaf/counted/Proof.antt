@@ -2,7 +2,6 @@
 -- Assumes nothing.
 use native.Mathlib.Omega.{arith}
 use borrow.Author.Needs.{needs}
-use Rattle.replay_leaves.specs.Leaf.{countedOf}
 use Rattle.replay_leaves.proofs.leaf.counted.Statement.{statement}
 use Rattle.replay_leaves.proofs.leaf.counted.Tie as tie
 

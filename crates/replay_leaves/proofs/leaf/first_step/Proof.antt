@@ -1,9 +1,6 @@
 -- `first_step` meets its contract: each way returns what `firstStepOf` says under the tests that led there.
 -- Assumes nothing.
-use Prim.Native.Nat.{_+_, _*_}
-use native.Mathlib.Omega.{arith}
 use borrow.Author.Needs.{needs}
-use lib.ListN.{length}
 use borrow.Author.Tests.{le-leb, lt-leb}
 use Rattle.replay_leaves.specs.Leaf.{firstStepOf}
 use Rattle.replay_leaves.proofs.leaf.first_step.Statement.{statement}

@@ -1,10 +1,8 @@
 -- `is_again` meets its contract: each way returns what `isAgain` says under the test that led there.
 -- Assumes nothing.
-use mathlib.Core.Path.{ap}
-use native.Mathlib.Omega.{arith}
 use borrow.Author.Needs.{needs}
 use borrow.Author.Tests.{eq-eqb, ne-eqb}
-use Rattle.replay_leaves.specs.Leaf.{After, isAgain}
+use Rattle.replay_leaves.specs.Leaf.{isAgain}
 use Rattle.replay_leaves.proofs.leaf.is_again.Statement.{statement}
 use Rattle.replay_leaves.proofs.leaf.is_again.Tie as tie
 

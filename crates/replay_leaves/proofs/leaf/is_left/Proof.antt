@@ -1,6 +1,5 @@
 -- `is_left` meets its contract: each way returns what `isLeft` says under the tests that led there.
 -- Assumes nothing.
-use native.Mathlib.Omega.{arith}
 use borrow.Author.Needs.{needs}
 use borrow.Author.Tests.{not-true, not-false}
 use Rattle.replay_leaves.specs.Leaf.{isLeft}

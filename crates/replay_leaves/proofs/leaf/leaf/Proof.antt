@@ -1,6 +1,5 @@
 -- `leaf` meets its contract: each way leaves what `leafOf` picks at the kind that led there.
 -- Assumes nothing.
-use native.Mathlib.Omega.{arith}
 use borrow.Author.Needs.{needs}
 use borrow.Author.Tests.{lt-ltb, le-ltb}
 use Rattle.replay_leaves.specs.Leaf.{leafOf}
