@@ -100,8 +100,12 @@ def phases():
 
 
 def words():
-    """(word, record, name, type, comment) of each field, in the order of the words: counts, flags and states, then floats."""
+    """(word, record, name, type, comment) of each field, in the order of the words: counts, flags and states, then floats.
+
+    The family's word stands before the counts of Common. In the struct it stands beside the flags, so that the record has one gap.
+    """
     both = [("settings", *f) for f in fields("Settings")] + [("common", *f) for f in fields("Common")]
+    both.sort(key=lambda f: (f[0] == "common", f[2] != "MethodFamily"))
     rows = [("session", "phase", "Phase", "what the run waits for")]
     rows += [f for f in both if f[2] != "f64"] + [f for f in both if f[2] == "f64"]
     assert sum(f[2] != "f64" for f in rows) == COUNTS and len(rows) == COUNTS + FLOATS
@@ -150,9 +154,9 @@ def source():
     counts, floats = rows[:COUNTS], rows[COUNTS:]
     settings = [r for r in rows if r[1] == "settings"]
     common = [r for r in rows if r[1] == "common"]
-    order = {name: i for i, (name, _, _) in enumerate(fields("Settings") + fields("Common"))}
+    order = {name: i for i, (name, _, _) in enumerate(fields("Settings"))}
     settings.sort(key=lambda r: order[r[2]])
-    common.sort(key=lambda r: order[r[2]])
+    common.sort(key=lambda r: (r[3] != "f64", r[0]))
     encoded = ["phase_number(phase)"] + [
         NUMBER[kind].format("meth" if name == "meth" else f"{short(record)}.{name}") for _, record, name, kind, _ in counts[1:]]
     blank = {"bool": "false", "MethodFamily": "MethodFamily::Adams", "usize": "0"}

@@ -1,4 +1,4 @@
-"""A plain SVG of curves: axes with round numbers, a legend, and below the axis a mark at each accepted step."""
+"""A plain SVG of curves: axes with round numbers, a legend, the counts with their caps, and below the axis a mark at each accepted step."""
 
 import math
 
@@ -15,8 +15,8 @@ def _ticks(low, high, wanted=6):
 
 
 class Picture:
-    def __init__(self, title, across, up, steps):
-        self.title, self.across, self.up, self.steps = title, across, up, steps
+    def __init__(self, title, across, up, steps, counts):
+        self.title, self.across, self.up, self.steps, self.counts = title, across, up, steps, counts
         self.curves = []
 
     def curve(self, name, times, values):
@@ -63,6 +63,10 @@ class Picture:
             place = TOP + 14 + 22 * k
             out.append(f'<line x1="{right + 14}" y1="{place}" x2="{right + 40}" y2="{place}" stroke="{colour}" stroke-width="3"/>')
             out.append(f'<text x="{right + 48}" y="{place + 4}">{name}</text>')
+        for k, (what, seen, cap) in enumerate(self.counts):
+            place = TOP + 40 + 22 * len(self.curves) + 38 * k
+            out.append(f'<text x="{right + 14}" y="{place}" font-size="12">{what}</text>')
+            out.append(f'<text x="{right + 14}" y="{place + 15}" font-size="12" fill="#555">{seen:,} of at most {cap:,}</text>')
         out.append(f'<path d="M{right + 20} {bottom + 4}v10m7 -10v10m7 -10v10" stroke="#333"/>')
         out.append(f'<text x="{right + 48}" y="{bottom + 14}">accepted steps</text>')
         return "\n".join(out + ["</svg>", ""])

@@ -12,9 +12,11 @@ sys.path[:0] = [HERE, os.path.join(HERE, "../../hosts/python")]
 
 from picture import Picture  # noqa: E402
 from raimsklo import solve_ivp  # noqa: E402
-from rigs import HAND, LINKS, hand, tail  # noqa: E402
+from rigs import HAND, hand, tail  # noqa: E402
 
 FRAMES = 24  # a second
+SHOWN = 6  # every sixth is printed
+MAX_STEPS = 100000
 
 
 class Progress:
@@ -38,25 +40,37 @@ class Progress:
             print(" " * 70, end="\r", file=sys.stderr)
 
 
+def counted(result):
+    """(what, how many, at most): the caps are proved, but for the number of steps, which is a setting."""
+    steps = result.accepted + (0 if result.success else 1)  # begun
+    return [
+        ("steps", result.accepted, MAX_STEPS),
+        ("derivatives in a step", max(result.counts, default=0), result.cap),
+        ("derivatives", result.nfev, 1 + steps * result.cap),
+        ("Jacobians", result.njev, steps * result.jacobian_cap),
+    ]
+
+
 def show(name, title, fun, y0, seconds, names, places, folder):
     progress = Progress(name, seconds)
-    result = solve_ivp(fun, (0.0, seconds), y0, rtol=1e-4, atol=1e-6, dense_output=True, report=progress)
+    result = solve_ivp(
+        fun, (0.0, seconds), y0, rtol=1e-4, atol=1e-6, dense_output=True, report=progress, max_steps=MAX_STEPS
+    )
     progress.done()
     print(f"{title}: {result.end}")
-    frames = [k / FRAMES for k in range(int(seconds * FRAMES) + 1)]
     print("  frame    time  " + "".join(f"{label:>12}" for label in names))
-    for k, t in enumerate(frames):
-        if k % 6 == 0:
+    for k in range(0, int(seconds * FRAMES) + 1, SHOWN):
+        t = k / FRAMES
+        if t <= result.sol.t_max:  # a run that ended early has no pose beyond
             pose = result.sol(t)
             print(f"  {k:5d}  {t:6.3f}  " + "".join(f"{pose[p]:12.7f}" for p in places))
-    print(
-        f"  steps: {result.accepted} accepted, {result.rejected} rejected;"
-        f" derivatives {result.nfev}, Jacobians {result.njev}, factorings {result.nlu}"
-    )
-    print(f"  most derivatives in one step: {max(result.counts)}, proved to be at most {result.cap}")
+    counts = counted(result)
+    print(f"  {'count':24}{'seen':>10}{'at most':>12}")
+    for what, seen, cap in counts:
+        print(f"  {what:24}{seen:10d}{cap:12d}")
 
-    picture = Picture(title, "time (s)", "angle (rad)", list(result.t))
-    fine = [seconds * k / 600 for k in range(601)]
+    picture = Picture(title, "time (s)", "angle (rad)", list(result.t), counts)
+    fine = [result.sol.t_max * k / 600 for k in range(601)]
     poses = [result.sol(t) for t in fine]
     for label, place in zip(names, places):
         picture.curve(label, fine, [pose[place] for pose in poses])

@@ -47,7 +47,6 @@ pub struct Common {
     pub pnorm: f64,       // norm of the prediction that opened the step
     pub rate: f64,        // largest rate in this corrector pass
     pub delp: f64,        // size of the corrector's last correction
-    pub meth: MethodFamily, // family: 1 Adams, 2 BDF
     pub nq: usize,        // order, 1 to 12
     pub lmax: usize,      // largest number of columns in use, 2 to 13
     pub nqnyh: usize,     // order at the last reset, times n
@@ -66,6 +65,7 @@ pub struct Common {
     pub ncf: usize,       // convergence failures in this step, below mxncf
     pub m: usize,         // corrector iterations done in this pass, below maxcor
     pub column: usize,    // column of a running difference Jacobian, below n
+    pub meth: MethodFamily, // family: 1 Adams, 2 BDF
     pub due: bool,        // 1: a Jacobian is due
     pub jcur: bool,       // 1: the Jacobian was made in this pass
     pub setup: bool,      // 1: first-call setup is due

@@ -21,7 +21,10 @@ def _state(y):
 
 
 class DenseOutput:
-    """The solution between its accepted steps: call it with a time, or with several."""
+    """The solution at and between its accepted steps: call it with a time, or with several.
+
+    A time outside t_min to t_max raises ValueError: beyond the last accepted step there is no pose.
+    """
 
     def __init__(self, n, t0, y0):
         self.n, self.start, self._y0 = n, t0, y0
@@ -34,16 +37,33 @@ class DenseOutput:
         self._ends.append(self._sign * time)
         self._snapshots.append(snapshot)
 
+    @property
+    def _last(self):
+        return self._sign * self._ends[-1] if self._ends else self.start
+
+    @property
+    def t_min(self):
+        return min(self.start, self._last)
+
+    @property
+    def t_max(self):
+        return max(self.start, self._last)
+
     def _at(self, t):
         if not self._snapshots:
             return list(self._y0)
         place = min(bisect.bisect_left(self._ends, self._sign * t), len(self._ends) - 1)
         return calls.interpolate(t, self._snapshots[place], self.n)
 
+    def _within(self, t):
+        if not self.t_min <= t <= self.t_max:
+            raise ValueError(f"no pose at {t!r}: the accepted steps are from {self.t_min!r} to {self.t_max!r}")
+        return self._at(t)
+
     def __call__(self, t):
         if hasattr(t, "__len__"):
-            return _columns([self._at(float(x)) for x in t], self.n)
-        return _state(self._at(float(t)))
+            return _columns([self._within(float(x)) for x in t], self.n)
+        return _state(self._within(float(t)))
 
 
 class Result(dict):
@@ -54,7 +74,7 @@ class Result(dict):
     status      0 where the end was reached, -1 otherwise; success says the same
     end         the library's name of the end; number is its number
     nfev, njev, nlu, accepted, rejected, steps_total, h   the library's counts and last step size
-    counts      derivatives requested in each accepted step; cap: what no step can exceed
+    counts      derivatives requested in each accepted step; cap: what no step can exceed; jacobian_cap: Jacobians that none can
 
     Where the tolerances were asked of the answer, nfev, njev and nlu are those of all the runs made, and there are
     runs        how many; the last had its tolerances divided by cut
@@ -108,7 +128,8 @@ def solve_ivp(
 
     rtol and atol bound the error of each step, as scipy's do; over a run errors add up. With tolerances="answer" they are asked of the
     poses handed out: the run is made again with tighter ones until it repeats itself within those asked (no report is called then).
-    jac(t, y) gives the Jacobian as rows, jac[i][j] = df_i/dy_j; without it the Jacobian is taken by differences.
+    jac(t, y) gives the Jacobian as rows, jac[i][j] = df_i/dy_j; a matrix stands for one that is constant; without it the Jacobian is
+    taken by differences. max_step, min_step and first_step are sizes, above 0 in either direction of time.
     report(previous, t, y, count) is called after each accepted step; True interrupts the run.
     Bad input raises Refused with the library's number, and what a callback raises ends the run.
     """
@@ -117,10 +138,13 @@ def solve_ivp(
     t0, tend = (float(t) for t in t_span)
     y0 = [float(v) for v in _list(y0)]
     n = len(y0)
+    given_fun, given_jac, args = fun, jac, tuple(args or ())
     if args:
-        inner, inner_jac = fun, jac
-        fun = lambda t, y: inner(t, y, *args)  # noqa: E731
-        jac = None if inner_jac is None else lambda t, y: inner_jac(t, y, *args)
+        fun = lambda t, y: given_fun(t, y, *args)  # noqa: E731
+    if callable(given_jac):
+        jac = lambda t, y: given_jac(t, y, *args)  # noqa: E731
+    elif given_jac is not None:
+        jac = lambda t, y: given_jac  # noqa: E731
     if t_eval is not None:
         t_eval = [float(t) for t in t_eval]
         if any(not min(t0, tend) <= t <= max(t0, tend) for t in t_eval):
@@ -132,9 +156,14 @@ def solve_ivp(
         raise ValueError("a report goes with the tolerances of a step: those of the answer take several runs")
 
     options = LIBRARY.raimsklo_defaults()
-    options.max_steps, options.mxordn, options.mxords = max_steps, mxordn, mxords
-    options.maxcor, options.msbp, options.mxncf = maxcor, msbp, mxncf
+    settings = dict(max_steps=max_steps, mxordn=mxordn, mxords=mxords, maxcor=maxcor, msbp=msbp, mxncf=mxncf)
+    for name, value in settings.items():
+        if value < 0:
+            raise ValueError(f"{name} is below 0")
+        setattr(options, name, min(value, 2**64 - 1))
     options.supplied = 0 if jac is None else 1
+    if first_step is not None and tend < t0:
+        first_step = -first_step
     for name, value in (("max_step", max_step), ("min_step", min_step), ("first_step", first_step)):
         if value is not None and value != float("inf"):
             setattr(options, "has_" + name, 1)
@@ -147,6 +176,20 @@ def solve_ivp(
     if not dense_output:
         result.sol = None
     return result
+
+
+def _derivative(f, n):
+    f = _list(f)
+    if len(f) != n:
+        raise calls.Refused(14, told=f"fun gave {len(f)} numbers, and {n} are wanted")
+    return f
+
+
+def _by_columns(jacobian, n):
+    rows = [_list(row) for row in _list(jacobian)]
+    if len(rows) != n or any(len(row) != n for row in rows):
+        raise calls.Refused(14, told=f"jac gave other than {n} rows of {n} numbers")
+    return [rows[i][j] for j in range(n) for i in range(n)]
 
 
 def _solve(fun, jac, t0, tend, y0, rtol, atol, options, t_eval, dense_output, report):
@@ -162,12 +205,9 @@ def _solve(fun, jac, t0, tend, y0, rtol, atol, options, t_eval, dense_output, re
     while not run.ended:
         asked, y = run.answer, run.y
         if asked.number == calls.DERIVATIVE_WANTED:
-            run.reply(calls.DERIVATIVE, _list(fun(asked.time, _state(y))))
+            run.reply(calls.DERIVATIVE, _derivative(fun(asked.time, _state(y)), n))
         elif asked.number == calls.JACOBIAN_WANTED:
-            rows = [_list(row) for row in _list(jac(asked.time, _state(y)))]
-            if len(rows) != n or any(len(row) != n for row in rows):
-                raise ValueError(f"jac must give {n} rows of {n} numbers")
-            run.reply(calls.JACOBIAN, [rows[i][j] for j in range(n) for i in range(n)])
+            run.reply(calls.JACOBIAN, _by_columns(jac(asked.time, _state(y)), n))
         else:
             kind = calls.CONTINUE
             if asked.number == calls.REPORT:
@@ -209,4 +249,5 @@ def _result(ended, sol, times, poses, counts, t_eval, dense_output, options, n):
         h=count("h"),
         counts=counts,
         cap=_cap(options, n),
+        jacobian_cap=max(options.mxncf, 1) + 9,
     )

@@ -40,8 +40,8 @@ _REFUSALS = {
 class Refused(ValueError):
     """A refusal of the library; `number` is the one of the refusals' table, `index` that of 9, 10 and 12."""
 
-    def __init__(self, number, index=0, value=0.0):
-        super().__init__(f"refused ({number}): " + _REFUSALS[number].format(index=index, value=value))
+    def __init__(self, number, index=0, value=0.0, told=None):
+        super().__init__(f"refused ({number}): " + (told or _REFUSALS[number].format(index=index, value=value)))
         self.number, self.index, self.value = number, index, value
 
 

@@ -2,11 +2,15 @@
 
 import math
 import os
+import subprocess
 import sys
+import tempfile
 import unittest
+import zipfile
 
 sys.path.insert(0, os.path.join(os.path.dirname(os.path.abspath(__file__)), ".."))
 
+import backend  # noqa: E402
 from raimsklo import Refused, Run, solve_ivp  # noqa: E402
 from raimsklo.library import LIBRARY  # noqa: E402
 
@@ -64,6 +68,22 @@ class Solves(unittest.TestCase):
         sol = solve_ivp(swing, (0, 10), [1, 0], dense_output=True, rtol=1e-8, atol=1e-10).sol
         self.assertAlmostEqual(sol(7.3)[0], math.cos(7.3), delta=1e-4)
         self.assertEqual(len(sol([1, 2, 3])[0]), 3)
+        self.assertEqual(list(sol(0)), [1.0, 0.0])
+
+    def test_no_pose_beyond_the_accepted_steps(self):
+        forward = solve_ivp(swing, (0, 10), [1, 0], dense_output=True, max_steps=3)
+        backward = solve_ivp(swing, (0, -10), [1, 0], dense_output=True, max_steps=3)
+        for result in (forward, backward):
+            sol, last = result.sol, result.t[-1]
+            self.assertEqual((sol.t_min, sol.t_max), (min(0.0, last), max(0.0, last)))
+            self.assertEqual(list(sol(last)), [row[-1] for row in result.y])
+            for beyond in (1.001 * last, -0.001 * last, math.nan, [0.0, 2 * last]):
+                with self.assertRaisesRegex(ValueError, "no pose at"):
+                    sol(beyond)
+        nothing = solve_ivp(swing, (1, 1), [1, 0], dense_output=True)
+        self.assertEqual(list(nothing.sol(1)), [1.0, 0.0])
+        with self.assertRaises(ValueError):
+            nothing.sol(2)
 
     def test_stiff(self):
         result = solve_ivp(van_der_pol, (0, 2000), [2, 0], rtol=1e-5, atol=1e-8)
@@ -80,6 +100,25 @@ class Solves(unittest.TestCase):
     def test_arguments(self):
         result = solve_ivp(lambda t, y, k: [-k * y[0]], (0, 1), [1], args=(2.0,), rtol=1e-8, atol=1e-10)
         self.assertAlmostEqual(result.y[0][-1], math.exp(-2), delta=1e-5)
+
+    def test_constant_jacobian(self):
+        # drawn to 1 and to cos t, the second state stiffly
+        fun, matrix = (lambda t, y: [1.0 - y[0], 1e5 * (math.cos(t) - y[1])]), [[-1.0, 0.0], [0.0, -1e5]]
+        given = [solve_ivp(fun, (0, 3), [0, 0], jac=jac, rtol=1e-6, atol=1e-9) for jac in (matrix, lambda t, y: matrix)]
+        self.assertGreater(given[0].njev, 0)
+        self.assertEqual([list(row) for row in given[0].y], [list(row) for row in given[1].y])
+        self.assertAlmostEqual(given[0].y[0][-1], 1.0 - math.exp(-3), delta=1e-4)
+        with self.assertRaisesRegex(Refused, r"\(14\): jac gave other than 2 rows of 2 numbers"):
+            solve_ivp(fun, (0, 3), [0, 0], jac=[[1.0, 2.0]], rtol=1e-6, atol=1e-9)
+
+    def test_step_sizes_in_either_direction(self):
+        for end in (1.0, -1.0):
+            result = solve_ivp(swing, (0, end), [1, 0], first_step=1e-3, max_step=0.01)
+            self.assertEqual(result.t[1], math.copysign(1e-3, end))
+            self.assertLessEqual(max(abs(b - a) for a, b in zip(result.t, result.t[1:])), 0.01 * (1 + 1e-12))
+            with self.assertRaises(Refused) as caught:
+                solve_ivp(swing, (0, end), [1, 0], first_step=-1e-3)
+            self.assertEqual(caught.exception.number, 11)
 
 
 class Answers(unittest.TestCase):
@@ -175,7 +214,10 @@ class Refusals(unittest.TestCase):
         self.refused(11, first_step=-1.0)
         self.refused(11, first_step=float("nan"))
         self.assertEqual(self.refused(12, rtol=0.0, atol=[1.0, 0.0]).index, 1)
-        self.refused(14, fun=lambda t, y: [0.0])
+        self.assertIn("fun gave 1 numbers, and 2 are wanted", str(self.refused(14, fun=lambda t, y: [0.0])))
+        self.refused(4, maxcor=2**70)
+        with self.assertRaisesRegex(ValueError, "mxncf is below 0"):
+            solve_ivp(swing, (0, 10), [1, 0], mxncf=-1)
 
     def test_refused_reply_changes_nothing(self):
         run = Run(0, 1, [1, 0], [1e-3], [1e-6], LIBRARY.raimsklo_defaults())
@@ -183,6 +225,20 @@ class Refusals(unittest.TestCase):
         with self.assertRaises(Refused):
             run.reply(3, run.y)
         self.assertEqual(before, [bytes(buffer) for buffer in (run._work, run._pivots, run._session, run._question)])
+
+
+class Installed(unittest.TestCase):
+    def test_wheel(self):
+        with tempfile.TemporaryDirectory() as folder:
+            with zipfile.ZipFile(os.path.join(folder, backend.build_wheel(folder))) as wheel:
+                wheel.extractall(folder)
+                recorded = wheel.read(f"raimsklo-{backend.VERSION}.dist-info/RECORD").decode().split()
+                self.assertEqual([line.split(",")[0] for line in recorded], wheel.namelist())
+            script = "import raimsklo; print(raimsklo.__file__, raimsklo.solve_ivp(lambda t, y: [-y[0]], (0, 1), [1]).end)"
+            told = subprocess.run(
+                [sys.executable, "-c", script], cwd=folder, env={"PYTHONPATH": folder}, check=True, capture_output=True, text=True
+            )
+            self.assertEqual(told.stdout, os.path.join(folder, "raimsklo", "__init__.py") + " success\n")
 
 
 if __name__ == "__main__":
