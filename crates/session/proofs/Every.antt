@@ -1,15 +1,16 @@
 -- A test of every index below an end, `every p e`, and a loop that is left at the first index that fails.
 --     every-again, every-fails, every-ends     the steps of a proof whose invariant is `for i e (andAt p) true ≡ r`
 --     every-halves, lost-for                   the test of all words in two runs, and the first of them failed
+--     run-again, run-fails, run-of-four        the same steps by a run of n indices, and what a run of four tests
 --     every-at, every-all                      every index passes, if and only if the test does
 -- Assumes nothing.
 use mathlib.Core.Path.{_≡_, refl, sym, _∙_}
-use mathlib.Core.Bool.{Bool, true, false}
+use mathlib.Core.Bool.{Bool, true, false, _&&_}
 use mathlib.Core.Logic.{⊎-elim}
 use Prim.Native.Nat.{ℕ, zero, suc, _+_, _-_, _≤_, _<_}
 use native.Mathlib.Omega.{arith}
-use native.Mathlib.Nat.{eq-or-lt-of-le}
-use Rattle.loops.specs.For.{for, times, onward, ended, stays, keeps}
+use native.Mathlib.Nat.{add-assoc, eq-or-lt-of-le}
+use Rattle.loops.specs.For.{for, times, turn, done, onward, ended, stays, keeps}
 use Rattle.session.specs.Session.{every, andAt}
 
 none : (i k : ℕ) → i ≤ k → k < i + 0 → ⊥
@@ -34,6 +35,31 @@ module _ (p : ℕ → Bool) where
 
   pub lost-for : (i e : ℕ) → for i e (andAt p) false ≡ false
   lost-for i e = stays (andAt p) i e false (λ k. refl)
+
+  -- a run of n indices first, then the others
+  parts : (n i e : ℕ) (ok : Bool) → i + n ≤ e
+      → for i e (andAt p) ok ≡ for (i + n) e (andAt p) (for i (i + n) (andAt p) ok)
+  parts zero i e ok h =
+      let z : i + 0 ≡ i = omega arith in
+      rw (z, done (andAt p) i i ok (omega arith))
+  parts (suc n) i e ok h =
+      let s : i + suc n ≡ i + 1 + n = omega arith in
+      rw (s, turn (andAt p) i e ok (omega arith), turn (andAt p) i (i + 1 + n) ok (omega arith))
+      (parts n (i + 1) e (ok && p i) (omega arith))
+
+  pub run-again : (n i e : ℕ) (r : Bool) → i + n ≤ e → for i (i + n) (andAt p) true ≡ true
+      → for i e (andAt p) true ≡ r → for (i + n) e (andAt p) true ≡ r
+  run-again n i e r h t q = rw (parts n i e true h, t) at q
+
+  pub run-fails : (n i e : ℕ) (r : Bool) → i + n ≤ e → for i (i + n) (andAt p) true ≡ false
+      → for i e (andAt p) true ≡ r → false ≡ r
+  run-fails n i e r h t q = sym (lost-for (i + n) e) ∙ (rw (parts n i e true h, t) at q)
+
+  pub run-of-four : (i : ℕ) → for i (i + 4) (andAt p) true ≡ (p i && p (i + 1) && p (i + 2) && p (i + 3))
+  unfolding times
+  run-of-four i =
+      let four : i + 4 - i ≡ 4 = omega arith in
+      simp (four, add-assoc)
 
   -- a test that failed stays so
   lost : (n i : ℕ) → times (andAt p) n i false ≡ false

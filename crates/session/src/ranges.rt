@@ -7,7 +7,7 @@ ghost use Rattle.loops.specs.For.{for};
 ghost use Rattle.fields.specs.Fields.{lowest, highest};
 ghost use Rattle.session.specs.Session.{every, andAt, wordInRange, oneOrN, listsInRange, ordersInRange};
 ghost use Rattle.session.specs.Session.{countersInRange, fieldsInRange};
-ghost use Rattle.session.specs.Session.{notNegative, tolerancesInRange, pivotsBelow};
+ghost use Rattle.session.specs.Session.{notNegative, tolerancesInRange, pivotBelow, pivotsBelow};
 use common::Common;
 use common::Settings;
 
@@ -130,11 +130,34 @@ pub fn tolerances(bytes: &[u8], s: Settings) -> bool
     not_negative(bytes, 117, s.natol)
 }
 
-// Whether each pivot is below n.
+// Whether the four pivots from index i on are below n.
+fn four_below(ipiv: &[usize], i: usize, n: usize) -> bool
+    requires { ⌜ i + 4 ≤ length (now ipiv) ⌝ }
+    ensures { λ r. ⌜ r ≡ for i (i + 4) (andAt (pivotBelow (now (ipiv .entry)) n)) true ⌝ }
+{
+    if ipiv[i] >= n {
+        return false;
+    }
+    if ipiv[i + 1] >= n {
+        return false;
+    }
+    if ipiv[i + 2] >= n {
+        return false;
+    }
+    ipiv[i + 3] < n
+}
+
+// Whether each pivot is below n: four at a time, then those that are left.
 pub fn pivots_below(ipiv: &[usize], n: usize) -> bool
     ensures { λ r. ⌜ r ≡ pivotsBelow (now (ipiv .entry)) n ⌝ }
 {
-    for i in 0..ipiv.len() {
+    let len = ipiv.len();
+    for k in 0..len / 4 {
+        if !four_below(ipiv, 4 * k, n) {
+            return false;
+        }
+    }
+    for i in len / 4 * 4..len {
         if ipiv[i] >= n {
             return false;
         }

@@ -1,50 +1,89 @@
--- `pivots_below` meets its contract. The invariant: the pivots that are left give what all give.
+-- `pivots_below` meets its contract. The invariant of both loops: the pivots that are left give what all give.
 -- Assumes nothing.
-use mathlib.Core.Path.{_≡_, refl}
+use mathlib.Core.Path.{_≡_, refl, sym, _∙_}
 use mathlib.Core.Bool.{true}
-use Prim.Native.Nat.{_-_}
+use Prim.Native.Nat.{_+_, _-_, _*_, _/_, _≤_}
 use native.Mathlib.Omega.{arith}
 use lib.ListN.{length}
-use borrow.Author.Tests.{lt-ltb, le-ltb}
+use borrow.Author.Tests.{lt-ltb, le-ltb, not-true, not-false}
 use Rattle.loops.specs.For.{for}
 use Rattle.session.specs.Session.{every, andAt, pivotBelow, pivotsBelow}
-use Rattle.session.proofs.Every.{every-again, every-fails, every-ends}
+use Rattle.session.proofs.Every.{every-again, every-fails, every-ends, run-again, run-fails}
 use Rattle.session.proofs.ranges.pivots_below.Statement.{statement}
 use Rattle.session.proofs.ranges.pivots_below.Tie as tie
 
 abbrev Inv-loop : tie.InvT-loop
-Inv-loop ipiv n i₀ i-end i =
-    (i-end ≡ length ipiv) × (for i (length ipiv) (andAt (pivotBelow ipiv n)) true ≡ pivotsBelow ipiv n)
+Inv-loop ipiv n len k₀ k-end k =
+    (k ≤ k-end) × (for (4 * k) (length ipiv) (andAt (pivotBelow ipiv n)) true ≡ pivotsBelow ipiv n)
 
 abbrev μ-loop : tie.MeasureT-loop
-μ-loop ipiv n i₀ i-end i = i-end - i
+μ-loop ipiv n len k₀ k-end k = k-end - k
 
-loop-holds : tie.Need-loop-holds Inv-loop μ-loop
+abbrev Inv-loop2 : tie.InvT-loop2
+Inv-loop2 ipiv n len i₀ i = for i (length ipiv) (andAt (pivotBelow ipiv n)) true ≡ pivotsBelow ipiv n
+
+abbrev μ-loop2 : tie.MeasureT-loop2
+μ-loop2 ipiv n len i₀ i = len - i
+
+loop-holds : tie.Need-loop-holds Inv-loop μ-loop Inv-loop2 μ-loop2
 unfolding every pivotsBelow
-loop-holds c = (refl, refl)
+loop-holds c = (omega arith, refl)
 
-mul-if1 : tie.Need-mul-if1 Inv-loop μ-loop
-mul-if1 c = omega arith
+mul-four-below : tie.Need-mul-four-below Inv-loop μ-loop Inv-loop2 μ-loop2
+mul-four-below c = omega arith
 
-shared-slice-read-if1 : tie.Need-shared-slice-read-if1 Inv-loop μ-loop
-shared-slice-read-if1 c = omega arith
+four-below-requires : tie.Need-four-below-requires Inv-loop μ-loop Inv-loop2 μ-loop2
+four-below-requires c κs = omega arith
 
-returns : tie.Need-returns Inv-loop μ-loop
-returns c = every-fails _ _ _ _ (omega arith) (le-ltb _ _ (c .if1 .taken)) (c .before .before .before .loop .inv .1)
+returns : tie.Need-returns Inv-loop μ-loop Inv-loop2 μ-loop2
+returns c =
+    let f = c .before in
+    let t = sym (f .four-below .ensures) ∙ not-true _ (c .if1 .taken) in
+    run-fails _ 4 _ _ _ (omega arith) t (f .before .before .loop .inv .1)
 
-add-i : tie.Need-add-i Inv-loop μ-loop
-add-i c = omega arith
+add-k : tie.Need-add-k Inv-loop μ-loop Inv-loop2 μ-loop2
+add-k c = omega arith
 
-loop-less : tie.Need-loop-less Inv-loop μ-loop
+loop-less : tie.Need-loop-less Inv-loop μ-loop Inv-loop2 μ-loop2
 loop-less c = omega arith
 
-loop-again : tie.Need-loop-again Inv-loop μ-loop
+loop-again : tie.Need-loop-again Inv-loop μ-loop Inv-loop2 μ-loop2
 loop-again c =
-    let l = c .before .before .before .loop in
-    (l .inv .0, every-again _ _ _ _ (omega arith) (lt-ltb _ _ (c .if1 .left)) (l .inv .1))
+    let f = c .before in
+    let l = f .before .before .loop in
+    let t = sym (f .four-below .ensures) ∙ not-false _ (c .if1 .left) in
+    let q : 4 * (l .k + 1) ≡ 4 * l .k + 4 = omega arith in
+    (omega arith, rw q (run-again _ 4 _ _ _ (omega arith) t (l .inv .1)))
 
-returns-2 : tie.Need-returns-2 Inv-loop μ-loop
-returns-2 c = every-ends _ _ _ _ (omega arith) (c .before .loop .inv .1)
+mul-i : tie.Need-mul-i Inv-loop μ-loop Inv-loop2 μ-loop2
+mul-i c = omega arith
+
+loop2-holds : tie.Need-loop2-holds Inv-loop μ-loop Inv-loop2 μ-loop2
+loop2-holds c =
+    let l = c .before .loop in
+    let q : 4 * l .k ≡ length (c .before .before .before .args .ipiv .now) / 4 * 4 = omega arith in
+    rw q at (l .inv .1)
+
+mul-if2 : tie.Need-mul-if2 Inv-loop μ-loop Inv-loop2 μ-loop2
+mul-if2 c = omega arith
+
+shared-slice-read-if2 : tie.Need-shared-slice-read-if2 Inv-loop μ-loop Inv-loop2 μ-loop2
+shared-slice-read-if2 c = omega arith
+
+returns-2 : tie.Need-returns-2 Inv-loop μ-loop Inv-loop2 μ-loop2
+returns-2 c = every-fails _ _ _ _ (omega arith) (le-ltb _ _ (c .if2 .taken)) (c .before .before .before .loop2 .inv)
+
+add-i : tie.Need-add-i Inv-loop μ-loop Inv-loop2 μ-loop2
+add-i c = omega arith
+
+loop2-less : tie.Need-loop2-less Inv-loop μ-loop Inv-loop2 μ-loop2
+loop2-less c = omega arith
+
+loop2-again : tie.Need-loop2-again Inv-loop μ-loop Inv-loop2 μ-loop2
+loop2-again c = every-again _ _ _ _ (omega arith) (lt-ltb _ _ (c .if2 .left)) (c .before .before .before .loop2 .inv)
+
+returns-3 : tie.Need-returns-3 Inv-loop μ-loop Inv-loop2 μ-loop2
+returns-3 c = every-ends _ _ _ _ (omega arith) (c .before .loop2 .inv)
 
 pub pivots-below-spec : {M : Type 1} → statement M
 pivots-below-spec =
@@ -52,11 +91,21 @@ pivots-below-spec =
     (tie.spec
     Inv-loop
     μ-loop
+    Inv-loop2
+    μ-loop2
     loop-holds
-    mul-if1
-    shared-slice-read-if1
+    mul-four-below
+    four-below-requires
     returns
-    add-i
+    add-k
     loop-less
     loop-again
-    returns-2)
+    mul-i
+    loop2-holds
+    mul-if2
+    shared-slice-read-if2
+    returns-2
+    add-i
+    loop2-less
+    loop2-again
+    returns-3)
