@@ -36,7 +36,7 @@ pub record Larger (a b r : Float) : Type 0 where
   pub one : (r ≡ a) ⊎ (r ≡ b)
   pub number : Number a → Number r
 
-itself : (x : Float) → NanOrLe x x
+pub itself : (x : Float) → NanOrLe x x
 itself x = ⊎-elim (λ e. inl e) (λ n. inr (le-refl x n)) (nan-or x)
 
 pub max-larger : (a b : Float) → Larger a b (maxOf a b)

@@ -1,4 +1,5 @@
 pub mod Laws
 pub mod Order
 pub mod Largest
+pub mod Maxima
 pub mod Examples

@@ -1,7 +1,9 @@
 -- The order of floats, signs, zeros and infinities included; a NaN stands in no order.
 --     Number, nan-or, lt-number      x is no NaN
 --     le-refl, le-of-lt, le-trans    the order
---     total                          of two numbers, one is below the other or the other is at most it
+--     total, lt-not-le               of two numbers, one is below the other or the other is at most it, and never both
+--     le-lt, lt-trans                the order, one side strict
+--     same                           two floats above 0 that fit are the same if each is at most the other
 -- Assumes nothing.
 use mathlib.Core.Path.{_≡_, refl, sym, _∙_}
 use mathlib.Core.Bool.{Bool, true, false, _&&_, _||_}
@@ -10,14 +12,16 @@ use Prim.Native.Nat.{ℕ, zero, suc, _+_, _*_, _≤_, _<_}
 use native.Mathlib.Nat.{zero-mul, zero-add, add-zero, add-comm, eq-or-lt-of-le}
 use native.Mathlib.Nat.{mul-le-mul-right, le-of-mul-le-mul-right}
 use native.Mathlib.Omega.{arith}
-use lib.Dec.{ltb, leb, eqb}
+use lib.Dec.{T, ltb, leb, eqb}
 use lib.Ieee as Ieee
-use lib.Ieee.{Float, nan, inf, fin, up, down, below, level}
+use lib.Ieee.{Float, nan, inf, fin, binary64, up, down, below, level}
 use lib.Ieee.Fits.{down-pos}
 use lib.Ieee.Compare.{differs-from-itself}
-use borrow.Author.Tests.{leb-true, leb-false, le-leb, lt-leb, lt-ltb, le-ltb, ltb-false}
+use borrow.Author.Tests.{leb-true, leb-false, le-leb, lt-leb, lt-ltb, le-ltb, ltb-true, ltb-false}
 use borrow.Author.Tests.{eq-eqb, ne-eqb, eqb-true, eqb-false, not-false}
 use Rattle.loops.specs.Test.{differs}
+use Rattle.numbers.specs.Float.{zeroF}
+use Rattle.numbers.proofs.Unique.{unique}
 
 -- ---- finite floats: ±a is at most ±b where one sum of magnitudes is at most another
 abbrev plus : Bool → ℕ → ℕ
@@ -195,3 +199,68 @@ total (fin s m e) (fin t n d) p q h =
     let b = n * up d * down e in
     let g = ltb-false (left s a t b) (right s a t b) (sym (below-is s a t b) ∙ h) in
     le-is t b s a ∙ le-leb (left t b s a) (right t b s a) (omega arith)
+
+pub lt-not-le : (x y : Float) → Ieee.lt x y ≡ true → Ieee.le y x ≡ true → ⊥
+unfolding Ieee.le Ieee.lt
+lt-not-le nan y h k = differs h
+lt-not-le (inf s) nan h k = differs h
+lt-not-le (inf true) (inf true) h k = differs h
+lt-not-le (inf true) (inf false) h k = differs k
+lt-not-le (inf false) (inf t) h k = differs h
+lt-not-le (inf true) (fin t n d) h k = differs k
+lt-not-le (inf false) (fin t n d) h k = differs h
+lt-not-le (fin s m e) nan h k = differs h
+lt-not-le (fin s m e) (inf true) h k = differs h
+lt-not-le (fin s m e) (inf false) h k = differs k
+lt-not-le (fin s m e) (fin t n d) h k =
+    let a = m * up e * down d in
+    let b = n * up d * down e in
+    let f = ltb-true (left s a t b) (right s a t b) (sym (below-is s a t b) ∙ h) in
+    let g = leb-true (left t b s a) (right t b s a) (sym (le-is t b s a) ∙ k) in
+    omega arith
+
+-- what is at least a number is a number
+le-number : (x y : Float) → Ieee.le x y ≡ true → Number y
+unfolding Ieee.le
+le-number x y h = go (nan-or y)
+  where
+    le-nan : (z : Float) → Ieee.le z nan ≡ false
+    le-nan nan = refl
+    le-nan (inf s) = refl
+    le-nan (fin s m e) = refl
+
+    go : (y ≡ nan) ⊎ Number y → Number y
+    go (inl e) = differs (sym (le-nan x) ∙ (rw e at h))
+    go (inr n) = n
+
+pub le-lt : (x y z : Float) → Number x → Ieee.le x y ≡ true → Ieee.lt y z ≡ true → Ieee.lt x z ≡ true
+le-lt x y z p h k = go (Ieee.lt x z) refl
+  where
+    go : (t : Bool) → Ieee.lt x z ≡ t → t ≡ true
+    go true q = refl
+    go false q = absurd (lt-not-le y z k (le-trans z x y (total x z p (lt-number y z k) q) h))
+
+pub lt-trans : (x y z : Float) → Number x → Ieee.lt x y ≡ true → Ieee.lt y z ≡ true → Ieee.lt x z ≡ true
+lt-trans x y z p h k = le-lt x y z p (le-of-lt x y h) k
+
+pub same : (x y : Float) → T (Ieee.fits binary64 x) → T (Ieee.fits binary64 y)
+    → Ieee.lt zeroF x ≡ true → Ieee.lt zeroF y ≡ true → Ieee.le x y ≡ true → Ieee.le y x ≡ true → x ≡ y
+unfolding Ieee.le Ieee.lt Ieee.ofBits
+same nan y f g p q h k = differs h
+same (inf s) nan f g p q h k = differs h
+same (inf true) (inf t) f g p q h k = differs p
+same (inf false) (inf true) f g p q h k = differs q
+same (inf false) (inf false) f g p q h k = refl
+same (inf true) (fin t n d) f g p q h k = differs p
+same (inf false) (fin t n d) f g p q h k = differs h
+same (fin s m e) nan f g p q h k = differs h
+same (fin s m e) (inf true) f g p q h k = differs q
+same (fin s m e) (inf false) f g p q h k = differs k
+same (fin true m e) (fin t n d) f g p q h k = differs p
+same (fin false m e) (fin true n d) f g p q h k = differs q
+same (fin false m e) (fin false n d) f g p q h k =
+    let a = m * up e * down d in
+    let b = n * up d * down e in
+    let l = leb-true (left false a false b) (right false a false b) (sym (le-is false a false b) ∙ h) in
+    let r = leb-true (left false b false a) (right false b false a) (sym (le-is false b false a) ∙ k) in
+    unique binary64 false m n e d f g (omega arith)

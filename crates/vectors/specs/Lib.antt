@@ -1,4 +1,5 @@
 pub mod Tolerance
 pub mod Norm
+pub mod Maxima
 pub mod Weights
 pub mod FirstStep

@@ -10,8 +10,11 @@ use Rattle.numbers.specs.Sign.{absOf}
 use Rattle.numbers.specs.Order.{maxOf}
 use Rattle.vectors.specs.declared.Norm.{Norm}
 
+abbrev pub entryOf : List Float → List Float → ℕ → Float
+entryOf v w i = absOf (getD v i nan) ⊗ getD w i nan
+
 abbrev pub normAt : List Float → List Float → ℕ → Float → Float
-normAt v w i norm = maxOf norm (absOf (getD v i nan) ⊗ getD w i nan)
+normAt v w i norm = maxOf norm (entryOf v w i)
 
 unfoldable pub vmnormOf : List Float → List Float → Norm
 vmnormOf v w = record { value = for 0 (length v) (normAt v w) zeroF }

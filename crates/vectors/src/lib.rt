@@ -6,7 +6,8 @@ ghost use lib.ListN.{length};
 ghost use lib.Ieee as Ieee;
 ghost use Rattle.numbers.specs.Order.{maxOf};
 ghost use Rattle.vectors.specs.Tolerance.{List1OrN, toleranceOf};
-ghost use Rattle.vectors.specs.Norm.{vmnormOf, rowOf, fnormOf};
+ghost use Rattle.vectors.specs.Norm.{entryOf, vmnormOf, rowAt, rowOf, fnormOf};
+ghost use Rattle.vectors.specs.Maxima.{fourAt, topOf, rowsAt, rowsOf, fourRowsAt};
 ghost use Rattle.vectors.specs.Weights.{ewsetOf, ewsetLikeOf, invertOf, outcomeOf};
 ghost use Rattle.vectors.specs.FirstStep.{largestRtolOf, relativeAt, relativeOf, toleranceUsedOf, initialStepOf};
 
@@ -44,16 +45,67 @@ fn larger(m: f64, x: f64) -> f64
     m
 }
 
+// |v|·w at index i.
+fn entry(v: &[f64], w: &[f64], i: usize) -> f64
+    requires { ⌜ (i < length (now v)) × (length (now v) ≤ length (now w)) ⌝ }
+    ensures { λ r. ⌜ r ≡ entryOf (now (v .entry)) (now (w .entry)) i ⌝ }
+{
+    numbers::abs(v[i]) * w[i]
+}
+
+// Four maxima or sums at once, each of its own entries: one chain through all entries would wait for each of them in turn.
+pub struct Four {
+    pub a: f64,
+    pub b: f64,
+    pub c: f64,
+    pub d: f64,
+}
+
+// The entries i to i + 3, each to its maximum.
+fn next_four(v: &[f64], w: &[f64], i: usize, m: Four) -> Four
+    requires { ⌜ (i + 4 ≤ length (now v)) × (length (now v) ≤ length (now w)) ⌝ }
+    requires { ⌜ (Ieee.ne (m .a) (m .a) ≡ false) × (Ieee.ne (m .b) (m .b) ≡ false) ⌝ }
+    requires { ⌜ (Ieee.ne (m .c) (m .c) ≡ false) × (Ieee.ne (m .d) (m .d) ≡ false) ⌝ }
+    ensures { λ r. ⌜ r ≡ fourAt (now (v .entry)) (now (w .entry)) i m ⌝ }
+{
+    let a = larger(m.a, entry(v, w, i));
+    let b = larger(m.b, entry(v, w, i + 1));
+    let c = larger(m.c, entry(v, w, i + 2));
+    let d = larger(m.d, entry(v, w, i + 3));
+    Four { a: a, b: b, c: c, d: d }
+}
+
+// The largest of the four.
+fn largest_of(m: Four) -> f64
+    requires { ⌜ (Ieee.ne (m .a) (m .a) ≡ false) × (Ieee.ne (m .c) (m .c) ≡ false) ⌝ }
+    ensures { λ r. ⌜ r ≡ topOf m ⌝ }
+{
+    larger(larger(m.a, m.b), larger(m.c, m.d))
+}
+
 // The largest |v|·w; NaN entries are skipped.
 pub fn vmnorm(v: &[f64], w: &[f64]) -> Norm
     requires { ⌜ length (now v) ≤ length (now w) ⌝ }
     ensures { λ r. ⌜ r ≡ vmnormOf (now (v .entry)) (now (w .entry)) ⌝ }
 {
-    let mut norm = 0.0;
-    for i in 0..v.len() {
-        norm = larger(norm, numbers::abs(v[i]) * w[i]);
+    let n = v.len();
+    let mut m = Four { a: 0.0, b: 0.0, c: 0.0, d: 0.0 };
+    for k in 0..n / 4 {
+        m = next_four(v, w, 4 * k, m);
+    }
+    let mut norm = largest_of(m);
+    for i in n / 4 * 4..n {
+        norm = larger(norm, entry(v, w, i));
     }
     Norm { value: norm }
+}
+
+// The sum of row i with entry j more, divided by its column's weight.
+fn add_entry(n: usize, a: &[f64], w: &[f64], i: usize, j: usize, sum: f64) -> f64
+    requires { ⌜ (i < n) × (j * n + n ≤ length (now a)) × (j < length (now w)) ⌝ }
+    ensures { λ r. ⌜ r ≡ rowAt n (now (a .entry)) (now (w .entry)) i j sum ⌝ }
+{
+    sum + numbers::abs(a[i + j * n]) / w[j]
 }
 
 // The sum of row i of the matrix, each entry divided by its column's weight.
@@ -63,9 +115,46 @@ fn row_sum(n: usize, a: &[f64], w: &[f64], i: usize) -> f64
 {
     let mut sum = 0.0;
     for j in 0..n {
-        sum = sum + numbers::abs(a[i + j * n]) / w[j];
+        sum = add_entry(n, a, w, i, j, sum);
     }
     sum
+}
+
+// The sums of the rows i to i + 3 with entry j more.
+fn add_entries(n: usize, a: &[f64], w: &[f64], i: usize, j: usize, s: Four) -> Four
+    requires { ⌜ (i + 4 ≤ n) × (j * n + n ≤ length (now a)) × (j < length (now w)) ⌝ }
+    ensures { λ r. ⌜ r ≡ rowsAt n (now (a .entry)) (now (w .entry)) i j s ⌝ }
+{
+    let b0 = add_entry(n, a, w, i, j, s.a);
+    let b1 = add_entry(n, a, w, i + 1, j, s.b);
+    let b2 = add_entry(n, a, w, i + 2, j, s.c);
+    let b3 = add_entry(n, a, w, i + 3, j, s.d);
+    Four { a: b0, b: b1, c: b2, d: b3 }
+}
+
+// The sums of the rows i to i + 3.
+fn row_sums(n: usize, a: &[f64], w: &[f64], i: usize) -> Four
+    requires { ⌜ (i + 4 ≤ n) × (n * n ≤ length (now a)) × (n ≤ length (now w)) ⌝ }
+    ensures { λ r. ⌜ r ≡ rowsOf n (now (a .entry)) (now (w .entry)) i ⌝ }
+{
+    let mut s = Four { a: 0.0, b: 0.0, c: 0.0, d: 0.0 };
+    for j in 0..n {
+        s = add_entries(n, a, w, i, j, s);
+    }
+    s
+}
+
+// The matrix norm with the rows i to i + 3 more.
+fn four_rows(n: usize, a: &[f64], w: &[f64], i: usize, an: f64) -> f64
+    requires { ⌜ (i + 4 ≤ n) × (n * n ≤ length (now a)) × (n ≤ length (now w)) ⌝ }
+    requires { ⌜ Ieee.ne an an ≡ false ⌝ }
+    ensures { λ r. ⌜ r ≡ fourRowsAt n (now (a .entry)) (now (w .entry)) i an ⌝ }
+{
+    let s = row_sums(n, a, w, i);
+    let an0 = larger(an, s.a * w[i]);
+    let an1 = larger(an0, s.b * w[i + 1]);
+    let an2 = larger(an1, s.c * w[i + 2]);
+    larger(an2, s.d * w[i + 3])
 }
 
 // The norm of a matrix of n columns that belongs to vmnorm.
@@ -74,7 +163,10 @@ pub fn fnorm_dense(n: usize, a: &[f64], w: &[f64]) -> Norm
     ensures { λ r. ⌜ r ≡ fnormOf n (now (a .entry)) (now (w .entry)) ⌝ }
 {
     let mut an = 0.0;
-    for i in 0..n {
+    for k in 0..n / 4 {
+        an = four_rows(n, a, w, 4 * k, an);
+    }
+    for i in n / 4 * 4..n {
         an = larger(an, row_sum(n, a, w, i) * w[i]);
     }
     Norm { value: an }

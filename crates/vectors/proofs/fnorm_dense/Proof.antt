@@ -1,11 +1,11 @@
--- `fnorm_dense` meets its contract. The invariant: the rows that are left give the whole norm, and it is no NaN so far.
+-- `fnorm_dense` meets its contract. The invariants: the rows that are left give the whole norm, and it is no NaN so far.
 -- Assumes nothing.
-use Prim.Native.Nat.{_-_}
+use Prim.Native.Nat.{_+_, _-_, _*_, _/_, _≤_}
 use mathlib.Core.Path.{_≡_, refl, ap}
 use native.Mathlib.Omega.{arith}
 use borrow.Author.Needs.{needs}
 use lib.Ieee.{Float}
-use Rattle.loops.specs.For.{for, again, ended}
+use Rattle.loops.specs.For.{for, again, again-four, ended}
 use Rattle.vectors.specs.Norm.{fnormAt, fnormOf}
 use Rattle.vectors.proofs.Order.{Number}
 use Rattle.vectors.proofs.Largest.{max-larger, zero-number}
@@ -13,44 +13,86 @@ use Rattle.vectors.proofs.fnorm_dense.Statement.{statement}
 use Rattle.vectors.proofs.fnorm_dense.Tie as tie
 
 abbrev Inv-loop : tie.InvT-loop
-Inv-loop n a w an₀ i₀ an i = Number an × (for i n (fnormAt n a w) an ≡ fnormOf n a w .value)
+Inv-loop n a w an₀ k₀ k-end an k =
+    (k-end ≡ n / 4) × (k ≤ n / 4) × Number an × (for (4 * k) n (fnormAt n a w) an ≡ fnormOf n a w .value)
 
 abbrev μ-loop : tie.MeasureT-loop
-μ-loop n a w an₀ i₀ an i = n - i
+μ-loop n a w an₀ k₀ k-end an k = k-end - k
 
-loop-holds : tie.Need-loop-holds Inv-loop μ-loop
+abbrev Inv-loop2 : tie.InvT-loop2
+Inv-loop2 n a w an₀ i₀ an i = Number an × (for i n (fnormAt n a w) an ≡ fnormOf n a w .value)
+
+abbrev μ-loop2 : tie.MeasureT-loop2
+μ-loop2 n a w an₀ i₀ an i = n - i
+
+loop-holds : tie.Need-loop-holds Inv-loop μ-loop Inv-loop2 μ-loop2
 unfolding fnormOf
-loop-holds c = (zero-number, refl)
+loop-holds c = (refl, omega arith, zero-number, refl)
 
-row-sum-requires : tie.Need-row-sum-requires Inv-loop μ-loop
-row-sum-requires c κs = search needs
+mul-four-rows : tie.Need-mul-four-rows Inv-loop μ-loop Inv-loop2 μ-loop2
+mul-four-rows c = omega arith
 
-mul-larger : tie.Need-mul-larger Inv-loop μ-loop
-mul-larger c = omega arith
+four-rows-requires : tie.Need-four-rows-requires Inv-loop μ-loop Inv-loop2 μ-loop2
+four-rows-requires c κs = search needs
 
-shared-slice-read-larger : tie.Need-shared-slice-read-larger Inv-loop μ-loop
-shared-slice-read-larger c = omega arith
+add-k : tie.Need-add-k Inv-loop μ-loop Inv-loop2 μ-loop2
+add-k c = omega arith
 
-larger-requires : tie.Need-larger-requires Inv-loop μ-loop
-larger-requires c κs = c .before .before .before .loop .inv .0
-
-add-i : tie.Need-add-i Inv-loop μ-loop
-add-i c = omega arith
-
-loop-less : tie.Need-loop-less Inv-loop μ-loop
+loop-less : tie.Need-loop-less Inv-loop μ-loop Inv-loop2 μ-loop2
 loop-less c = omega arith
 
-loop-again : tie.Need-loop-again Inv-loop μ-loop
+loop-again : tie.Need-loop-again Inv-loop μ-loop Inv-loop2 μ-loop2
 loop-again c =
-    let l = c .before .before .before .before in (
-      rw (c .larger .ensures) (max-larger _ _ .number (l .loop .inv .0)),
-      rw (c .larger .ensures, c .before .before .row-sum .ensures) (again _ _ _ _ _ (omega arith) (l .loop .inv .1)),
+    let s = c .before .before .before .before .before in
+    let l = c .before .before .loop in
+    let next : 4 * (l .k + 1) ≡ 4 * l .k + 4 = omega arith in
+    (
+      l .inv .0,
+      omega arith,
+      rw (c .four-rows .ensures)
+      (max-larger _ _ .number (max-larger _ _ .number (max-larger _ _ .number (max-larger _ _ .number (l .inv .2))))),
+      rw (next, c .four-rows .ensures) (again-four _ (4 * l .k) (s .args .n) _ _ (omega arith) (l .inv .3)),
     )
 
-returns : tie.Need-returns Inv-loop μ-loop
+mul-i : tie.Need-mul-i Inv-loop μ-loop Inv-loop2 μ-loop2
+mul-i c = omega arith
+
+loop2-holds : tie.Need-loop2-holds Inv-loop μ-loop Inv-loop2 μ-loop2
+loop2-holds c =
+    let l = c .before .loop in
+    let whole : 4 * l .k ≡ c .before .before .before .before .args .n / 4 * 4 = omega arith in
+    (l .inv .2, rw (← whole) (l .inv .3))
+
+row-sum-requires : tie.Need-row-sum-requires Inv-loop μ-loop Inv-loop2 μ-loop2
+row-sum-requires c κs = search needs
+
+mul-larger : tie.Need-mul-larger Inv-loop μ-loop Inv-loop2 μ-loop2
+mul-larger c = omega arith
+
+shared-slice-read-larger : tie.Need-shared-slice-read-larger Inv-loop μ-loop Inv-loop2 μ-loop2
+shared-slice-read-larger c = omega arith
+
+larger-requires : tie.Need-larger-requires Inv-loop μ-loop Inv-loop2 μ-loop2
+larger-requires c κs = search needs
+
+add-i : tie.Need-add-i Inv-loop μ-loop Inv-loop2 μ-loop2
+add-i c = omega arith
+
+loop2-less : tie.Need-loop2-less Inv-loop μ-loop Inv-loop2 μ-loop2
+loop2-less c = omega arith
+
+loop2-again : tie.Need-loop2-again Inv-loop μ-loop Inv-loop2 μ-loop2
+loop2-again c =
+    let l = c .before .before .before .before .loop2 .inv in
+    (
+      rw (c .larger .ensures) (max-larger _ _ .number (l .0)),
+      rw (c .larger .ensures, c .before .before .row-sum .ensures) (again _ _ _ _ _ (omega arith) (l .1)),
+    )
+
+returns : tie.Need-returns Inv-loop μ-loop Inv-loop2 μ-loop2
 unfolding fnormOf
 returns c =
-    ap (λ (x : Float). record { value = x }) (ended _ _ _ _ _ (omega arith) (c .before .loop .inv .1))
+    ap (λ (x : Float). record { value = x }) (ended _ _ _ _ _ (omega arith) (c .before .loop2 .inv .1))
 
 pub fnorm-dense-spec : {M : Type 1} → statement M
 fnorm-dense-spec =
@@ -58,12 +100,21 @@ fnorm-dense-spec =
     (tie.spec
     Inv-loop
     μ-loop
+    Inv-loop2
+    μ-loop2
     loop-holds
+    mul-four-rows
+    four-rows-requires
+    add-k
+    loop-less
+    loop-again
+    mul-i
+    loop2-holds
     row-sum-requires
     mul-larger
     shared-slice-read-larger
     larger-requires
     add-i
-    loop-less
-    loop-again
+    loop2-less
+    loop2-again
     returns)

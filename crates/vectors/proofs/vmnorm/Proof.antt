@@ -1,65 +1,114 @@
--- `vmnorm` meets its contract. The invariant: the entries that are left give the whole norm, and it is no NaN so far.
--- Assumes nothing.
-use Prim.Native.Nat.{_-_}
-use mathlib.Core.Path.{_≡_, refl, ap}
+-- `vmnorm` meets its contract. The invariants: the entries that are left give the whole norm, from the largest of the four and then from the
+-- one maximum. Assumes nothing.
+use Prim.Native.Nat.{_+_, _-_, _*_, _/_, _≤_}
+use mathlib.Core.Path.{_≡_, refl, sym, ap, _∙_}
 use native.Mathlib.Omega.{arith}
 use borrow.Author.Needs.{needs}
 use lib.ListN.{length}
 use lib.Ieee.{Float}
 use Rattle.loops.specs.For.{for, again, ended}
 use Rattle.vectors.specs.Norm.{normAt, vmnormOf}
+use Rattle.vectors.specs.Maxima.{topOf}
 use Rattle.vectors.proofs.Order.{Number}
-use Rattle.vectors.proofs.Largest.{max-larger, zero-number}
+use Rattle.vectors.proofs.Largest.{max-larger}
+use Rattle.vectors.proofs.Maxima.{AllClean, all-clean, top-zero, clean-number, top-number, four-clean, four-on}
 use Rattle.vectors.proofs.vmnorm.Statement.{statement}
 use Rattle.vectors.proofs.vmnorm.Tie as tie
 
 abbrev Inv-loop : tie.InvT-loop
-Inv-loop v w norm₀ i₀ i-end norm i =
-    (i-end ≡ length v) × Number norm × (for i (length v) (normAt v w) norm ≡ vmnormOf v w .value)
+Inv-loop v w n m₀ k₀ k-end m k =
+    (n ≡ length v) × (k-end ≡ length v / 4) × (k ≤ length v / 4) × AllClean m
+    × (for (4 * k) (length v) (normAt v w) (topOf m) ≡ vmnormOf v w .value)
 
 abbrev μ-loop : tie.MeasureT-loop
-μ-loop v w norm₀ i₀ i-end norm i = i-end - i
+μ-loop v w n m₀ k₀ k-end m k = k-end - k
 
-loop-holds : tie.Need-loop-holds Inv-loop μ-loop
+abbrev Inv-loop2 : tie.InvT-loop2
+Inv-loop2 v w n norm₀ i₀ norm i =
+    (n ≡ length v) × Number norm × (for i (length v) (normAt v w) norm ≡ vmnormOf v w .value)
+
+abbrev μ-loop2 : tie.MeasureT-loop2
+μ-loop2 v w n norm₀ i₀ norm i = n - i
+
+loop-holds : tie.Need-loop-holds Inv-loop μ-loop Inv-loop2 μ-loop2
 unfolding vmnormOf
-loop-holds c = (refl, zero-number, refl)
+loop-holds c = (refl, refl, omega arith, all-clean, rw top-zero)
 
-mul-abs : tie.Need-mul-abs Inv-loop μ-loop
-mul-abs c = omega arith
+mul-next-four : tie.Need-mul-next-four Inv-loop μ-loop Inv-loop2 μ-loop2
+mul-next-four c = omega arith
 
-shared-slice-read-abs : tie.Need-shared-slice-read-abs Inv-loop μ-loop
-shared-slice-read-abs c = omega arith
-
-abs-requires : tie.Need-abs-requires Inv-loop μ-loop
-abs-requires c κs = search needs
-
-mul-larger : tie.Need-mul-larger Inv-loop μ-loop
-mul-larger c = omega arith
-
-shared-slice-read-larger : tie.Need-shared-slice-read-larger Inv-loop μ-loop
-shared-slice-read-larger c = omega arith
-
-larger-requires : tie.Need-larger-requires Inv-loop μ-loop
-larger-requires c κs = c .before .before .before .before .loop .inv .1
-
-add-i : tie.Need-add-i Inv-loop μ-loop
-add-i c = omega arith
-
-loop-less : tie.Need-loop-less Inv-loop μ-loop
-loop-less c = omega arith
-
-loop-again : tie.Need-loop-again Inv-loop μ-loop
-loop-again c =
-    let l = c .before .before .before .before .before in (
-      l .loop .inv .0,
-      rw (c .larger .ensures) (max-larger _ _ .number (l .loop .inv .1)),
-      rw (c .larger .ensures, c .before .before .abs .ensures) (again _ _ _ _ _ (omega arith) (l .loop .inv .2)),
+next-four-requires : tie.Need-next-four-requires Inv-loop μ-loop Inv-loop2 μ-loop2
+next-four-requires c κs =
+    let p = c .before .loop .inv .3 in
+    (
+      (omega arith, omega arith),
+      ((clean-number _ (p .a), clean-number _ (p .b)), (clean-number _ (p .c), clean-number _ (p .d))),
     )
 
-returns : tie.Need-returns Inv-loop μ-loop
+add-k : tie.Need-add-k Inv-loop μ-loop Inv-loop2 μ-loop2
+add-k c = omega arith
+
+loop-less : tie.Need-loop-less Inv-loop μ-loop Inv-loop2 μ-loop2
+loop-less c = omega arith
+
+loop-again : tie.Need-loop-again Inv-loop μ-loop Inv-loop2 μ-loop2
+loop-again c =
+    let v = c .before .before .before .before .before .args .v .now in
+    let w = c .before .before .before .before .before .args .w .now in
+    let l = c .before .before .loop in
+    let next : 4 * (l .k + 1) ≡ 4 * l .k + 4 = omega arith in
+    (
+      l .inv .0,
+      l .inv .1,
+      omega arith,
+      rw (c .next-four .ensures) (four-clean v w (4 * l .k) (l .m) (l .inv .3)),
+      rw (next, c .next-four .ensures)
+      (four-on v w (4 * l .k) (l .m) (l .inv .3) (length v) _ (omega arith) (l .inv .4)),
+    )
+
+largest-of-requires : tie.Need-largest-of-requires Inv-loop μ-loop Inv-loop2 μ-loop2
+largest-of-requires c κs =
+    let p = c .before .loop .inv .3 in
+    (clean-number _ (p .a), clean-number _ (p .c))
+
+mul-i : tie.Need-mul-i Inv-loop μ-loop Inv-loop2 μ-loop2
+mul-i c = omega arith
+
+loop2-holds : tie.Need-loop2-holds Inv-loop μ-loop Inv-loop2 μ-loop2
+loop2-holds c =
+    let l = c .before .before .loop in
+    let e = length (c .before .before .before .before .before .args .v .now) in
+    let whole : 4 * l .k ≡ e / 4 * 4 = omega arith in
+    (
+      l .inv .0,
+      rw (c .largest-of .ensures) (top-number _ (l .inv .3)),
+      rw (c .largest-of .ensures, ← whole) (l .inv .4),
+    )
+
+entry-requires : tie.Need-entry-requires Inv-loop μ-loop Inv-loop2 μ-loop2
+entry-requires c κs = search needs
+
+larger-requires : tie.Need-larger-requires Inv-loop μ-loop Inv-loop2 μ-loop2
+larger-requires c κs = c .before .before .loop2 .inv .1
+
+add-i : tie.Need-add-i Inv-loop μ-loop Inv-loop2 μ-loop2
+add-i c = omega arith
+
+loop2-less : tie.Need-loop2-less Inv-loop μ-loop Inv-loop2 μ-loop2
+loop2-less c = omega arith
+
+loop2-again : tie.Need-loop2-again Inv-loop μ-loop Inv-loop2 μ-loop2
+loop2-again c =
+    let l = c .before .before .before .loop2 .inv in
+    (
+      l .0,
+      rw (c .larger .ensures) (max-larger _ _ .number (l .1)),
+      rw (c .larger .ensures, c .before .entry .ensures) (again _ _ _ _ _ (omega arith) (l .2)),
+    )
+
+returns : tie.Need-returns Inv-loop μ-loop Inv-loop2 μ-loop2
 unfolding vmnormOf
-returns c =
-    ap (λ (x : Float). record { value = x }) (ended _ _ _ _ _ (omega arith) (c .before .loop .inv .2))
+returns c = ap (λ (x : Float). record { value = x }) (ended _ _ _ _ _ (omega arith) (c .before .loop2 .inv .2))
 
 pub vmnorm-spec : {M : Type 1} → statement M
 vmnorm-spec =
@@ -67,14 +116,20 @@ vmnorm-spec =
     (tie.spec
     Inv-loop
     μ-loop
+    Inv-loop2
+    μ-loop2
     loop-holds
-    mul-abs
-    shared-slice-read-abs
-    abs-requires
-    mul-larger
-    shared-slice-read-larger
-    larger-requires
-    add-i
+    mul-next-four
+    next-four-requires
+    add-k
     loop-less
     loop-again
+    largest-of-requires
+    mul-i
+    loop2-holds
+    entry-requires
+    larger-requires
+    add-i
+    loop2-less
+    loop2-again
     returns)
