@@ -38,6 +38,21 @@
  *
  * Work is bounded: a step asks for at most (mxncf+12)*maxcor+7 derivatives, plus n for each Jacobian by differences, of which
  * there are at most mxncf+9.
+ *
+ * Example: y'' = -y from 0 to 10, every accepted step printed (examples/c/oscillator.c is the whole program).
+ *
+ *     double work[2*2 + 19*2], question[14*2 + 6], f[2], y0[2] = {1, 0}, rtol = 1e-6, atol = 1e-9;
+ *     size_t pivots[2], kind;
+ *     uint8_t session[1448];
+ *     raimsklo_answer a = raimsklo_start(0, 10, y0, 2, &rtol, 1, &atol, 1, raimsklo_defaults(),
+ *                                        work, 42, pivots, 2, session, 1448, question, 34);
+ *     while (a.number >= 100 && a.number < 110) {
+ *         f[0] = question[0], f[1] = question[1], kind = RAIMSKLO_CONTINUE;
+ *         if (a.number == RAIMSKLO_WANTS_DERIVATIVE) f[0] = question[1], f[1] = -question[0], kind = RAIMSKLO_DERIVATIVE;
+ *         if (a.number == RAIMSKLO_REPORT) printf("%g %g\n", a.time, question[0]);
+ *         a = raimsklo_reply(kind, f, 2, a.time, work, 42, pivots, 2, session, 1448, question, 34);
+ *     }
+ *     if (a.number != RAIMSKLO_SUCCESS) fprintf(stderr, "ended with %zu\n", a.number);
  */
 #ifndef RAIMSKLO_H
 #define RAIMSKLO_H
