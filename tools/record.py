@@ -102,7 +102,8 @@ def phases():
 def words():
     """(word, record, name, type, comment) of each field, in the order of the words: counts, flags and states, then floats.
 
-    The family's word stands before the counts of Common. In the struct it stands beside the flags, so that the record has one gap.
+    The family's word stands before the counts of Common. In the struct it stands beside the flags, so that the record
+    has one gap.
     """
     both = [("settings", *f) for f in fields("Settings")] + [("common", *f) for f in fields("Common")]
     both.sort(key=lambda f: (f[0] == "common", f[2] != "MethodFamily"))

@@ -1,4 +1,4 @@
-"""A plain SVG of curves: axes with round numbers, a legend, the counts with their caps, and below the axis a mark at each accepted step."""
+"""A plain SVG of curves: axes with round numbers, a legend, the counts with their caps, a mark at each accepted step."""
 
 import math
 
@@ -66,7 +66,8 @@ class Picture:
         for k, (what, seen, cap) in enumerate(self.counts):
             place = TOP + 40 + 22 * len(self.curves) + 38 * k
             out.append(f'<text x="{right + 14}" y="{place}" font-size="12">{what}</text>')
-            out.append(f'<text x="{right + 14}" y="{place + 15}" font-size="12" fill="#555">{seen:,} of at most {cap:,}</text>')
+            told = f"{seen:,} of at most {cap:,}"
+            out.append(f'<text x="{right + 14}" y="{place + 15}" font-size="12" fill="#555">{told}</text>')
         out.append(f'<path d="M{right + 20} {bottom + 4}v10m7 -10v10m7 -10v10" stroke="#333"/>')
         out.append(f'<text x="{right + 48}" y="{bottom + 14}">accepted steps</text>')
         return "\n".join(out + ["</svg>", ""])

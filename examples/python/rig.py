@@ -85,7 +85,8 @@ def main():
     folder = sys.argv[1] if len(sys.argv) > 1 else "."
     os.makedirs(folder, exist_ok=True)
     links = [0, 3, 7, 11]
-    good = show("tail", "A tail of twelve links", tail, [0.0] * 24, 4.0, [f"link {i + 1}" for i in links], links, folder)
+    names = [f"link {i + 1}" for i in links]
+    good = show("tail", "A tail of twelve links", tail, [0.0] * 24, 4.0, names, links, folder)
     start = [1.4, 1.4, 1.2, 1.0, 0.0, 0.0, 0.0, 0.0]
     good = show("hand", "A hanging hand", hand, start, 4.0, HAND, [0, 1, 2, 3], folder) and good
     return 0 if good else 1

@@ -1,4 +1,4 @@
-"""Makes the wheel that pip installs, with nothing but Python itself: the package's files and the shared library beside them.
+"""Makes the wheel that pip installs, by Python alone: the package's files and the shared library beside them.
 
     bash hosts/python/build && pip install hosts/python
 """
@@ -22,14 +22,14 @@ def _files():
             with open(os.path.join(folder, name), "rb") as file:
                 found[f"{NAME}/{name}"] = file.read()
     if f"{NAME}/lib{NAME}.so" not in found:
-        raise FileNotFoundError(f"lib{NAME}.so is not there: `bash hosts/python/build` makes it from the static library")
+        raise FileNotFoundError(f"lib{NAME}.so is not there: `bash hosts/python/build` makes it")
     return found
 
 
 def build_wheel(wheel_directory, config_settings=None, metadata_directory=None):
     tag = "py3-none-" + sysconfig.get_platform().replace("-", "_").replace(".", "_")
     about, files = f"{NAME}-{VERSION}.dist-info", _files()
-    files[f"{about}/METADATA"] = f"Metadata-Version: 2.1\nName: {NAME}\nVersion: {VERSION}\nLicense: Apache-2.0\n".encode()
+    files[f"{about}/METADATA"] = f"Metadata-Version: 2.1\nName: {NAME}\nVersion: {VERSION}\n".encode()
     files[f"{about}/WHEEL"] = f"Wheel-Version: 1.0\nGenerator: {NAME}\nRoot-Is-Purelib: false\nTag: {tag}\n".encode()
     record = ""
     for path, contents in files.items():

@@ -1,10 +1,11 @@
--- The maximum from +0 on does not depend on the order of the entries, so four maxima, each of its own entries, come to the same as one.
+-- The maximum from +0 on does not depend on the order of the entries, so four maxima, each of its own entries, come to
+-- the same as one.
 --     Clean, clean-max        +0, or a float of the format above 0: what a maximum from +0 on is
 --     swap, join              two entries in the other order; an entry given to the second of two maxima
 --     four-clean, four-top    the four after four more entries, and their largest
 --     four-on                 so that the norm's loop may go on from there
 -- Assumes nothing.
-use mathlib.Core.Path.{_≡_, refl, sym, ap, _∙_, subst}
+use mathlib.Core.Path.{_≡_, refl, sym, ap, _∙_}
 use mathlib.Core.Bool.{Bool, true, false, cond}
 use mathlib.Core.Logic.{_⊎_, inl, inr, ⊎-elim, ⊎-map}
 use mathlib.Core.List.{List}
@@ -22,7 +23,8 @@ use Rattle.numbers.specs.Order.{maxOf}
 use Rattle.vectors.specs.declared.Four.{Four}
 use Rattle.vectors.specs.Norm.{entryOf, normAt}
 use Rattle.vectors.specs.Maxima.{fourAt, topOf}
-use Rattle.vectors.proofs.Order.{Number, nan-or, le-refl, le-of-lt, lt-number, le-trans, total, lt-not-le, le-lt, lt-trans, same}
+use Rattle.vectors.proofs.Order.{Number, nan-or, le-refl, le-of-lt, lt-number, le-trans, total}
+use Rattle.vectors.proofs.Order.{lt-not-le, lt-trans, same}
 use Rattle.vectors.proofs.Largest.{NanOrLe, itself, zero-number}
 
 abbrev Fits : Float → Type 0
@@ -59,7 +61,8 @@ way : (m y : Float) → Number m → Taken m y (maxOf m y) ⊎ Kept m y (maxOf m
 unfolding maxOf
 way m y p = go (Ieee.lt m y) refl
   where
-    go : (t : Bool) → Ieee.lt m y ≡ t → Taken m y (cond t y (cond (Ieee.ne m m) y m)) ⊎ Kept m y (cond t y (cond (Ieee.ne m m) y m))
+    go : (t : Bool) → Ieee.lt m y ≡ t
+        → Taken m y (cond t y (cond (Ieee.ne m m) y m)) ⊎ Kept m y (cond t y (cond (Ieee.ne m m) y m))
     go true h = inl (record { less = h; is = refl })
     go false h = inr (record {
       bounds = ⊎-elim (λ e. inl e) (λ q. inr (total m y p q h)) (nan-or y);
@@ -185,8 +188,8 @@ module _ (m y z : Float) (p : Clean m) (f : Fits y) (g : Fits z) where
       go : (r ≡ m) ⊎ (((r ≡ y) ⊎ (r ≡ z)) × (Ieee.lt m r ≡ true))
           → (s ≡ m) ⊎ (((s ≡ y) ⊎ (s ≡ z)) × (Ieee.lt m s ≡ true)) → r ≡ s
       go (inl e) (inl d) = e ∙ sym d
-      go (inl e) (inr d) = absurd (lt-not-le m s (d .1) (subst (λ (x : Float). Ieee.le s x ≡ true) e (at-most s r (d .0) (d .1) a)))
-      go (inr e) (inl d) = absurd (lt-not-le m r (e .1) (subst (λ (x : Float). Ieee.le r x ≡ true) d (at-most r s (e .0) (e .1) b)))
+      go (inl e) (inr d) = absurd (lt-not-le m s (d .1) (rw e at (at-most s r (d .0) (d .1) a)))
+      go (inr e) (inl d) = absurd (lt-not-le m r (e .1) (rw d at (at-most r s (e .0) (e .1) b)))
       go (inr e) (inr d) =
           same r s (of-format r (e .0)) (of-format s (d .0)) (above m r p (e .1)) (above m s p (d .1))
           (at-most r s (e .0) (e .1) b) (at-most s r (d .0) (d .1) a)
@@ -220,7 +223,8 @@ unfolding maxOf Ieee.lt Ieee.ne Ieee.ofBits
 top-zero = refl
 
 pub top-number : (m : Four) → AllClean m → Number (topOf m)
-top-number m p = clean-number _ (clean-max _ _ (clean-max _ _ (p .a) (p .b .fits)) (clean-max _ _ (p .c) (p .d .fits) .fits))
+top-number m p =
+    clean-number _ (clean-max _ _ (clean-max _ _ (p .a) (p .b .fits)) (clean-max _ _ (p .c) (p .d .fits) .fits))
 
 module _ (a b c d y : Float) (A : Clean a) (B : Clean b) (C : Clean c) (D : Clean d) (f : Fits y) where
   AB : Clean (maxOf a b)
@@ -254,7 +258,7 @@ module _ (v w : List Float) (i : ℕ) (m : Four) (p : AllClean m) where
   }
 
   pub four-top : topOf (fourAt v w i m)
-      ≡ maxOf (maxOf (maxOf (maxOf (topOf m) (entryOf v w i)) (entryOf v w (i + 1))) (entryOf v w (i + 2))) (entryOf v w (i + 3))
+      ≡ normAt v w (i + 3) (normAt v w (i + 2) (normAt v w (i + 1) (normAt v w i (topOf m))))
   four-top =
       let q = four-clean in
       to-d _ _ _ _ _ (q .a) (q .b) (q .c) (p .d) (entry-fits v w (i + 3))

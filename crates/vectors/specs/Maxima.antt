@@ -1,4 +1,5 @@
--- Four at a time: how the code of `vmnorm` and of `fnorm_dense` goes through entries and rows. What they answer is in Norm.
+-- Four at a time: how the code of `vmnorm` and of `fnorm_dense` goes through entries and rows.
+-- What they answer is in Norm.
 use mathlib.Core.List.{List}
 use Prim.Native.Nat.{ℕ, _+_}
 use lib.Ieee.{Float}

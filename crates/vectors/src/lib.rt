@@ -53,7 +53,7 @@ fn entry(v: &[f64], w: &[f64], i: usize) -> f64
     numbers::abs(v[i]) * w[i]
 }
 
-// Four maxima or sums at once, each of its own entries: one chain through all entries would wait for each of them in turn.
+// Four maxima or sums at once, each of its own entries: one chain through all entries would wait for each in turn.
 pub struct Four {
     pub a: f64,
     pub b: f64,

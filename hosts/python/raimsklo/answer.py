@@ -1,8 +1,8 @@
 """Tolerances asked of the answer.
 
-A tolerance that the method is given bounds the error of one step, and over a run errors add up. Here a run is made again and again, each
-time with tighter tolerances, until it repeats the one before it within the tolerances asked, at every time that is handed out. Like the
-error of a step, this is an estimate.
+A tolerance that the method is given bounds the error of one step, and over a run errors add up. Here a run is made
+again and again, each time with tighter tolerances, until it repeats the one before it within the tolerances asked, at
+every time that is handed out. Like the error of a step, this is an estimate.
 """
 
 CUT = 10.0  # how much tighter each run is than the one before it
@@ -32,8 +32,8 @@ def _apart(result, before, rtol, atol):
 def within(solve, rtol, atol):
     """The first run that repeats the one before it within the tolerances, with what all the runs cost.
 
-    `solve(rtol, atol)` makes one run with its dense output. Where none repeats the one before, or a run does not come to its end, no
-    pose is handed out, since none was seen to be within the tolerances.
+    `solve(rtol, atol)` makes one run with its dense output. Where none repeats the one before, or a run does not come to
+    its end, no pose is handed out, since none was seen to be within the tolerances.
     """
     before, error, nfev, njev, nlu = None, None, 0, 0, 0
     for runs in range(1, RUNS + 1):

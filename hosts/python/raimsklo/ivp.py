@@ -74,7 +74,8 @@ class Result(dict):
     status      0 where the end was reached, -1 otherwise; success says the same
     end         the library's name of the end; number is its number
     nfev, njev, nlu, accepted, rejected, steps_total, h   the library's counts and last step size
-    counts      derivatives requested in each accepted step; cap: what no step can exceed; jacobian_cap: Jacobians that none can
+    counts      derivatives requested in each accepted step
+    cap         derivatives that no step can exceed; jacobian_cap: Jacobians that none can
 
     Where the tolerances were asked of the answer, nfev, njev and nlu are those of all the runs made, and there are
     runs        how many; the last had its tolerances divided by cut
@@ -126,10 +127,11 @@ def solve_ivp(
 ):
     """Solves y' = fun(t, y) over t_span, in the manner of scipy.integrate.solve_ivp(method="LSODA").
 
-    rtol and atol bound the error of each step, as scipy's do; over a run errors add up. With tolerances="answer" they are asked of the
-    poses handed out: the run is made again with tighter ones until it repeats itself within those asked (no report is called then).
-    jac(t, y) gives the Jacobian as rows, jac[i][j] = df_i/dy_j; a matrix stands for one that is constant; without it the Jacobian is
-    taken by differences. max_step, min_step and first_step are sizes, above 0 in either direction of time.
+    rtol and atol bound the error of each step, as scipy's do; over a run errors add up. With tolerances="answer" they
+    are asked of the poses handed out: the run is made again with tighter ones until it repeats itself within those asked
+    (no report is called then).
+    jac(t, y) gives the Jacobian as rows, jac[i][j] = df_i/dy_j; a matrix stands for one that is constant; without it the
+    Jacobian is taken by differences. max_step, min_step and first_step are sizes, above 0 in either direction of time.
     report(previous, t, y, count) is called after each accepted step; True interrupts the run.
     Bad input raises Refused with the library's number, and what a callback raises ends the run.
     """

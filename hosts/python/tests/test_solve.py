@@ -147,7 +147,8 @@ class Answers(unittest.TestCase):
         self.assertAlmostEqual(result.sol(5.0)[0], math.cos(5.0), delta=1e-3)
 
     def test_no_pose_where_they_are_not_met(self):
-        result = solve_ivp(swing, (0, 10), [1, 0], rtol=0.0, atol=1e-6, tolerances="answer", max_steps=2000, dense_output=True)
+        asked = dict(rtol=0.0, atol=1e-6, tolerances="answer")
+        result = solve_ivp(swing, (0, 10), [1, 0], max_steps=2000, dense_output=True, **asked)
         self.assertEqual((result.success, result.status, result.end), (False, -1, "needs more steps"))
         self.assertEqual((len(result.t), [len(row) for row in result.y], result.sol), (0, [0, 0], None))
         self.assertGreater(result.error, 1.0)
@@ -177,7 +178,8 @@ class Ends(unittest.TestCase):
         self.assertGreater(result.t[-1], 1)
 
     def test_poor(self):
-        result = solve_ivp(lambda t, y: [float(len(bin(hash((t, y[0]))))) * 1e12 * math.sin(1e6 * t)], (0, 1), [0.0], min_step=0.5)
+        wild = lambda t, y: [float(len(bin(hash((t, y[0]))))) * 1e12 * math.sin(1e6 * t)]  # noqa: E731
+        result = solve_ivp(wild, (0, 1), [0.0], min_step=0.5)
         self.assertIn(result.end, ("poor convergence", "step too small"))
 
     def test_callback_raises(self):
@@ -234,11 +236,10 @@ class Installed(unittest.TestCase):
                 wheel.extractall(folder)
                 recorded = wheel.read(f"raimsklo-{backend.VERSION}.dist-info/RECORD").decode().split()
                 self.assertEqual([line.split(",")[0] for line in recorded], wheel.namelist())
-            script = "import raimsklo; print(raimsklo.__file__, raimsklo.solve_ivp(lambda t, y: [-y[0]], (0, 1), [1]).end)"
-            told = subprocess.run(
-                [sys.executable, "-c", script], cwd=folder, env={"PYTHONPATH": folder}, check=True, capture_output=True, text=True
-            )
-            self.assertEqual(told.stdout, os.path.join(folder, "raimsklo", "__init__.py") + " success\n")
+            script = "import raimsklo as r; print(r.__file__, r.solve_ivp(lambda t, y: [-y[0]], (0, 1), [1]).end)"
+            command = [sys.executable, "-c", script]
+            told = subprocess.run(command, cwd=folder, env={"PYTHONPATH": folder}, check=True, capture_output=True).stdout
+            self.assertEqual(told.decode(), os.path.join(folder, "raimsklo", "__init__.py") + " success\n")
 
 
 if __name__ == "__main__":

@@ -1,5 +1,5 @@
--- `fnorm_dense` meets its contract. The invariants: the rows that are left give the whole norm, and it is no NaN so far.
--- Assumes nothing.
+-- `fnorm_dense` meets its contract. The invariants: the rows that are left give the whole norm, and it is no NaN so
+-- far. Assumes nothing.
 use Prim.Native.Nat.{_+_, _-_, _*_, _/_, _≤_}
 use mathlib.Core.Path.{_≡_, refl, ap}
 use native.Mathlib.Omega.{arith}

@@ -44,7 +44,8 @@ larger-requires-3 : tie.Need-larger-requires-3
 larger-requires-3 c κs =
     let m = c .before .before in
     let l = m .before .before .before in
-    rw (m .larger2 .ensures, l .larger .ensures) (max-larger _ _ .number (max-larger _ _ .number (l .before .before .before .before .before .before .pre .1)))
+    let p = l .before .before .before .before .before .before .pre in
+    rw (m .larger2 .ensures, l .larger .ensures) (max-larger _ _ .number (max-larger _ _ .number (p .1)))
 
 add-larger-3 : tie.Need-add-larger-3
 add-larger-3 c = search needs
@@ -60,8 +61,9 @@ larger-requires-4 c κs =
     let o = c .before .before in
     let m = o .before .before .before in
     let l = m .before .before .before in
+    let p = l .before .before .before .before .before .before .pre in
     rw (o .larger3 .ensures, m .larger2 .ensures, l .larger .ensures)
-    (max-larger _ _ .number (max-larger _ _ .number (max-larger _ _ .number (l .before .before .before .before .before .before .pre .1))))
+    (max-larger _ _ .number (max-larger _ _ .number (max-larger _ _ .number (p .1))))
 
 returns : tie.Need-returns
 returns c =

@@ -1,4 +1,5 @@
--- `row_sums` meets its contract. The invariant: of each row, the columns that are left give the whole sum. Assumes nothing.
+-- `row_sums` meets its contract. The invariant: of each row, the columns that are left give the whole sum.
+-- Assumes nothing.
 use Prim.Native.Nat.{_+_, _-_}
 use mathlib.Core.Path.{_≡_, refl}
 use native.Mathlib.Omega.{arith}

@@ -1,5 +1,5 @@
--- `vmnorm` meets its contract. The invariants: the entries that are left give the whole norm, from the largest of the four and then from the
--- one maximum. Assumes nothing.
+-- `vmnorm` meets its contract. The invariants: the entries that are left give the whole norm, from the largest of the
+-- four and then from the one maximum. Assumes nothing.
 use Prim.Native.Nat.{_+_, _-_, _*_, _/_, _≤_}
 use mathlib.Core.Path.{_≡_, refl, sym, ap, _∙_}
 use native.Mathlib.Omega.{arith}
