@@ -158,7 +158,9 @@ fn settle(s: Settings, turn: Turn, work: &[f64], bytes: &mut [u8], question: &mu
     }
     let c = turn.common;
     let phase = turn.phase;
-    session::encode(Session { settings: s, common: c, phase: phase }, bytes);
+    let x = Session { settings: s, common: c, phase: phase };
+    session::encode_counts(x, bytes);
+    session::encode_floats(x, bytes);
     write_question(s, c, phase, work, question);
     answers::answer(q)
 }

@@ -21,8 +21,14 @@ use Rattle.fields.specs.Fields.{countsOf, floatsOf, sessionOf, lowest, highest,
 
 -- ---- record and tolerances
 
+abbrev pub encodeCountsOf : Session → List ℕ → List ℕ
+encodeCountsOf x bytes = putCountsOf (countsOf x) bytes
+
+abbrev pub encodeFloatsOf : Session → List ℕ → List ℕ
+encodeFloatsOf x bytes = putFloatsOf 34 19 (floatsOf x) bytes
+
 unfoldable pub encodeOf : Session → List ℕ → List ℕ
-encodeOf x bytes = putFloatsOf 34 19 (floatsOf x) (putCountsOf (countsOf x) bytes)
+encodeOf x bytes = encodeFloatsOf x (encodeCountsOf x bytes)
 
 unfoldable pub decodeOf : List ℕ → Session
 decodeOf bytes = sessionOf (countsIn bytes) (floatsIn bytes 34 19)

@@ -6,7 +6,8 @@ ghost use mathlib.Core.Bool.{Bool};
 ghost use Prim.Native.Nat.{_+_, _*_, _≤_};
 ghost use lib.ListN.{length};
 ghost use Rattle.words.specs.Words.{countsIn};
-ghost use Rattle.session.specs.Session.{encodeOf, decodeOf, putTolerancesOf, rtolFirst, atolFirst};
+ghost use Rattle.session.specs.Session.{encodeCountsOf, encodeFloatsOf, decodeOf};
+ghost use Rattle.session.specs.Session.{putTolerancesOf, rtolFirst, atolFirst};
 ghost use Rattle.session.specs.Session.{storedN, finishedIn, inRangeOf};
 
 mod ranges;
@@ -16,14 +17,21 @@ use turns::Session;
 // The bytes of a session: 181 words.
 pub const LENGTH: usize = 1448;
 
-// The record, written to words 0 to 52; the tolerances stay as they are.
-pub fn encode(x: Session, bytes: &mut [u8])
+// The record's counts, flags and states, written to words 0 to 33.
+pub fn encode_counts(x: Session, bytes: &mut [u8])
     requires { ⌜ 1448 ≤ length (now bytes) ⌝ }
-    ensures { λ _. ⌜ now (bytes .exit) ≡ encodeOf x (now (bytes .entry)) ⌝ }
+    ensures { λ _. ⌜ now (bytes .exit) ≡ encodeCountsOf x (now (bytes .entry)) ⌝ }
 {
     let u = fields::counts(x);
-    let f = fields::floats(x);
     words::put_counts(bytes, &u);
+}
+
+// Its floats, written to words 34 to 52. Both stand apart because each is short enough to be compiled in place.
+pub fn encode_floats(x: Session, bytes: &mut [u8])
+    requires { ⌜ 1448 ≤ length (now bytes) ⌝ }
+    ensures { λ _. ⌜ now (bytes .exit) ≡ encodeFloatsOf x (now (bytes .entry)) ⌝ }
+{
+    let f = fields::floats(x);
     words::put_floats(bytes, 34, 19, &f);
 }
 

@@ -38,7 +38,9 @@ fn keep(s: Settings, c: Common, rtol: &[f64], atol: &[f64], bytes: &mut [u8])
     requires { ⌜ 1448 ≤ length (now bytes) ⌝ }
     ensures { λ _. ⌜ now (bytes .exit) ≡ keptOf s c (now (rtol .entry)) (now (atol .entry)) (now (bytes .entry)) ⌝ }
 {
-    session::encode(Session { settings: s, common: c, phase: Phase::FirstDerivative }, bytes);
+    let x = Session { settings: s, common: c, phase: Phase::FirstDerivative };
+    session::encode_counts(x, bytes);
+    session::encode_floats(x, bytes);
     session::put_tolerances(rtol, atol, bytes);
 }
 

@@ -2,6 +2,7 @@
 use mathlib.Core.Path.{sym, _∙_}
 use Prim.Native.Nat.{_-_}
 use borrow.Author.Needs.{needs}
+use Rattle.session.specs.Session.{encodeOf}
 use Rattle.replies.specs.Replies.{settledOf}
 use Rattle.replies.proofs.settle.Statement.{statement}
 use Rattle.replies.proofs.settle.Tie as tie
@@ -16,8 +17,11 @@ returns : tie.Need-returns
 unfolding settledOf
 returns c = rw (sym (c .before .before .is-unasked .ensures) ∙ c .before .if1 .taken, c .answer .ensures)
 
-encode-requires : tie.Need-encode-requires
-encode-requires c κs = search needs
+encode-counts-requires : tie.Need-encode-counts-requires
+encode-counts-requires c κs = search needs
+
+encode-floats-requires : tie.Need-encode-floats-requires
+encode-floats-requires c κs = search needs
 
 write-question-requires : tie.Need-write-question-requires
 write-question-requires c κs = search needs
@@ -32,14 +36,18 @@ same-length-2 : tie.Need-same-length-2
 same-length-2 c = search needs
 
 returns-2 : tie.Need-returns-2
-unfolding settledOf
+unfolding settledOf encodeOf
 returns-2 c =
-    let c6 = c .before .before .before .before .before .before in
+    let w = c .before .before .before in
+    let f = w .before .before .before .before in
+    let e = f .before .before .before .before in
+    let i = e .before .before .before in
     rw (
-      sym (c6 .before .before .before .before .before .is-unasked .ensures) ∙ c6 .before .before .before .before .if1 .left,
+      sym (i .before .is-unasked .ensures) ∙ i .if1 .left,
       c .answer2 .ensures,
-      c .before .before .before .write-question .ensures,
-      c6 .before .encode .ensures,
+      w .write-question .ensures,
+      f .encode-floats .ensures,
+      e .encode-counts .ensures,
     )
 
 pub settle-spec : {M : Type 1} → statement M
@@ -49,7 +57,8 @@ settle-spec =
     is-unasked-requires
     answer-requires
     returns
-    encode-requires
+    encode-counts-requires
+    encode-floats-requires
     write-question-requires
     answer-requires-2
     same-length

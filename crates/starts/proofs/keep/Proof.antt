@@ -1,12 +1,16 @@
 -- `keep` meets its contract. Assumes nothing.
 use Prim.Native.Nat.{_-_}
 use borrow.Author.Needs.{needs}
+use Rattle.session.specs.Session.{encodeOf}
 use Rattle.starts.specs.Starts.{keptOf}
 use Rattle.starts.proofs.keep.Statement.{statement}
 use Rattle.starts.proofs.keep.Tie as tie
 
-encode-requires : tie.Need-encode-requires
-encode-requires c κs = search needs
+encode-counts-requires : tie.Need-encode-counts-requires
+encode-counts-requires c κs = search needs
+
+encode-floats-requires : tie.Need-encode-floats-requires
+encode-floats-requires c κs = search needs
 
 put-tolerances-requires : tie.Need-put-tolerances-requires
 put-tolerances-requires c κs = search needs
@@ -15,12 +19,15 @@ same-length : tie.Need-same-length
 same-length c = search needs
 
 returns : tie.Need-returns
-unfolding keptOf
+unfolding keptOf encodeOf
 returns c =
+    let p = c .before .before in
+    let f = p .before .before .before .before in
     rw (
-      c .before .before .put-tolerances .ensures,
-      c .before .before .before .before .before .before .encode .ensures,
+      p .put-tolerances .ensures,
+      f .encode-floats .ensures,
+      f .before .before .before .before .encode-counts .ensures,
     )
 
 pub keep-spec : {M : Type 1} → statement M
-keep-spec = tie.close (tie.spec encode-requires put-tolerances-requires same-length returns)
+keep-spec = tie.close (tie.spec encode-counts-requires encode-floats-requires put-tolerances-requires same-length returns)
