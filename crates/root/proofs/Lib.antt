@@ -4,3 +4,4 @@ pub mod Examples
 pub mod Unsigned
 pub mod Patterns
 pub mod Monotone
+pub mod Room

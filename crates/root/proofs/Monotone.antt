@@ -1,7 +1,7 @@
 -- The k-fold product, each rounded, grows with the candidate's pattern. So the kept bits are the largest pattern whose
 -- product is at most x, and the root is the largest such float, products that underflow or overflow included.
 --     product-unsigned, product-mono    no product is a NaN, and a larger pattern has no smaller product
---     largest, only, passes-last        what `bitsOf` finds; no other pattern passes whose next one does not
+--     largest                           what `bitsOf` finds
 --     fails-beyond                      from infinity's pattern on, where the NaNs lie, none passes
 --     root-is, largest-float            the same of the root
 -- They hold for every x that is finite and above 0, which is `positive x`. Assumes nothing.
@@ -16,7 +16,6 @@ use lib.Dec.{T}
 use lib.Ieee.{Float, nan, inf, fin, binary64, ofBits, toBits, fits, mul, le, lt}
 use lib.Ieee.Bits.{is-true, ofBits-toBits}
 use lib.Ieee.Positive.{positive}
-use borrow.Author.Tests.{not-true}
 use Rattle.loops.specs.Test.{differs}
 use Rattle.loops.specs.For.{times, stays}
 use Rattle.numbers.proofs.Bits.{past-infinity}
@@ -155,24 +154,6 @@ largest x k p =
       reached = s .here;
       passed = λ b l h. fails-is x k p b h ∙ ap not (s .beyond b (omega arith) h);
     }
-
--- however it is found: a pattern that passes and whose next one does not is the one
-pub only : (x : Float) (k r : ℕ) → T (positive x) → r < infinityBits → le (productOf k r) x ≡ true
-    → lt x (productOf k (r + 1)) ≡ true → r ≡ bitsOf x k
-only x k r p f h l =
-    let b = bitsOf x k in
-    let s = searched x k p in
-    let fails : passes x k (r + 1) ≡ false = not-true _ (sym (fails-is x k p (r + 1) (omega arith)) ∙ l) in
-    let not-below : ¬ (b < r) = λ g. differs (sym (s .beyond r (omega arith) (omega arith)) ∙ h) in
-    let top : b < infinityBits = largest x k p .finite in
-    let not-above : ¬ (r < b) =
-    λ g. differs (sym (fails-above x k p (r + 1) b (omega arith) (omega arith) fails) ∙ s .here) in
-    omega arith
-
--- the same by the test that the search makes
-pub passes-last : (x : Float) (k r : ℕ) → T (positive x) → r < infinityBits → le (productOf k r) x ≡ true
-    → le (productOf k (r + 1)) x ≡ false → r ≡ bitsOf x k
-passes-last x k r p f h n = only x k r p f h (fails-is x k p (r + 1) (omega arith) ∙ ap not n)
 
 -- ---- the root itself
 pub root-is : (x : Float) (k : ℕ) → T (positive x) → 2 ≤ k → k ≤ 13

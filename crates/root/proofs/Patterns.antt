@@ -1,14 +1,14 @@
 -- The patterns up to infinity's are the floats without a sign, in their order.
 --     value                     a pattern below infinity's is the float of size `unitsOf`, in units of 2^-1074
---     units-mono, units-next    a larger pattern has no smaller size, the next one's at most one in 2^52 more
+--     units-mono                a larger pattern has no smaller size
 --     bits-zero, bits-positive, bits-infinity    +0's pattern, those of the positive floats, and infinity's
 --     bits-unsigned, bits-le, bits-of            no sign, the order, and the pattern of a float without a sign
 -- Assumes nothing.
 use mathlib.Core.Path.{_≡_, refl, sym, ap, _∙_}
 use mathlib.Core.Bool.{true, false}
 use mathlib.Core.Logic.{inl, inr}
-use Prim.Native.Nat.{ℕ, zero, suc, _+_, _-_, _*_, _/_, _%_, _^_, _≤_, _<_}
-use native.Mathlib.Nat.{mod-eq-of-lt, suc-mul, mul-one, pow-succ', eq-or-lt-of-le}
+use Prim.Native.Nat.{ℕ, zero, suc, _+_, _*_, _/_, _%_, _^_, _≤_, _<_}
+use native.Mathlib.Nat.{mod-eq-of-lt, mul-one, pow-succ', eq-or-lt-of-le}
 use native.Mathlib.Nat.{mul-le-mul-left, mul-le-mul-right, mul-lt-mul-of-pos-right}
 use native.Mathlib.Omega.{arith}
 use lib.IntN.{pos}
@@ -69,37 +69,6 @@ units-mono a b h =
 units-one : unitsOf 1 ≡ 1
 unfolding unitsOf
 units-one = refl
-
--- above the smallest normal float, the next pattern's is larger by at most one in 2^52
-next-field : (x t : ℕ) → fieldUnits (suc x) (t + 1) ≡ fieldUnits (suc x) t + 2 ^ x
-unfolding fieldUnits
-next-field x t =
-    let s : 2 ^ 52 + (t + 1) ≡ suc (2 ^ 52 + t) = omega arith in
-    rw s (suc-mul (2 ^ 52 + t) (2 ^ x))
-
-next-exponent : (x : ℕ) → fieldUnits (suc (suc x)) 0 ≡ fieldUnits (suc x) (2 ^ 52 - 1) + 2 ^ x
-unfolding fieldUnits
-next-exponent x = omega (arith, pow-succ' 2 x)
-
-pub units-next : (b : ℕ) → 2 ^ 52 ≤ b → unitsOf (b + 1) * 2 ^ 52 ≤ unitsOf b * (2 ^ 52 + 1)
-units-next b h = unfold unitsOf in go (b / 2 ^ 52) (b % 2 ^ 52) refl refl
-  where
-    go : (x t : ℕ) → b / 2 ^ 52 ≡ x → b % 2 ^ 52 ≡ t
-        → fieldUnits ((b + 1) / 2 ^ 52) ((b + 1) % 2 ^ 52) * 2 ^ 52 ≤ fieldUnits x t * (2 ^ 52 + 1)
-    go zero t p q = absurd (omega arith)
-    go (suc x) t p q =
-        let l : t + 1 ≤ 2 ^ 52 = omega arith in
-        elim (eq-or-lt-of-le l) [
-          | inl e ↦
-              let u : (b + 1) / 2 ^ 52 ≡ suc (suc x) = omega arith in
-              let v : (b + 1) % 2 ^ 52 ≡ 0 = omega arith in
-              let w : t ≡ 2 ^ 52 - 1 = omega arith in
-              rw (u, v, w) (omega (arith, next-exponent x, field-from x (2 ^ 52 - 1)))
-          | inr g ↦
-              let u : (b + 1) / 2 ^ 52 ≡ suc x = omega arith in
-              let v : (b + 1) % 2 ^ 52 ≡ t + 1 = omega arith in
-              rw (u, v) (omega (arith, next-field x t, field-from x t))
-        ]
 
 -- ---- zero, the positive floats, infinity
 pub bits-zero : ofBits binary64 0 ≡ fin false 0 (pos 0)

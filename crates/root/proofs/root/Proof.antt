@@ -2,8 +2,10 @@
 use native.Mathlib.Omega.{arith}
 use lib.Ieee.{nanBits}
 use borrow.Author.Needs.{needs}
-use Rattle.numbers.proofs.Bits.{zero-over-zero}
+use Rattle.numbers.proofs.Bits.{to-infinity, zero-over-zero}
+use Rattle.root.specs.Root.{bitsOf}
 use Rattle.root.proofs.Cases.{accepted, too-low, too-high, of-zero, of-infinity, of-positive, of-other, is-positive}
+use Rattle.root.proofs.Monotone.{largest}
 use Rattle.root.proofs.root.Statement.{statement}
 use Rattle.root.proofs.root.Tie as tie
 
@@ -31,26 +33,27 @@ returns-4 c =
     let a = c .before .before .before .before .args in
     rw (accepted (a .x) (a .k) (omega arith) (omega arith), ← of-infinity (a .x) (a .k) (c .if4 .taken))
 
-guess-requires : tie.Need-guess-requires
-guess-requires c κs = (omega arith, omega arith)
+root-bits-requires : tie.Need-root-bits-requires
+root-bits-requires c κs =
+    let w = c .before in
+    is-positive (w .before .before .before .before .args .x) (w .if4 .left) (c .if5 .taken)
 
-settle-requires : tie.Need-settle-requires
-settle-requires c κs =
-    let w = c .before .before in
-    is-positive (w .before .before .before .before .args .x) (w .if4 .left) (c .before .if5 .taken)
-
-from-bits-requires : tie.Need-from-bits-requires
-from-bits-requires c κs = search needs
+float-from-bits-value : tie.Need-float-from-bits-value
+float-from-bits-value c =
+    let t = c .before in
+    let w = t .before in
+    let a = w .before .before .before .before .args in
+    let l = largest (a .x) (a .k) (is-positive (a .x) (w .if4 .left) (t .if5 .taken)) in
+    rw (c .root-bits .ensures) (to-infinity (bitsOf (a .x) (a .k)) (omega (arith, l .finite)))
 
 returns-5 : tie.Need-returns-5
 returns-5 c =
-    let t = c .before .before .before in
+    let t = c .before in
     let w = t .before in
     let a = w .before .before .before .before .args in
     rw (
       accepted (a .x) (a .k) (omega arith) (omega arith),
-      c .from-bits .ensures,
-      c .before .settle .ensures,
+      c .root-bits .ensures,
       ← of-positive (a .x) (a .k) (w .if4 .left) (t .if5 .taken),
     )
 
@@ -73,8 +76,7 @@ root-spec =
     returns-3
     float-from-bits-if4
     returns-4
-    guess-requires
-    settle-requires
-    from-bits-requires
+    root-bits-requires
+    float-from-bits-value
     returns-5
     returns-6)

@@ -1,16 +1,17 @@
 -- `root_bits` meets its contract: the bits still to be tried, from the pattern so far, give the whole pattern.
--- The pattern ends above the bit that is next, so the candidate stays below 2^63.
-use Prim.Native.Nat.{_+_, _-_, _*_, _≤_}
+-- No candidate lies past infinity's pattern (proofs/Room.antt).
+use Prim.Native.Nat.{_-_}
 use mathlib.Core.Path.{_≡_, refl, ap}
 use native.Mathlib.Omega.{arith}
 use Rattle.loops.specs.For.{for, again, ended}
 use Rattle.root.specs.Root.{Kept, turnOf, bitsOf}
+use Rattle.root.proofs.Room.{Room, first, candidate, next}
 use Rattle.root.proofs.root_bits.Statement.{statement}
 use Rattle.root.proofs.root_bits.Tie as tie
 
 abbrev Inv-loop : tie.InvT-loop
 Inv-loop x k bits₀ bit₀ counter₀ bits bit counter =
-    (bits + 2 * bit ≤ 0x8000_0000_0000_0000)
+    Room counter bits bit
     × (for counter 63 (turnOf x k) (record { bits = bits; bit = bit })
     ≡ for 0 63 (turnOf x k) (record { bits = 0; bit = 0x4000_0000_0000_0000 }))
 
@@ -18,10 +19,10 @@ abbrev μ-loop : tie.MeasureT-loop
 μ-loop x k bits₀ bit₀ counter₀ bits bit counter = 63 - counter
 
 loop-holds : tie.Need-loop-holds Inv-loop μ-loop
-loop-holds c = (omega arith, refl)
+loop-holds c = (first, refl)
 
 keep-requires : tie.Need-keep-requires Inv-loop μ-loop
-keep-requires c κs = omega arith
+keep-requires c κs = candidate _ _ _ (c .before .loop .inv .0)
 
 add-counter : tie.Need-add-counter Inv-loop μ-loop
 add-counter c = omega arith
@@ -31,7 +32,8 @@ loop-less c = omega arith
 
 loop-again : tie.Need-loop-again Inv-loop μ-loop
 loop-again c =
-    (omega arith, rw (c .keep .ensures .0) (again _ _ _ _ _ (omega arith) (c .before .before .loop .inv .1)))
+    let l = c .before .before .loop in
+    rw (c .keep .ensures) (next _ _ (c .before .before .before .pre) _ _ _ (l .inv .0), again _ _ _ _ _ (omega arith) (l .inv .1))
 
 returns : tie.Need-returns Inv-loop μ-loop
 unfolding bitsOf
