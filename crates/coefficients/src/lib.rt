@@ -86,35 +86,35 @@ fn entry(i: usize) -> f64
     COEFFICIENTS[i]
 }
 
-// Entry i of the table. An index writes the whole array to the stack, so the entries of orders 1 and 2, which runs
-// read, are named here.
+// Entry i of the table. A variable index writes the whole array to the stack, a literal one is a constant: so the places
+// of orders 1 and 2, which runs read, are named here.
 pub fn coefficient(i: usize) -> f64
     requires { ⌜ i < 384 ⌝ }
     ensures { λ r. ⌜ r ≡ getD cfodeOf i nan ⌝ }
 {
     match i {
-        0 => 1.0,
-        1 => 1.0,
-        13 => 0.5,
-        14 => 1.0,
-        15 => 0.5,
-        156 => 0.0,
-        157 => 2.0,
-        158 => 11.999999999999998,
-        159 => 1.0,
-        160 => 11.999999999999998,
-        161 => 24.0,
-        192 => 1.0,
-        193 => 1.0,
-        205 => 0.6666666666666666,
-        206 => 1.0,
-        207 => 0.3333333333333333,
-        348 => 1.0,
-        349 => 2.0,
-        350 => 3.0,
-        351 => 1.0,
-        352 => 4.5,
-        353 => 6.0,
+        0 => COEFFICIENTS[0],
+        1 => COEFFICIENTS[1],
+        13 => COEFFICIENTS[13],
+        14 => COEFFICIENTS[14],
+        15 => COEFFICIENTS[15],
+        156 => COEFFICIENTS[156],
+        157 => COEFFICIENTS[157],
+        158 => COEFFICIENTS[158],
+        159 => COEFFICIENTS[159],
+        160 => COEFFICIENTS[160],
+        161 => COEFFICIENTS[161],
+        192 => COEFFICIENTS[192],
+        193 => COEFFICIENTS[193],
+        205 => COEFFICIENTS[205],
+        206 => COEFFICIENTS[206],
+        207 => COEFFICIENTS[207],
+        348 => COEFFICIENTS[348],
+        349 => COEFFICIENTS[349],
+        350 => COEFFICIENTS[350],
+        351 => COEFFICIENTS[351],
+        352 => COEFFICIENTS[352],
+        353 => COEFFICIENTS[353],
         _ => entry(i),
     }
 }
