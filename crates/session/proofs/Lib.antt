@@ -3,3 +3,4 @@ pub mod Every
 pub mod Within
 pub mod Thirteen
 pub mod Passes
+pub mod InRange

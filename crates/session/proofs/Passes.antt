@@ -42,11 +42,11 @@ use Rattle.session.proofs.Within.{relates}
 
 infixr 30 _▸_
 -- each word between its least and its greatest value
-data Between : List ℕ → List ℕ → List ℕ → Type 0 where
+pub data Between : List ℕ → List ℕ → List ℕ → Type 0 where
   none : Between [] [] []
   _▸_ : {l h w : ℕ} {ls hs ws : List ℕ} → (l ≤ w) × (w ≤ h) → Between ls hs ws → Between (l ∷ ls) (h ∷ hs) (w ∷ ws)
 
-between : {ls hs ws : List ℕ} → Between ls hs ws → (i : ℕ) → i < length ws
+pub between : {ls hs ws : List ℕ} → Between ls hs ws → (i : ℕ) → i < length ws
     → leb (getD ls i 0) (getD ws i 0) && leb (getD ws i 0) (getD hs i 0) ≡ true
 between none i h = absurd (not-suc-le-zero h)
 between (p ▸ r) zero h = rw (le-leb _ _ (p .0), le-leb _ _ (p .1))
@@ -73,7 +73,7 @@ phase Phase.Report = (lit≤ tt, lit≤ tt)
 phase Phase.Modified = (lit≤ tt, lit≤ tt)
 phase Phase.Finished = (lit≤ tt, lit≤ tt)
 
-upto : {w h : ℕ} → w ≤ h → (0 ≤ w) × (w ≤ h)
+pub upto : {w h : ℕ} → w ≤ h → (0 ≤ w) × (w ≤ h)
 upto p = (omega arith, p)
 
 free : {w : ℕ} → w < 2 ^ 64 → (0 ≤ w) × (w ≤ 18446744073709551615)

@@ -1,1 +1,3 @@
 pub mod Session
+pub mod Names
+pub mod InRange
