@@ -87,8 +87,17 @@ impl Random {
         low + self.below((high - low + 1) as u64) as usize
     }
 
+    /// One of the list, where a NaN stands for any.
     pub fn one_of(&mut self, list: &[f64]) -> f64 {
-        list[self.below(list.len() as u64) as usize]
+        let x = list[self.below(list.len() as u64) as usize];
+        if x.is_nan() { self.nan() } else { x }
+    }
+
+    /// A NaN of any pattern: quiet or signalling, with either sign.
+    pub fn nan(&mut self) -> f64 {
+        let (word, fraction) = (self.word(), 0x000f_ffff_ffff_ffff);
+        let payload = [word & fraction, word & fraction, 1, fraction, 1 << 51][self.below(5) as usize];
+        f64::from_bits(word & 1 << 63 | 0x7ff << 52 | payload.max(1))
     }
 }
 

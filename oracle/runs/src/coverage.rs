@@ -2,7 +2,7 @@
 
 use crate::calls::{Lent, Reply, kind, number};
 use crate::ours::{Given, is_end};
-use crate::session::{Field, PHASES, count, float, phase};
+use crate::session::{Field, ICOUNT, PHASES, count, float, phase};
 use reference::reach::{self, SM1};
 use std::collections::{BTreeMap, BTreeSet};
 use std::fmt;
@@ -39,6 +39,7 @@ pub enum Row {
     ErrorFailure { family: u64, number: u64 },
     Accepted { family: u64, order: u64 },
     AcceptedAboveOrder,
+    EntersOnOldFactoring,
     Choice { family: u64, branch: Branch },
     LoweredToMxords,
     LoweredToMxordn,
@@ -54,13 +55,13 @@ impl Row {
     fn all() -> Vec<Row> {
         let branches = [Unchanged, SmallGain, Lowered, Kept, Raised, HeldBySm1, FamilyChanged, CoefficientGap];
         let mut all: Vec<Row> = (0..PHASES.len() as u64).map(Row::Phase).collect();
-        all.push(Row::RefusedAtStart(11));
+        all.extend((4..=11).map(Row::RefusedAtStart));
         for kind in [kind::CONTINUE, kind::INTERRUPT, kind::MODIFIED] {
             all.extend([Row::FirstReportAnswered(kind), Row::ReportAnswered(kind)]);
         }
         all.extend([Row::FirstStepCut, Row::CutAfterModified, Row::OtherStepCut]);
         all.extend([false, true].map(|supplied| Row::JacobianSingular { supplied }));
-        all.extend([Row::Retry, Row::ZeroDiagonal, Row::AcceptedAboveOrder]);
+        all.extend([Row::Retry, Row::ZeroDiagonal, Row::AcceptedAboveOrder, Row::EntersOnOldFactoring]);
         all.extend([Row::LoweredToMxords, Row::LoweredToMxordn, Row::WeightRefusedAtStepEnd]);
         all.extend((1..=10).map(Row::NoConvergence));
         for family in [1, 2] {
@@ -96,6 +97,7 @@ impl fmt::Display for Row {
             Row::ErrorFailure { family: of, number } => write!(f, "{}, error failure -{number}", family(of)),
             Row::Accepted { family: of, order } => write!(f, "{}, accepted at order {order}", family(of)),
             Row::AcceptedAboveOrder => write!(f, "accepted with nqnyh above nq·n"),
+            Row::EntersOnOldFactoring => write!(f, "BDF entered on an old factoring"),
             Row::Choice { family: of, branch } => write!(f, "{}, {branch:?}", family(of)),
             Row::LoweredToMxords => write!(f, "to BDF with the order lowered to mxords"),
             Row::LoweredToMxordn => write!(f, "to Adams with the order lowered to mxordn"),
@@ -194,6 +196,9 @@ impl Watch {
         if (from == phase::JACOBIAN_ASKED || last_column) && is(Field::nlu) == self.was(Field::nlu) {
             self.reached.insert(Row::JacobianSingular { supplied: from == phase::JACOBIAN_ASKED });
         }
+        if from == phase::OPENED && self.enters_on_old_factoring() {
+            self.reached.insert(Row::EntersOnOldFactoring);
+        }
         if is(Field::ncf) > self.was(Field::ncf) {
             self.reached.insert(Row::NoConvergence(is(Field::ncf)));
         }
@@ -207,6 +212,13 @@ impl Watch {
         if is_end(reply.number) {
             self.reached.insert(Row::End(reply.number));
         }
+    }
+
+    /// Whether the pass under way is of the first step since a change to BDF, which alone has the full icount there, and
+    /// goes on with the matrix of the last time in BDF: none is due, and none was made in this step.
+    fn enters_on_old_factoring(&self) -> bool {
+        let entered = self.was(Field::meth) == 2 && self.was(Field::icount) == ICOUNT + 20;
+        entered && self.was(Field::due) == 0 && self.was(Field::nslp) < self.was(Field::nst)
     }
 
     /// A pass opens: of a new step, or again.

@@ -23,6 +23,9 @@ pub struct Crafted {
     pub side: Side,
 }
 
+/// After so many requests a crafted step is brought to its end.
+const MOST: u64 = 3_000;
+
 /// Mostly the usual number, sometimes one of the others.
 fn or_else(usual: f64, random: &mut Random, others: &[f64]) -> f64 {
     if random.below(20) == 0 { random.one_of(others) } else { usual }
@@ -35,7 +38,7 @@ const ANY: [f64; 9] = [0.0, -0.0, -1.0, f64::NAN, f64::INFINITY, f64::NEG_INFINI
 impl Crafted {
     pub fn draw(random: &mut Random) -> Self {
         let most = pick(&[1, 2, 3, 4, 6, 8, 8, if random.below(20) == 0 { 64 } else { 2 }], random);
-        let n = random.within(1, most);
+        let n = if random.below(400) == 0 { random.within(60, 64) } else { random.within(1, most) };
         let mut lent = Lent::new(n);
         let phase = match random.below(8) {
             0 => phase::FIRST_REPORT,
@@ -64,9 +67,9 @@ fn limits(random: &mut Random, session: &mut [u8], n: usize) {
     set(Field::maxsteps, random.within(500, 1_000_000));
     set(Field::mxordn, pick(&[random.within(1, 15), 12, 12, 1_000_000], random));
     set(Field::mxords, pick(&[random.within(1, 7), 5, 5, 1_000_000], random));
-    set(Field::maxcor, pick(&[random.within(1, 8), 3, 3, 30], random));
-    set(Field::msbp, pick(&[random.within(0, 20), 1_000_000], random));
-    set(Field::mxncf, random.within(0, 10));
+    set(Field::maxcor, pick(&[random.within(1, 8), 3, 3, 30, 1_000_000], random));
+    set(Field::msbp, pick(&[random.within(0, 20), random.within(21, 600), 1_000_000], random));
+    set(Field::mxncf, pick(&[random.within(0, 10), random.within(0, 10), random.within(11, 200), 1_000_000], random));
     set(Field::supplied, random.below(2) as usize);
     set(Field::given, random.below(2) as usize);
     set(Field::nrtol, pick(&[1, n], random));
@@ -187,7 +190,8 @@ fn fill(random: &mut Random, lent: &mut Lent, n: usize, step: f64) -> Side {
         _ => near(random, lent, n, step, correction),
     };
     let wild = pick(&[0, 0, 0, 0, 0, 0, 100, 10], random);
-    Side { shape, matrix: problem::matrix(random), salt: random.word(), wild }
+    let fickle = pick(&[0.0, 0.0, 0.0, 10f64.powi(-(random.below(16) as i32))], random);
+    Side { shape, matrix: problem::matrix(random), salt: random.word(), wild, fickle, most: MOST }
 }
 
 fn time(lent: &Lent) -> f64 {
@@ -253,7 +257,7 @@ fn reply(random: &mut Random, lent: &Lent, n: usize, phase: u64, side: &Side) ->
     let mut numbers = vec![0.0; n];
     match phase {
         phase::FIRST_MODIFIED | phase::MODIFIED => {
-            side.derivative(tn, column, &mut numbers);
+            side.derivative(0, tn, column, &mut numbers);
             Given { kind: kind::DERIVATIVE, numbers, time: f64::NAN }
         }
         _ => {

@@ -5,7 +5,7 @@ use crate::calls::{self, Lent, Reply, number};
 use crate::cases::Random;
 use crate::live::{self, Live};
 use crate::model::{self, Refusal};
-use crate::ours::{evaluated, given};
+use crate::ours::given;
 use crate::problem::{Problem, pick};
 use crate::refusals::{accepted, is, provoke, snapshot};
 use crate::report::{Report, Tally, all_same};
@@ -43,7 +43,7 @@ fn every_byte(report: &mut Report, random: &mut Random) {
 
 /// Makes the call, and says whether it was to be refused.
 fn answers(tally: &mut Tally, random: &mut Random, live: Live) -> bool {
-    let Live { n, mut lent, given, problem } = live;
+    let Live { mut lent, given, problem, .. } = live;
     let expected = model::of_reply(given.kind, given.numbers.len(), &lent);
     let before = lent.clone();
     let reply = calls::reply(given.kind, &given.numbers, given.time, &mut lent);
@@ -53,7 +53,7 @@ fn answers(tally: &mut Tally, random: &mut Random, live: Live) -> bool {
     };
     tally.case(right, || format!("{given:?}: {reply:?}, expected {expected:?}, session {:?}", before.session));
     if expected.is_none() {
-        go_on(random, lent, &problem, n, reply);
+        go_on(random, lent, &problem, reply);
     }
     expected.is_some()
 }
@@ -73,13 +73,13 @@ fn replies(report: &mut Report, random: &mut Random, size: u64) {
 }
 
 /// Some more replies from where a damaged session led, which must be answered, if only by a refusal.
-fn go_on(random: &mut Random, mut lent: Lent, problem: &Problem, n: usize, mut reply: Reply) {
+fn go_on(random: &mut Random, mut lent: Lent, problem: &Problem, mut reply: Reply) {
+    let mut asked = 0;
     for _ in 0..random.below(6) {
-        let given = match reply.number {
-            number::DERIVATIVE | number::JACOBIAN => evaluated(&reply, &lent, n, &problem.side),
-            number::FIRST_REPORT | number::REPORT => given(&reply, &lent, problem),
-            _ => return,
-        };
+        if !(number::DERIVATIVE..=number::REPORT).contains(&reply.number) {
+            return;
+        }
+        let given = given(&reply, &lent, problem, &mut asked);
         reply = calls::reply(given.kind, &given.numbers, given.time, &mut lent);
     }
 }

@@ -39,8 +39,8 @@ pub struct Report {
     /// Derivatives requested in the step.
     pub count: usize,
     pub snapshot: Vec<f64>,
-    /// The pose that interpolation gives at a time by the report.
-    pub pose: Vec<f64>,
+    /// What interpolation gives at several times by the report, one pose behind the other.
+    pub poses: Vec<f64>,
 }
 
 #[derive(Clone, Debug)]
@@ -69,7 +69,7 @@ impl Event {
                     && all_same(&a.y, &b.y)
                     && a.count == b.count
                     && all_same(&a.snapshot, &b.snapshot)
-                    && all_same(&a.pose, &b.pose)
+                    && all_same(&a.poses, &b.poses)
             }
             (End(a), End(b)) => {
                 (a.number, a.evaluations, a.steps) == (b.number, b.evaluations, b.steps) && same(a.h, b.h)

@@ -48,11 +48,12 @@ fn follow(problem: &Problem, each: usize, found: &mut [usize], pool: &mut Vec<Li
         return;
     }
     let mut kept = [false; PHASES.len()];
+    let mut asked = 0;
     loop {
         let phase = count(&lent.session, Field::phase);
         let given = match phase {
             phase::FINISHED => Given { kind: calls::kind::DERIVATIVE, numbers: vec![0.5; n], time: 0.0 },
-            _ => ours::given(&reply, &lent, problem),
+            _ => ours::given(&reply, &lent, problem, &mut asked),
         };
         let at = phase as usize;
         if found[at] < each && !kept[at] {

@@ -1,7 +1,7 @@
 //! Our calls beside the published solver: whole runs event by event, single steps from crafted states, refused and
 //! damaged calls.
 //!
-//!     runs whole | steps | refusals | coverage | all  [--count N] [--seed S]
+//!     runs whole | settings | findings | steps | refusals | coverage | all  [--count N] [--seed S]
 //!     runs sample                                     all of it in seconds
 //!     runs record                                     prints the stored sample of whole runs
 //!
@@ -22,6 +22,8 @@ mod coverage;
 mod craft;
 mod damage;
 mod event;
+mod findings;
+mod fixed;
 mod live;
 mod mirror;
 mod model;
@@ -31,6 +33,7 @@ mod record;
 mod refusals;
 mod replay;
 mod session;
+mod settings;
 mod sides;
 mod steps;
 mod theirs;
@@ -46,6 +49,8 @@ const COUNT: u64 = 102_000;
 const SAMPLE: u64 = 4_000;
 /// How often each pair of refusals is provoked.
 const PAIRS: u64 = 100;
+
+const WHAT: [&str; 9] = ["whole", "settings", "findings", "steps", "refusals", "coverage", "all", "sample", "record"];
 
 struct Wanted {
     what: String,
@@ -64,9 +69,7 @@ fn main() -> ExitCode {
         Ok(wanted) => run(&wanted),
         Err(message) => {
             eprintln!("runs: {message}");
-            eprintln!(
-                "usage: runs [whole | steps | refusals | coverage | all | sample | record] [--count N] [--seed S]"
-            );
+            eprintln!("usage: runs [{}] [--count N] [--seed S]", WHAT.join(" | "));
             ExitCode::from(2)
         }
     }
@@ -83,7 +86,7 @@ fn wanted(words: &[String]) -> Result<Wanted, String> {
         match word.as_str() {
             "--count" => count = Some(number()?),
             "--seed" => seed = number()?,
-            "whole" | "steps" | "refusals" | "coverage" | "all" | "sample" | "record" => what = Some(word.clone()),
+            what_is if WHAT.contains(&what_is) => what = Some(word.clone()),
             other => return Err(format!("there is no {other}")),
         }
     }
@@ -105,14 +108,18 @@ fn run(wanted: &Wanted) -> ExitCode {
     let mut coverage = Coverage::default();
     match what.as_str() {
         "whole" => whole::compare(&mut report, &mut coverage, count, seed),
+        "settings" => settings::compare(&mut report, &mut coverage, count, seed),
+        "findings" => findings::compare(&mut report),
         "steps" => steps::compare(&mut report, &mut coverage, count, seed),
         "refusals" => refused(&mut report, count, seed),
         _ => {
             whole::compare(&mut report, &mut coverage, count, seed);
+            settings::compare(&mut report, &mut coverage, count, seed);
             steps::compare(&mut report, &mut coverage, 2 * count, seed);
         }
     }
     if what == "all" || what == "sample" {
+        findings::compare(&mut report);
         refused(&mut report, 10 * count, seed);
         record::compare(&mut report);
     }

@@ -4,10 +4,13 @@ use crate::calls::{self, Lent, Reply, kind, number};
 use crate::cases::Random;
 use crate::coverage::Watch;
 use crate::event::{End, Event, Report};
+use crate::fixed::{self, Fixed};
+use crate::model;
 use crate::problem::Problem;
 use crate::session::{Field, count, phase};
 use crate::sides::{Answer, Side};
-use crate::theirs::pose_time;
+use crate::theirs::poses;
+use std::cell::Cell;
 
 /// A reply to a question.
 #[derive(Clone, Debug)]
@@ -55,35 +58,44 @@ pub fn question(reply: &Reply, lent: &Lent, n: usize) -> Event {
         number::FIRST_REPORT => Event::FirstReport { previous: reply.previous, time: reply.time, y },
         number::REPORT => {
             let snapshot = lent.question[n..written(reply, n)].to_vec();
-            let mut pose = vec![0.25; n];
-            calls::interpolate(pose_time(reply.previous, reply.time), &mut pose, &snapshot);
             let (previous, time, count) = (reply.previous, reply.time, reply.count);
-            Event::Report(Box::new(Report { previous, time, y, count, snapshot, pose }))
+            let refused = model::of_interpolation(&snapshot, n);
+            let other = Cell::new(None);
+            let poses = poses(previous, time, n, |at, pose| match calls::interpolate(at, pose, &snapshot) {
+                number if number == refused => {}
+                number => other.set(Some(number)),
+            });
+            if let Some(number) = other.get() {
+                return Event::Broken(format!("an interpolation answered {number}, and {refused} was expected"));
+            }
+            Event::Report(Box::new(Report { previous, time, y, count, snapshot, poses }))
         }
         _ => end(reply),
     }
 }
 
-/// The reply to a derivative or a Jacobian that is wanted. Its time is not read, so it is any.
-pub fn evaluated(reply: &Reply, lent: &Lent, n: usize, side: &Side) -> Given {
+/// The reply to a derivative or a Jacobian that is wanted, after so many. Its time is not read, so it is any.
+pub fn evaluated(reply: &Reply, lent: &Lent, n: usize, side: &Side, asked: u64) -> Given {
     let y = &lent.question[..n];
     if reply.number == number::JACOBIAN {
         let mut numbers = vec![0.0; n * n];
-        side.jacobian(reply.time, y, &mut numbers);
+        side.jacobian(asked, reply.time, y, &mut numbers);
         return Given { kind: kind::JACOBIAN, numbers, time: MARK };
     }
     let mut numbers = vec![0.0; n];
-    side.derivative(reply.time, y, &mut numbers);
+    side.derivative(asked, reply.time, y, &mut numbers);
     Given { kind: kind::DERIVATIVE, numbers, time: MARK }
 }
 
-/// What the problem's host replies.
-pub fn given(reply: &Reply, lent: &Lent, problem: &Problem) -> Given {
+/// What the problem's host replies; it counts what it was asked to evaluate.
+pub fn given(reply: &Reply, lent: &Lent, problem: &Problem, asked: &mut u64) -> Given {
     let n = problem.n();
     if matches!(reply.number, number::DERIVATIVE | number::JACOBIAN) {
-        return evaluated(reply, lent, n, &problem.side);
+        let given = evaluated(reply, lent, n, &problem.side, *asked);
+        *asked += 1;
+        return given;
     }
-    let said = problem.host.says(reply.previous, reply.time, &lent.question[..n]);
+    let said = problem.says(*asked, reply.previous, reply.time, &lent.question[..n]);
     let kind = match said.answer {
         Answer::Continue | Answer::XOut => kind::CONTINUE,
         Answer::Interrupt => kind::INTERRUPT,
@@ -185,8 +197,9 @@ pub fn last(problem: &Problem) -> Event {
     let mut lent = Lent::new(n);
     let Problem { x0, xend, y0, rtol, atol, options, .. } = problem;
     let mut reply = calls::start(*x0, *xend, y0, rtol, atol, *options, &mut lent);
+    let mut asked = 0;
     while (number::DERIVATIVE..=number::REPORT).contains(&reply.number) {
-        let given = given(&reply, &lent, problem);
+        let given = given(&reply, &lent, problem, &mut asked);
         reply = calls::reply(given.kind, &given.numbers, given.time, &mut lent);
     }
     end(&reply)
@@ -221,8 +234,16 @@ fn play(
     if !is_cleared(&lent, problem) || lent.question[n..].iter().any(|&x| x != MARK) {
         return Err("the start left other work, pivots or question".to_string());
     }
+    if let Some(field) = fixed::begins_otherwise(&lent.session, problem) {
+        return Err(format!("the start left another record: {field}"));
+    }
+    let fixed = Fixed::new(problem);
+    let mut asked = 0;
     let restless = random.below(4) == 0;
     while events.len() <= most {
+        if !fixed.stays(&lent.session) {
+            return Err("settings, limits or tolerances of the session are not those of the start".to_string());
+        }
         events.push(question(&reply, &lent, n));
         if is_end(reply.number) {
             return stays_finished(&mut lent, n);
@@ -230,7 +251,7 @@ fn play(
         if reply.number < number::DERIVATIVE {
             return Err("a reply of the kind and length asked was refused".to_string());
         }
-        let given = given(&reply, &lent, problem);
+        let given = given(&reply, &lent, problem, &mut asked);
         if restless && random.below(8) == 0 {
             disturb(random, &given, &mut lent)?;
         }

@@ -2,7 +2,7 @@
 
 use crate::calls::{self, Options};
 use crate::cases::Random;
-use crate::sides::{Host, Matrix, Shape, Side};
+use crate::sides::{Answer, Host, Matrix, Said, Shape, Side};
 
 #[derive(Clone, Debug)]
 pub struct Problem {
@@ -15,6 +15,9 @@ pub struct Problem {
     pub side: Side,
     pub host: Host,
 }
+
+/// After so many requests a drawn problem is brought to its end.
+const MOST: u64 = 60_000;
 
 /// What a drawn problem is for.
 #[derive(Clone, Copy)]
@@ -45,8 +48,34 @@ impl Problem {
         }
     }
 
+    /// A long run that goes to BDF and back again and again, where msbp seldom makes a Jacobian due: van der Pol's
+    /// equation through many of its turns.
+    pub fn relapsing(random: &mut Random) -> Self {
+        let mut options = calls::defaults();
+        options.max_steps = random.within(1000, 3000);
+        options.msbp = pick(&[random.within(21, 400), 1_000_000], random);
+        options.maxcor = setting(random, options.maxcor, 1, 8);
+        options.mxords = setting(random, options.mxords, 1, 7);
+        options.supplied = random.below(2) as usize;
+        let mut side = side(random, Temper::Ordinary, 0.0, 0.0);
+        let mu = sized(random, 0, 1).abs();
+        (side.shape, side.matrix) = (Shape::Oscillator(mu), Matrix::Differences);
+        let n = 2 * random.within(1, 2);
+        let xend = mu * random.within(5, 50) as f64;
+        let y0 = (0..n).map(|_| 2.0 + sized(random, -2, -1)).collect();
+        let tolerance = |random: &mut Random| vec![sized(random, -6, -3).abs()];
+        let (rtol, atol) = (tolerance(random), tolerance(random));
+        Problem { x0: 0.0, xend, y0, rtol, atol, options, side, host: Host::Plain }
+    }
+
     pub fn n(&self) -> usize {
         self.y0.len()
+    }
+
+    /// What the host says to a report, after so many requests.
+    pub fn says(&self, asked: u64, previous: f64, time: f64, y: &[f64]) -> Said {
+        let said = self.host.says(asked, previous, time, y);
+        if asked < self.side.most { said } else { Said { answer: Answer::Interrupt, ..said } }
     }
 }
 
@@ -54,11 +83,14 @@ pub fn pick<T: Copy>(list: &[T], random: &mut Random) -> T {
     list[random.below(list.len() as u64) as usize]
 }
 
-/// Mostly 1 to 8, some up to 64.
+/// Mostly 1 to 8, some up to 64 and some next to it.
 fn states(random: &mut Random) -> usize {
     let most = pick(&[1, 2, 3, 3, 4, 4, 6, 8], random);
-    let most = if random.below(100) == 0 { 64 } else { most };
-    random.within(1, most)
+    match random.below(400) {
+        0..=2 => random.within(1, 64),
+        3 => random.within(60, 64),
+        _ => random.within(1, most),
+    }
 }
 
 /// A number of either sign whose size is a power of ten between the two.
@@ -116,30 +148,31 @@ fn tolerances(random: &mut Random, temper: Temper, n: usize) -> Vec<f64> {
     (0..length).map(|_| tolerance(random, temper)).collect()
 }
 
+/// A setting: half the time as it is, else up to the usual most, or above it up to the most that a start accepts.
+fn setting(random: &mut Random, default: usize, low: usize, usual: usize) -> usize {
+    match random.below(16) {
+        0..=7 => default,
+        8..=12 => random.within(low, usual),
+        13..=14 => random.within(usual + 1, 20 * usual),
+        _ => pick(&[random.within(usual + 1, 1_000_000), 999_999, 1_000_000], random),
+    }
+}
+
 fn options(random: &mut Random, temper: Temper, n: usize, difference: f64) -> Options {
     let mut options = calls::defaults();
-    options.max_steps = match (temper, random.below(4)) {
-        (Temper::Extreme, 0) => random.within(1, 3),
+    options.max_steps = match (temper, random.below(64)) {
+        (Temper::Extreme, 0..=15) => random.within(1, 3),
         (Temper::Extreme, _) => random.within(1, 60),
         _ if n > 8 => random.within(20, 60),
-        (_, 0) => random.within(100, 400),
+        (_, 0) => random.within(400, 3000),
+        (_, 1..=15) => random.within(100, 400),
         _ => random.within(20, 120),
     };
-    if random.below(2) == 0 {
-        options.maxcor = random.within(1, 8);
-    }
-    if random.below(2) == 0 {
-        options.mxncf = random.within(0, 10);
-    }
-    if random.below(2) == 0 {
-        options.msbp = random.within(0, 20);
-    }
-    if random.below(2) == 0 {
-        options.mxordn = random.within(1, 15);
-    }
-    if random.below(2) == 0 {
-        options.mxords = random.within(1, 7);
-    }
+    options.maxcor = setting(random, options.maxcor, 1, 8);
+    options.mxncf = setting(random, options.mxncf, 0, 10);
+    options.msbp = setting(random, options.msbp, 0, 20);
+    options.mxordn = setting(random, options.mxordn, 1, 15);
+    options.mxords = setting(random, options.mxords, 1, 7);
     options.supplied = random.below(2) as usize * random.within(1, 3);
     let seldom = if matches!(temper, Temper::Extreme) { 3 } else { 8 };
     if random.below(seldom) == 0 {
@@ -218,7 +251,8 @@ fn side(random: &mut Random, temper: Temper, x0: f64, xend: f64) -> Side {
         Temper::Busy => pick(&[0, 0, 1000, 300], random),
         Temper::Extreme => pick(&[0, 300, 40, 5], random),
     };
-    Side { shape: shape(random, x0, xend), matrix: matrix(random), salt: random.word(), wild }
+    let fickle = pick(&[0.0, 0.0, 0.0, 10f64.powi(-(random.below(16) as i32))], random);
+    Side { shape: shape(random, x0, xend), matrix: matrix(random), salt: random.word(), wild, fickle, most: MOST }
 }
 
 fn host(random: &mut Random, temper: Temper) -> Host {
@@ -227,5 +261,5 @@ fn host(random: &mut Random, temper: Temper) -> Host {
         Temper::Busy => pick(&[10, 30, 60], random),
         Temper::Extreme => pick(&[1, 2, 5, 20], random),
     };
-    Host::Busy { salt: random.word(), one_in }
+    Host::Busy { salt: random.word(), one_in, fickle: random.below(4) == 0 }
 }

@@ -130,7 +130,7 @@ fn chosen() -> Vec<Vec<u64>> {
 
 fn words_of(problem: &Problem, events: &[Event]) -> Vec<u64> {
     let mut tape = Tape(Vec::new());
-    let Problem { x0, xend, y0, rtol, atol, options, side, host } = problem;
+    let Problem { x0, xend, y0, rtol, atol, options, side, .. } = problem;
     tape.counts(&[y0.len(), rtol.len(), atol.len()]);
     tape.counts(&[options.max_steps, options.mxordn, options.mxords, options.maxcor, options.msbp, options.mxncf]);
     tape.counts(&[options.banded, options.supplied]);
@@ -140,21 +140,24 @@ fn words_of(problem: &Problem, events: &[Event]) -> Vec<u64> {
         tape.floats(list);
     }
     let n = y0.len();
+    let mut asked = 0;
     for event in events {
         tape.answer(event);
         match event {
             Event::Derivative { time, y } => {
                 let mut numbers = vec![0.0; n];
-                side.derivative(*time, y, &mut numbers);
+                side.derivative(asked, *time, y, &mut numbers);
                 tape.reply(1, 0.0, &numbers);
+                asked += 1;
             }
             Event::Jacobian { time, y } => {
                 let mut numbers = vec![0.0; n * n];
-                side.jacobian(*time, y, &mut numbers);
+                side.jacobian(asked, *time, y, &mut numbers);
                 tape.reply(2, 0.0, &numbers);
+                asked += 1;
             }
-            Event::FirstReport { previous, time, y } => tape.said(&host.says(*previous, *time, y)),
-            Event::Report(report) => tape.said(&host.says(report.previous, report.time, &report.y)),
+            Event::FirstReport { previous, time, y } => tape.said(&problem.says(asked, *previous, *time, y)),
+            Event::Report(report) => tape.said(&problem.says(asked, report.previous, report.time, &report.y)),
             Event::End(_) | Event::Refused { .. } | Event::Panicked | Event::Broken(_) => {}
         }
     }

@@ -1,5 +1,6 @@
-//! Right sides and hosts, for the reference and for ours alike: each answer is a function of the request alone. The
-//! right sides use + − × ÷; a wild one puts in NaNs, infinities, huge and denormal numbers by a hash of the request.
+//! Right sides and hosts, for the reference and for ours alike: each answer is a function of the request and, of those
+//! that are fickle, of how many requests went before it. The right sides use + − × ÷; a wild one puts in NaNs of any
+//! pattern, infinities, huge and denormal numbers by a hash of the request.
 
 use crate::cases::Random;
 
@@ -32,6 +33,10 @@ pub enum Shape {
     Oscillator(f64),
     /// A chain of reactions with rates far apart, as Robertson's.
     Kinetics(f64),
+    /// Robertson's own, of three states.
+    Robertson,
+    /// y' = −rate·(y − 1).
+    Relaxed(f64),
     /// y' = c / (y² + e).
     Rational {
         c: f64,
@@ -74,6 +79,12 @@ pub struct Side {
     pub salt: u64,
     /// One entry in so many is replaced; 0: none.
     pub wild: u64,
+    /// Each entry is moved by up to this part of its size plus 1, by a hash of the request's number; 0.0: none is, and
+    /// equal requests are answered alike.
+    pub fickle: f64,
+    /// From this request on each entry is a NaN, so that every pass converges; the next report is then answered by
+    /// interrupt. It ends a run whose settings let it go on for long.
+    pub most: u64,
 }
 
 const WILD: [f64; 12] = [
@@ -92,13 +103,19 @@ const WILD: [f64; 12] = [
 ];
 
 impl Side {
-    pub fn derivative(&self, time: f64, y: &[f64], out: &mut [f64]) {
+    /// The same answer to equal requests, with nothing replaced, however many there are.
+    pub fn steady(shape: Shape) -> Self {
+        Side { shape, matrix: Matrix::Differences, salt: 0, wild: 0, fickle: 0.0, most: u64::MAX }
+    }
+
+    /// After so many requests that were asked before.
+    pub fn derivative(&self, asked: u64, time: f64, y: &[f64], out: &mut [f64]) {
         self.shaped(time, y, out);
-        self.disturb(0, time, y, out);
+        self.disturb([0, asked], time, y, out);
     }
 
     /// Column by column.
-    pub fn jacobian(&self, time: f64, y: &[f64], out: &mut [f64]) {
+    pub fn jacobian(&self, asked: u64, time: f64, y: &[f64], out: &mut [f64]) {
         let n = y.len();
         match self.matrix {
             Matrix::All(x) => out.fill(x),
@@ -118,14 +135,23 @@ impl Side {
                 }
             }
         }
-        self.disturb(1, time, y, out);
+        self.disturb([1, asked], time, y, out);
     }
 
-    fn disturb(&self, what: u64, time: f64, y: &[f64], out: &mut [f64]) {
+    fn disturb(&self, [what, asked]: [u64; 2], time: f64, y: &[f64], out: &mut [f64]) {
+        if asked >= self.most {
+            return out.fill(f64::NAN);
+        }
+        let mut salt = self.salt ^ what;
+        if self.fickle != 0.0 {
+            salt = numbered(salt, asked);
+            let mut random = Random::new(salt, "");
+            out.iter_mut().for_each(|out| *out += self.fickle * (out.abs() + 1.0) * unit(&mut random));
+        }
         if self.wild == 0 {
             return;
         }
-        let mut random = hashed(self.salt ^ what, time, y);
+        let mut random = hashed(salt, time, y);
         for out in out {
             if random.below(self.wild) == 0 {
                 *out = random.one_of(&WILD);
@@ -155,6 +181,12 @@ impl Side {
                 let before = y[(i + n - 1) % n];
                 0.04 * before - k * y[i] * next(i) - 0.04 * y[i] + k * before * y[i]
             }),
+            Shape::Robertson => {
+                out[0] = -0.04 * y[0] + 1.0e4 * y[1] * y[2];
+                out[2] = 3.0e7 * y[1] * y[1];
+                out[1] = -out[0] - out[2];
+            }
+            Shape::Relaxed(rate) => each(out, &|i| -rate * (y[i] - 1.0)),
             Shape::Rational { c, e } => each(out, &|i| c / (y[i] * y[i] + e)),
             Shape::Spike { at, c, e } => {
                 let d = time - at;
@@ -176,8 +208,17 @@ impl Side {
 /// A number of any size up to a power of ten, with both signs.
 fn jump(random: &mut Random, decades: u64) -> f64 {
     let size = 10f64.powi(random.below(decades + 1) as i32 - 1);
-    let unit = random.below(2000) as f64 / 1000.0 - 1.0;
-    size * unit
+    size * unit(random)
+}
+
+/// From −1 to 1.
+fn unit(random: &mut Random) -> f64 {
+    random.below(2000) as f64 / 1000.0 - 1.0
+}
+
+/// A salt for the request of this number alone.
+fn numbered(salt: u64, asked: u64) -> u64 {
+    Random::new(salt ^ asked, "").word()
 }
 
 /// What the host says to a report. The reference's `XOut` is ours to be answered like continue.
@@ -201,14 +242,16 @@ pub struct Said {
 pub enum Host {
     /// Continues.
     Plain,
-    /// One report in so many is answered otherwise.
-    Busy { salt: u64, one_in: u64 },
+    /// One report in so many is answered otherwise; a fickle one says it by the number of requests too.
+    Busy { salt: u64, one_in: u64, fickle: bool },
 }
 
 impl Host {
-    pub fn says(&self, previous: f64, time: f64, y: &[f64]) -> Said {
+    /// After so many requests that were asked before.
+    pub fn says(&self, asked: u64, previous: f64, time: f64, y: &[f64]) -> Said {
         let mut said = Said { answer: Answer::Continue, y: y.to_vec(), time };
-        let Host::Busy { salt, one_in } = *self else { return said };
+        let Host::Busy { salt, one_in, fickle } = *self else { return said };
+        let salt = if fickle { numbered(salt, asked) } else { salt };
         let mut random = hashed(salt ^ pattern(previous), time, y);
         if random.below(one_in) != 0 {
             return said;
@@ -243,6 +286,6 @@ fn changed(random: &mut Random, x: f64) -> f64 {
         1 => 0.0,
         2..=5 => x,
         6..=9 => x * 0.5,
-        _ => x + 0.01 * (random.below(2000) as f64 / 1000.0 - 1.0),
+        _ => x + 0.01 * unit(random),
     }
 }

@@ -11,7 +11,8 @@ use crate::ours::{call, evaluated, is_end, question};
 use crate::outcome::returned;
 use crate::report::{Report, Tally, same};
 use crate::session::{FIELDS, FLOATS, Field, ICOUNT, LENGTH, RTOL, count, float, phase, word};
-use crate::theirs::{Asked, pose_time, tolerance};
+use crate::sides::pattern;
+use crate::theirs::{Asked, poses, tolerance};
 use reference::error::{ConfigError, Error};
 use reference::methods::LSODA;
 use reference::reach::{self, Buffers, State};
@@ -125,9 +126,8 @@ fn stepped(state: &mut State, work: &mut Buffers, y: &mut [f64], told: f64, coun
     y.copy_from_slice(&work.yh[..y.len()]);
     state.total_steps = state.nst + state.rejected;
     let snapshot = reach::snapshot_step(state, work);
-    let mut pose = vec![0.25; y.len()];
-    LSODA::interpolate(pose_time(told, state.tn), &mut pose, &snapshot, told, state.hu);
-    Event::Report(Box::new(Step { previous: told, time: state.tn, y: y.to_vec(), count, snapshot, pose }))
+    let poses = poses(told, state.tn, y.len(), |at, pose| LSODA::interpolate(at, pose, &snapshot, told, state.hu));
+    Event::Report(Box::new(Step { previous: told, time: state.tn, y: y.to_vec(), count, snapshot, poses }))
 }
 
 fn end(number: usize, state: &State) -> End {
@@ -177,7 +177,7 @@ fn ours(crafted: &Crafted, most: usize, watch: &mut Watch) -> Ours {
         if count(&lent.session, Field::phase) == phase::DIFFERENCE_COLUMN {
             y_fd.copy_from_slice(&lent.work[17 * n..18 * n]);
         }
-        given = evaluated(&reply, &lent, n, &crafted.side);
+        given = evaluated(&reply, &lent, n, &crafted.side, events.len() as u64 - 1);
     }
     Ours { lent, events, y_fd }
 }
@@ -190,7 +190,9 @@ fn left_otherwise(crafted: &Crafted, ours: &Ours, theirs: &Theirs) -> Option<Str
     let fixed = (1..FIELDS.len())
         .filter(|&at| at < Field::meth as usize || (Field::xend as usize..Field::tn as usize).contains(&at));
     for at in fixed.chain(RTOL..LENGTH / 8) {
-        if word(session, at) != word(&crafted.lent.session, at) {
+        // A float is kept, and any NaN becomes the one that a session has.
+        let kept = |word: u64| if at < FLOATS { word } else { pattern(f64::from_bits(word)) };
+        if kept(word(session, at)) != kept(word(&crafted.lent.session, at)) {
             return Some(format!("word {at} of the session changed"));
         }
     }

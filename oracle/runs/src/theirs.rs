@@ -4,7 +4,7 @@ use crate::calls::{Options, number};
 use crate::event::{End, Event, Report};
 use crate::outcome::returned;
 use crate::problem::Problem;
-use crate::sides::{Answer, Host, Side};
+use crate::sides::{Answer, Side};
 use reference::dense::StepInterpolant;
 use reference::error::{ConfigError, Error};
 use reference::ivp::FirstOrderSystem;
@@ -19,6 +19,8 @@ use std::cell::{Cell, RefCell};
 pub struct Asked<'a> {
     side: &'a Side,
     pub events: RefCell<Vec<Event>>,
+    /// Derivatives and Jacobians requested so far.
+    asked: Cell<u64>,
     /// Derivatives requested in the step under way.
     pub count: Cell<usize>,
     /// The next derivative belongs to no step.
@@ -29,7 +31,13 @@ pub struct Asked<'a> {
 
 impl<'a> Asked<'a> {
     pub fn new(side: &'a Side, outside: bool) -> Self {
-        Asked { side, events: RefCell::new(Vec::new()), count: Cell::new(0), outside: Cell::new(outside), quiet: false }
+        let (events, asked, count, outside) = (RefCell::default(), Cell::new(0), Cell::new(0), Cell::new(outside));
+        Asked { side, events, asked, count, outside, quiet: false }
+    }
+
+    /// The number of the next request.
+    fn next(&self) -> u64 {
+        self.asked.replace(self.asked.get() + 1)
     }
 
     fn push(&self, event: Event) {
@@ -45,14 +53,14 @@ impl FirstOrderSystem for Asked<'_> {
         if !self.outside.replace(false) {
             self.count.set(self.count.get() + 1);
         }
-        self.side.derivative(x, y, dydx);
+        self.side.derivative(self.next(), x, y, dydx);
     }
 
     fn jac(&self, x: f64, y: &[f64], j: &mut Matrix) {
         self.push(Event::Jacobian { time: x, y: y.to_vec() });
         let n = y.len();
         let mut columns = vec![0.0; n * n];
-        self.side.jacobian(x, y, &mut columns);
+        self.side.jacobian(self.next(), x, y, &mut columns);
         for column in 0..n {
             for row in 0..n {
                 j[(row, column)] = columns[row + column * n];
@@ -63,7 +71,7 @@ impl FirstOrderSystem for Asked<'_> {
 
 struct Reporter<'a> {
     asked: &'a Asked<'a>,
-    host: Host,
+    problem: &'a Problem,
 }
 
 impl SolOut for Reporter<'_> {
@@ -77,20 +85,16 @@ impl SolOut for Reporter<'_> {
         let time = *x;
         self.asked.push(match interpolant {
             None => Event::FirstReport { previous: xold, time, y: y.to_vec() },
-            Some(interpolant) => {
-                let mut pose = vec![0.25; y.len()];
-                interpolant.interpolate(pose_time(xold, time), &mut pose);
-                Event::Report(Box::new(Report {
-                    previous: xold,
-                    time,
-                    y: y.to_vec(),
-                    count: self.asked.count.get(),
-                    snapshot: interpolant.to_segment().cont,
-                    pose,
-                }))
-            }
+            Some(interpolant) => Event::Report(Box::new(Report {
+                previous: xold,
+                time,
+                y: y.to_vec(),
+                count: self.asked.count.get(),
+                snapshot: interpolant.to_segment().cont,
+                poses: poses(xold, time, y.len(), |at, pose| interpolant.interpolate(at, pose)),
+            })),
         });
-        let said = self.host.says(xold, time, y);
+        let said = self.problem.says(self.asked.asked.get(), xold, time, y);
         y.copy_from_slice(&said.y);
         *x = said.time;
         self.asked.count.set(0);
@@ -104,9 +108,15 @@ impl SolOut for Reporter<'_> {
     }
 }
 
-/// Where a report's pose is asked for.
-pub fn pose_time(previous: f64, time: f64) -> f64 {
-    previous + 0.375 * (time - previous)
+/// The poses that are asked for at a report: at both ends of the step, within it, outside, and where there is no time.
+/// What an interpolation leaves as it was is 0.25.
+pub fn poses(previous: f64, time: f64, n: usize, interpolate: impl Fn(f64, &mut [f64])) -> Vec<f64> {
+    let part = |s: f64| previous + s * (time - previous);
+    let signalling = f64::from_bits(0xfff0_0000_0000_0001);
+    let times = [previous, part(0.375), part(0.9), time, part(-0.5), part(3.0), f64::NAN, signalling, f64::INFINITY];
+    let mut poses = vec![0.25; times.len() * n];
+    times.iter().zip(poses.chunks_mut(n)).for_each(|(&at, pose)| interpolate(at, pose));
+    poses
 }
 
 pub fn run(problem: &Problem) -> Vec<Event> {
@@ -122,7 +132,7 @@ pub fn last(problem: &Problem) -> Event {
 }
 
 fn solve(problem: &Problem, asked: &Asked) -> Event {
-    let mut reporter = Reporter { asked, host: problem.host };
+    let mut reporter = Reporter { asked, problem };
     let solver = solver(&problem.options);
     let Problem { x0, y0, xend, rtol, atol, .. } = problem;
     let outcome =

@@ -1,12 +1,12 @@
 //! Whole runs: the same problem for the reference's `solve` and for our calls, every event compared.
 
 use crate::calls;
-use crate::cases::Random;
+use crate::cases::{self, Random};
 use crate::coverage::{Column, Coverage, Watch};
 use crate::event::{Event, first_difference};
 use crate::problem::Problem;
 use crate::report::{Report, Tally};
-use crate::sides::{Host, Matrix, Shape, Side};
+use crate::sides::{Host, Shape, Side};
 use crate::{ours, theirs};
 
 pub fn compare(report: &mut Report, coverage: &mut Coverage, size: u64, seed: u64) {
@@ -21,12 +21,18 @@ pub fn compare(report: &mut Report, coverage: &mut Coverage, size: u64, seed: u6
     for _ in 0..size / 1000 + 5 {
         let problem = Problem::draw(&mut random);
         for argument in ARGUMENTS {
-            for limit in LIMITS {
+            for limit in cases::ends() {
                 let mut problem = problem.clone();
                 argument(&mut problem, limit);
                 runs.one(&problem, &mut random, coverage);
             }
         }
+    }
+    runs.end(report);
+    let mut runs = Runs::new("whole runs of up to 3,000 steps that change the family often");
+    for _ in 0..size / 100 + 20 {
+        let problem = Problem::relapsing(&mut random);
+        runs.one(&problem, &mut random, coverage);
     }
     runs.end(report);
     longest(report, (10 * size).clamp(1000, 1_000_000));
@@ -37,7 +43,7 @@ fn longest(report: &mut Report, steps: u64) {
     let mut options = calls::defaults();
     options.max_steps = steps as usize;
     (options.has_max_step, options.max_step) = (1, 1.0 / steps as f64);
-    let side = Side { shape: Shape::Constant(1.0), matrix: Matrix::Differences, salt: 0, wild: 0 };
+    let side = Side::steady(Shape::Constant(1.0));
     let (rtol, atol) = (vec![1.0e-3], vec![1.0e-3]);
     let problem = Problem { x0: 0.0, xend: 2.0, y0: vec![1.0], rtol, atol, options, side, host: Host::Plain };
     let mut tally = Tally::new(format!("a run of {steps} steps"));
@@ -46,20 +52,6 @@ fn longest(report: &mut Report, steps: u64) {
     tally.case(all && ours.is(&theirs), || format!("ours {ours:?}, theirs {theirs:?}"));
     report.end(tally, "");
 }
-
-const LIMITS: [f64; 11] = [
-    f64::NAN,
-    f64::INFINITY,
-    f64::NEG_INFINITY,
-    0.0,
-    -0.0,
-    f64::MAX,
-    f64::MIN,
-    f64::MIN_POSITIVE,
-    5.0e-324,
-    -5.0e-324,
-    1.0,
-];
 
 const ARGUMENTS: [fn(&mut Problem, f64); 10] = [
     |problem, x| problem.x0 = x,
@@ -74,30 +66,40 @@ const ARGUMENTS: [fn(&mut Problem, f64); 10] = [
     |problem, x| (problem.options.has_first_step, problem.options.first_step) = (1, x),
 ];
 
-struct Runs {
+/// Runs of one comparison.
+pub struct Runs {
     tally: Tally,
     runs: u64,
     events: usize,
 }
 
 impl Runs {
-    fn new(name: &str) -> Self {
+    pub fn new(name: &str) -> Self {
         Runs { tally: Tally::new(name), runs: 0, events: 0 }
     }
 
-    fn one(&mut self, problem: &Problem, random: &mut Random, coverage: &mut Coverage) {
-        let theirs = theirs::run(problem);
+    pub fn one(&mut self, problem: &Problem, random: &mut Random, coverage: &mut Coverage) {
+        self.against(&theirs::run(problem), problem, random, coverage);
+    }
+
+    /// Our run of the problem against these events.
+    pub fn against(&mut self, theirs: &[Event], problem: &Problem, random: &mut Random, coverage: &mut Coverage) {
         let mut watch = Watch::default();
         let ours = ours::run(problem, random, theirs.len(), &mut watch);
         coverage.add(Column::Whole, watch);
         let run = self.runs;
         self.runs += 1;
         self.events += theirs.len();
-        let difference = first_difference(&ours, &theirs);
+        let difference = first_difference(&ours, theirs);
         self.tally.case(difference.is_none(), || format!("run {run}, {}\n    {problem:?}", difference.unwrap()));
     }
 
-    fn end(self, report: &mut Report) {
+    /// A run that the reference did not make as it should.
+    pub fn broken(&mut self, tell: impl FnOnce() -> String) {
+        self.tally.case(false, tell);
+    }
+
+    pub fn end(self, report: &mut Report) {
         report.end(self.tally, format!("{} events", self.events));
     }
 }
