@@ -2,7 +2,7 @@
 """record.py: what is made from the one field list of a session, the structs of crates/common/src/lib.rt and RANGES below.
 
 Writes, at the repository's root:
-    crates/common/specs/Record.antt      a setter for each field of Common
+    crates/common/specs/Record.antt      a setter for each field of Common that a run changes
     crates/fields/src/lib.rt             a session's fields as words and back, and the ranges of 13
     crates/fields/specs/Fields.antt      the same as definitions
     crates/fields/proofs/Listed.antt     what the bytes can keep, of the lists of words
@@ -14,6 +14,8 @@ import re
 SOURCE = "crates/common/src/lib.rt"
 TYPES = {"f64": "Float", "usize": "ℕ", "bool": "Bool", "MethodFamily": "MethodFamily"}
 SLOTS = 64
+# Fields of Common that a start fixes.
+FIXED = ("hmin", "hmxi")
 # Least and greatest value of a word. `None` leaves an end open, and a field that is not named here has no range of its own: what fields say
 # of each other is in crates/session/specs/Session.antt. Counts are below 2^62.
 COUNT = ("0", "4611686018427387903")
@@ -70,8 +72,8 @@ def setter(field, kind, names):
 def setters():
     common = fields("Common")
     names = [name for name, _, _ in common]
-    text = """-- The record of a run, by its fields: a setter for each field of Common (antt has no record update).
--- Made by tools/record.py from the structs of src/lib.rt.
+    text = """-- The record of a run, by its fields: a setter for each field of Common that a run changes (antt has no record
+-- update); a start fixes hmin and hmxi. Made by tools/record.py from the structs of src/lib.rt.
 use mathlib.Core.Bool.{Bool, true, false}
 use Prim.Native.Nat.{ℕ}
 use lib.Ieee.{Float}
@@ -84,7 +86,7 @@ isBdf Adams = false
 isBdf Bdf = true
 
 """
-    text += "\n".join(setter(name, kind, names) for name, kind, _ in common)
+    text += "\n".join(setter(name, kind, names) for name, kind, _ in common if name not in FIXED)
     with open("crates/common/specs/Record.antt", "w") as out:
         out.write(text)
 

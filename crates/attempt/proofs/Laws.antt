@@ -54,6 +54,7 @@ pub record Kept (c d : Common) : Type 0 where
 -- c, with the fields of d that a failed attempt may change
 abbrev attempted : Common → Common → Common
 attempted d c = record {
+      hmin = c .hmin; hmxi = c .hmxi;
       tn = d .tn; h = d .h; hu = c .hu; told = c .told; rc = d .rc; el0 = d .el0; conit = d .conit; rmax = d .rmax;
       pdest = c .pdest; pdlast = c .pdlast; pdnorm = c .pdnorm; convrate = c .convrate; pnorm = c .pnorm;
       rate = c .rate; delp = c .delp; meth = c .meth; nq = d .nq; lmax = c .lmax; nqnyh = d .nqnyh; ialth = d .ialth;
@@ -139,9 +140,9 @@ module _ (s : Settings) (c : Common) (work : List Float) where
         next = inl refl;
         rejected-pass = λ q. refl;
         rejected-poor = λ q. cc;
-        due = λ q. due-predicted s (adjustOf s d (maxOf d0·25 (leastOf s d))) refl;
+        due = λ q. due-predicted s (adjustOf d (maxOf d0·25 (leastOf d))) refl;
         below = λ few q.
-            let other = eqb-false (c .ncf + 1) (mxncfOf s) (second-false (tinyOf s (unconvergedOf c)) e) in
+            let other = eqb-false (c .ncf + 1) (mxncfOf s) (second-false (tinyOf (unconvergedOf c)) e) in
             omega (arith, other);
         ialth = λ h. omega arith;
         in-range = λ p. same-range _ refl refl refl refl p;
@@ -193,7 +194,7 @@ module _ (s : Settings) (c : Common) (dsm : Float) (work : List Float) where
   failed-at true early last e l = stopped-at
   failed-at false true last e l =
       record {
-        kept = kept c (repredictOf s (overshotOf c) (shrunkOf s (overshotOf c) dsm) (retractedWork s c work) .common);
+        kept = kept c (repredictOf s (overshotOf c) (shrunkOf (overshotOf c) dsm) (retractedWork s c work) .common);
         nq = refl;
         nqnyh = refl;
         kflag = refl;

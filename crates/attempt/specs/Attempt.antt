@@ -50,8 +50,8 @@ abbrev pub retractedWork : Settings → Common → List Float → List Float
 retractedWork s c work = retractColumnsOf (s .n) (c .nq) (c .nqnyh) work
 
 -- hmin / |h|
-abbrev pub leastOf : Settings → Common → Float
-leastOf s c = s .hmin ⊘ absOf (c .h)
+abbrev pub leastOf : Common → Float
+leastOf c = c .hmin ⊘ absOf (c .h)
 
 abbrev pub predictOf : Settings → Common → List Float → Moved
 predictOf s c work = record { common = predictedOf s c; work = predictedWorkOf s c work }
@@ -59,7 +59,7 @@ predictOf s c work = record { common = predictedOf s c; work = predictedWorkOf s
 -- rescaled, then predicted
 unfoldable pub repredictOf : Settings → Common → Float → List Float → Moved
 repredictOf s c rh work =
-    predictOf s (adjustOf s c rh) (rescaleColumnsOf (s .n) (c .nq + 1) (limitedOf s c rh) work)
+    predictOf s (adjustOf c rh) (rescaleColumnsOf (s .n) (c .nq + 1) (limitedOf c rh) work)
 
 -- ---- no convergence
 
@@ -69,13 +69,13 @@ unconvergedOf c = with-ncf (c .ncf + 1) (retractedOf c)
 
 -- at the smallest step, or at the mxncf-th failure
 abbrev pub poorOf : Settings → Common → Bool
-poorOf s c = tinyOf s c || eqb (c .ncf) (mxncfOf s)
+poorOf s c = tinyOf c || eqb (c .ncf) (mxncfOf s)
 
 -- a quarter of the step, and in the second family a Jacobian is due
 unfoldable pub quarteredOf : Settings → Common → List Float → Moved
 quarteredOf s c work =
     let d = with-due (isBdf (c .meth)) (with-rejected (c .rejected + 1) c) in
-    repredictOf s d (maxOf d0·25 (leastOf s d)) work
+    repredictOf s d (maxOf d0·25 (leastOf d)) work
 
 unfoldable pub noConvergenceAt : Settings → Bool → Common → List Float → Attempt
 noConvergenceAt s true c work = stopped Poor c work
@@ -94,25 +94,25 @@ unfoldable pub errorOf : Settings → Common → Float → List Float → Float
 errorOf s c del work = errorSizeOf s c del work ⊘ tescoOf (c .table) (c .nq) 1
 
 -- 1 / (1.2·dsm^(1/l) + 1.2e-6), at most 1, from the second failure at most 0.2, at least hmin / |h|
-unfoldable pub shrunkOf : Settings → Common → Float → Float
-shrunkOf s c dsm =
+unfoldable pub shrunkOf : Common → Float → Float
+shrunkOf c dsm =
     let rh = minOf (oneF ⊘ (d1·2 ⊗ rootOf dsm (c .nq + 1) .value ⊕ d1·2e-6)) oneF in
-    maxOf (cond (leb 2 (c .kflag)) (minOf rh d0·2) rh) (leastOf s c)
+    maxOf (cond (leb 2 (c .kflag)) (minOf rh d0·2) rh) (leastOf c)
 
 -- a tenth of the step; y is what the derivative is wanted at
 unfoldable pub tenthOf : Settings → Common → List Float → Moved
 tenthOf s c work =
-    record { common = with-h (c .h ⊗ maxOf d0·1 (leastOf s c)) c; work = copyOf (s .n) (17 * s .n) 0 work }
+    record { common = with-h (c .h ⊗ maxOf d0·1 (leastOf c)) c; work = copyOf (s .n) (17 * s .n) 0 work }
 
 -- tiny; below the third failure; the tenth
 unfoldable pub missedAt : Settings → Float → Bool → Bool → Bool → Common → List Float → Attempt
 missedAt s dsm true early last c work = stopped TooSmall c work
-missedAt s dsm false true last c work = moved Pass (repredictOf s c (shrunkOf s c dsm) work)
+missedAt s dsm false true last c work = moved Pass (repredictOf s c (shrunkOf c dsm) work)
 missedAt s dsm false false true c work = stopped TooSmall c work
 missedAt s dsm false false false c work = moved Restep (tenthOf s c work)
 
 unfoldable pub missedOf : Settings → Common → Float → List Float → Attempt
-missedOf s c dsm work = missedAt s dsm (tinyOf s c) (ltb (c .kflag) 3) (eqb (c .kflag) 10) c work
+missedOf s c dsm work = missedAt s dsm (tinyOf c) (ltb (c .kflag) 3) (eqb (c .kflag) 10) c work
 
 unfoldable pub overshotOf : Common → Common
 overshotOf c = with-rejected (c .rejected + 1) (with-kflag (c .kflag + 1) (retractedOf c))

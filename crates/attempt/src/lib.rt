@@ -38,10 +38,10 @@ fn retract(s: Settings, c: Common, work: &mut [f64]) -> Common
 }
 
 // The least factor that keeps the step at hmin or above.
-fn least(s: Settings, c: Common) -> f64
-    ensures { λ r. ⌜ r ≡ leastOf s c ⌝ }
+fn least(c: Common) -> f64
+    ensures { λ r. ⌜ r ≡ leastOf c ⌝ }
 {
-    s.hmin / numbers::abs(c.h)
+    c.hmin / numbers::abs(c.h)
 }
 
 // The columns rescaled, then predicted again.
@@ -65,7 +65,7 @@ pub fn no_convergence(s: Settings, c: Common, work: &mut [f64]) -> Attempted
 {
     let mut d = retract(s, c, work);
     d.ncf = c.ncf + 1;
-    if common::is_tiny(s, d) {
+    if common::is_tiny(d) {
         return Attempted { next: Next::Poor, common: d };
     }
     if d.ncf == common::mxncf(s) {
@@ -74,7 +74,7 @@ pub fn no_convergence(s: Settings, c: Common, work: &mut [f64]) -> Attempted
     let meth = d.meth;
     d.due = common::is_bdf(meth);
     d.rejected = c.rejected + 1;
-    let rh = numbers::max(0.25, least(s, d));
+    let rh = numbers::max(0.25, least(d));
     Attempted { next: Next::Pass, common: repredict(s, d, rh, work) }
 }
 
@@ -98,15 +98,15 @@ pub fn error(s: Settings, c: Common, del: f64, work: &[f64]) -> f64
 }
 
 // The factor after the first and the second error failure.
-fn shrunk(s: Settings, c: Common, dsm: f64) -> f64
-    requires { ⌜ InRange s c ⌝ }
-    ensures { λ r. ⌜ r ≡ shrunkOf s c dsm ⌝ }
+fn shrunk(c: Common, dsm: f64) -> f64
+    requires { ⌜ c .nq ≤ 12 ⌝ }
+    ensures { λ r. ⌜ r ≡ shrunkOf c dsm ⌝ }
 {
     let rh = numbers::min(1.0 / (1.2 * root::root(dsm, c.nq + 1).value + 1.2e-6), 1.0);
     if 2 <= c.kflag {
-        return numbers::max(numbers::min(rh, 0.2), least(s, c));
+        return numbers::max(numbers::min(rh, 0.2), least(c));
     }
-    numbers::max(rh, least(s, c))
+    numbers::max(rh, least(c))
 }
 
 // An error failure, retracted: too small at the smallest step or at the tenth failure, from the third on a tenth of
@@ -117,11 +117,11 @@ fn missed(s: Settings, c: Common, dsm: f64, work: &mut [f64]) -> Attempted
     ensures { λ r. ⌜ _≡_ {A = Attempt} (record { next = r .next; common = r .common; work = now (work .exit) })
         (missedOf s c dsm (now (work .entry))) ⌝ }
 {
-    if common::is_tiny(s, c) {
+    if common::is_tiny(c) {
         return Attempted { next: Next::TooSmall, common: c };
     }
     if c.kflag < 3 {
-        let rh = shrunk(s, c, dsm);
+        let rh = shrunk(c, dsm);
         return Attempted { next: Next::Pass, common: repredict(s, c, rh, work) };
     }
     if c.kflag == 10 {
@@ -130,7 +130,7 @@ fn missed(s: Settings, c: Common, dsm: f64, work: &mut [f64]) -> Attempted
     let n = s.n;
     history::copy_part(work, n, 17 * n, 0);
     let mut d = c;
-    d.h = c.h * numbers::max(0.1, least(s, c));
+    d.h = c.h * numbers::max(0.1, least(c));
     Attempted { next: Next::Restep, common: d }
 }
 

@@ -53,7 +53,7 @@ module _ (B : ℕ) where
   -- ---- the record
 
   module _ (s : Settings) where
-    pub adjust-low : (c : Common) (rh : Float) → Low (adjustOf s c rh)
+    pub adjust-low : (c : Common) (rh : Float) → Low (adjustOf c rh)
     unfolding adjustOf
     adjust-low c rh = inr (omega arith)
 
@@ -67,7 +67,7 @@ module _ (B : ℕ) where
 
     repredict-low : (c : Common) (rh : Float) (work : List Float) → Low (repredictOf s c rh work .common)
     unfolding repredictOf
-    repredict-low c rh work = predicted-low (adjustOf s c rh) (adjust-low c rh)
+    repredict-low c rh work = predicted-low (adjustOf c rh) (adjust-low c rh)
 
     no-convergence-at : (poor : Bool) (c : Common) (work : List Float) → Low c
         → Low (noConvergenceAt s poor c work .common)
@@ -92,7 +92,7 @@ module _ (B : ℕ) where
     unfolding failedOf Attempt.missedOf overshotOf retractedOf
     failed-low c dsm work f =
         let d = overshotOf c in
-        missed-at dsm (tinyOf s d) (ltb (d .kflag) 3) (eqb (d .kflag) 10) d (retractedWork s c work) f
+        missed-at dsm (tinyOf d) (ltb (d .kflag) 3) (eqb (d .kflag) 10) d (retractedWork s c work) f
 
     lowered-low : (same : Bool) (c : Common) → c .ialth ≤ B + 13 → Low (loweredOf s same c)
     unfolding resetOf

@@ -25,7 +25,7 @@ use Rattle.turns.specs.declared.Session.{Session}
 use Rattle.turns.specs.Requires.{Resumes}
 use Rattle.reports.specs.Reports.{initialOf}
 use Rattle.refusals.specs.declared.Refusal.{Refusal}
-use Rattle.refusals.specs.Start.{isNegative, startRefusalOf, settingsOf, firstStepOf}
+use Rattle.refusals.specs.Start.{isNegative, startRefusalOf, settingsOf}
 use Rattle.refusals.specs.Accepted.{Started}
 use Rattle.refusals.proofs.Accepted.{accepted}
 use Rattle.fields.specs.Fields.{countsOf, FloatsFit, Fits}
@@ -45,7 +45,7 @@ use Rattle.answers.specs.Called.{Buffers, Called}
 use Rattle.starts.specs.Starts.{clearedOf, keptOf, beganOf}
 use Rattle.raimsklo.specs.Calls.{Problem, lengthsOf, startAt, startOf}
 use Rattle.calls.specs.Run.{Begins}
-use Rattle.calls.specs.Follow.{givenOf}
+use Rattle.calls.specs.Follow.{givenOf, fromOf}
 use Rattle.calls.proofs.Numbers.{start-number}
 use Rattle.calls.proofs.Keeps.{Runs, Found, Keeps, pivots-below}
 use Rattle.calls.proofs.Answers.{lentOf}
@@ -80,7 +80,7 @@ module _ (p : Problem) (b : Buffers) (begins : Begins p b) where
   given = givenOf p b
 
   abbrev pub from : Start
-  from = record { x0 = p .x0; h = firstStepOf (p .options); y0 = p .y0 }
+  from = fromOf p
 
   abbrev refusal : Refusal
   refusal = startRefusalOf (p .x0) (p .xend) (p .options) (lengthsOf p b) (p .rtol) (p .atol)

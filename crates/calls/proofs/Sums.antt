@@ -60,7 +60,7 @@ use Rattle.answers.specs.Called.{Buffers, Called}
 use Rattle.starts.specs.Starts.{beganOf}
 use Rattle.raimsklo.specs.Calls.{Problem, lengthsOf, startAt, startOf}
 use Rattle.calls.specs.Run.{FloatsGiven, Begins}
-use Rattle.calls.specs.Follow.{Said, saidOf, givenOf, treeOf}
+use Rattle.calls.specs.Follow.{Said, saidOf, givenOf, fromOf, treeOf}
 use Rattle.calls.specs.Sums.{optionsOf, problemOf, Lent, hostedBy, Row, resultOf, row8, row9, row10, row11}
 use Rattle.calls.specs.Sums.{row12, Sums}
 use Rattle.calls.proofs.Keeps.{Runs}
@@ -77,14 +77,14 @@ one-fits : (v : Float) → Fit v → ListFits (v ∷ [])
 one-fits v f zero h = f
 one-fits v f (suc i) h = absurd (not-suc-le-zero (le-of-suc-le-suc h))
 
--- what is computed of a row: it is accepted, its settings are those of crate follows, each of its replies is asked for,
+-- what is computed of a row: it is accepted, its settings and start are those of crate follows, each of its replies is asked for,
 -- and how it ends
 record Computed (r : Row) (k : Follows.Result) : Type 0 where
   accepted : startRefusalOf zeroF (r .problem .xend) (optionsOf (r .problem) (r .smallest)) sizes
       (r .problem .rtol ∷ []) (r .problem .atol ∷ []) .number ≡ 0
   floats : FloatsGiven (problemOf (r .problem) (r .smallest))
-  settings : settingsOf zeroF (r .problem .xend) (optionsOf (r .problem) (r .smallest)) sizes
-      ≡ Follows.givenOf (r .problem) .s
+  settings : (settingsOf zeroF (r .problem .xend) (optionsOf (r .problem) (r .smallest)) sizes
+      ≡ Follows.givenOf (r .problem) .s) × (fromOf (problemOf (r .problem) (r .smallest)) ≡ Follows.startOf (r .problem))
   asked : allowed (Follows.givenOf (r .problem))
       (startedAt (Follows.givenOf (r .problem)) (Follows.startOf (r .problem))) (r .acts) ≡ true
   ends : Follows.resultOf (r .problem) (r .acts) ≡ k
@@ -103,7 +103,7 @@ module _ (r : Row) (k : Follows.Result) (x : Computed r k) (b : Buffers) (l : Le
       record { some = lit≤ tt; wanted = rw (lengths, e); floats = x .floats }
 
   same-given : givenOf p b ≡ Follows.givenOf (r .problem)
-  same-given = rw (lengths, x .settings)
+  same-given = rw (lengths, x .settings .0)
 
   -- ---- the run
 
@@ -131,15 +131,14 @@ module _ (r : Row) (k : Follows.Result) (x : Computed r k) (b : Buffers) (l : Le
   }
 
   asked-is : allowed g (startedAt g a) (r .acts) ≡ true
-  unfolding firstStepOf
-  asked-is = rw same-given (x .asked)
+  asked-is = rw (same-given, x .settings .1) (x .asked)
 
   last : Host g a run one (hosted g (startedAt g a) (r .acts)) (hostedBy (startOf p b) (r .acts))
   last = hosts g a run one (r .acts) (startedAt g a) (startOf p b) begun asked-is
 
   same-left : hosted g (startedAt g a) (r .acts) ≡ runOf (r .problem) (r .acts)
-  unfolding firstStepOf runOf
-  same-left = rw same-given
+  unfolding runOf
+  same-left = rw (same-given, x .settings .1)
 
   shown-is : shownBy (g .s .n) (hosted g (startedAt g a) (r .acts)) ≡ k .shown
   unfolding Follows.resultOf
@@ -195,14 +194,16 @@ unfolding startRefusalOf orElse alsoOf inOrder Refusals.sizesOf Refusals.listsOf
     Refusals.tolerancesOf Refusals.stepOf times refused signumOf negative sub lt eq ne ofBits
 accepted = (refl, refl, refl, refl, refl)
 
--- the settings are those of crate follows
+-- the settings and the start are those of crate follows
 abbrev Set : Row → Type 0
-Set r = settingsOf zeroF (r .problem .xend) (optionsOf (r .problem) (r .smallest)) sizes
-    ≡ Follows.givenOf (r .problem) .s
+Set r =
+    (settingsOf zeroF (r .problem .xend) (optionsOf (r .problem) (r .smallest)) sizes ≡ Follows.givenOf (r .problem) .s)
+    × (fromOf (problemOf (r .problem) (r .smallest)) ≡ Follows.startOf (r .problem))
 
 settings : Set row8 × Set row9 × Set row10 × Set row11 × Set row12
-unfolding settingsOf Refusals.smallestOf Refusals.largestOf Refusals.inverseOf absOf negative sub div neg lt ofBits
-settings = (refl, refl, refl, refl, refl)
+unfolding settingsOf firstStepOf Refusals.smallestOf Refusals.largestOf Refusals.inverseOf Refusals.inverseLargestOf
+    absOf negative sub div neg lt ofBits
+settings = ((refl, refl), (refl, refl), (refl, refl), (refl, refl), (refl, refl))
 
 -- each reply is asked for
 abbrev Asked : Row → Type 0

@@ -11,10 +11,10 @@ use lib.ListN.{length}
 use lib.Ieee.{Float}
 use Rattle.loops.specs.Part.{putPart}
 use Rattle.numbers.specs.Float.{zeroF}
-use Rattle.refusals.specs.Start.{settingsOf, firstStepOf}
+use Rattle.refusals.specs.Start.{settingsOf, firstStepOf, smallestOf, inverseLargestOf}
 use Rattle.fields.specs.Fields.{Fit}
 use Rattle.rules.specs.Play.{Given, Report, Play}
-use Rattle.rules.specs.Rules.{start}
+use Rattle.rules.specs.Rules.{Start, start}
 use Rattle.rules.specs.Replies.{Reply as Fed}
 use Rattle.follows.specs.Seen.{Shown, wantsDerivative, wantsJacobian, reports, ends, refusesStep, refusesWeight}
 use Rattle.follows.specs.Seen.{refuses, stuck, shownAt, asks, step, stepIf, keepIf}
@@ -35,8 +35,17 @@ givenOf p b = record {
   atol = p .atol;
 }
 
+abbrev pub fromOf : Problem → Start
+fromOf p = record {
+  x0 = p .x0;
+  h = firstStepOf (p .options);
+  hmin = smallestOf (p .options);
+  hmxi = inverseLargestOf (p .x0) (p .xend) (p .options);
+  y0 = p .y0;
+}
+
 abbrev pub treeOf : Problem → Buffers → Play
-treeOf p b = start (givenOf p b) (record { x0 = p .x0; h = firstStepOf (p .options); y0 = p .y0 })
+treeOf p b = start (givenOf p b) (fromOf p)
 
 -- ---- what a call says: the numbers returned, and the question slice
 

@@ -48,5 +48,5 @@ resetOf s c =
     (with-conit (d0·5 ⊘ (whole (c .nq) ⊕ d2)) c)))
 
 -- |h| ≤ hmin·1.00001
-abbrev pub tinyOf : Settings → Common → Bool
-tinyOf s c = Ieee.le (absOf (c .h)) (s .hmin ⊗ d1·00001)
+abbrev pub tinyOf : Common → Bool
+tinyOf c = Ieee.le (absOf (c .h)) (c .hmin ⊗ d1·00001)

@@ -17,8 +17,6 @@ pub struct Settings {
     pub n: usize,         // states, 1 to 64
     pub xend: f64,        // end of the interval
     pub direction: f64,   // signum of end minus start
-    pub hmin: f64,        // smallest step, 0 if none is given
-    pub hmxi: f64,        // 1 / largest step, 0 if there is none
     pub maxsteps: usize,  // largest number of accepted steps, 1 to 1,000,000
     pub mxordn: usize,    // largest Adams order, 1 to 1,000,000; above 12 acts as 12
     pub mxords: usize,    // largest BDF order, 1 to 1,000,000; above 5 acts as 5
@@ -32,6 +30,8 @@ pub struct Settings {
 }
 
 pub struct Common {
+    pub hmin: f64,        // smallest step, 0 if none is given
+    pub hmxi: f64,        // 1 / largest step, 0 if there is none
     pub tn: f64,          // time
     pub h: f64,           // step size
     pub hu: f64,          // size of the last accepted step
@@ -123,6 +123,8 @@ pub fn with_family(c: Common, meth: MethodFamily) -> Common
     ensures { λ r. ⌜ r ≡ with-meth meth c ⌝ }
 {
     Common {
+        hmin: c.hmin,
+        hmxi: c.hmxi,
         tn: c.tn,
         h: c.h,
         hu: c.hu,
@@ -227,8 +229,8 @@ pub fn stoda_reset(s: Settings, c: Common) -> Common
 }
 
 // Whether the step is as small as it may be: |h| ≤ hmin·1.00001.
-pub fn is_tiny(s: Settings, c: Common) -> bool
-    ensures { λ r. ⌜ r ≡ tinyOf s c ⌝ }
+pub fn is_tiny(c: Common) -> bool
+    ensures { λ r. ⌜ r ≡ tinyOf c ⌝ }
 {
-    numbers::abs(c.h) <= s.hmin * 1.00001
+    numbers::abs(c.h) <= c.hmin * 1.00001
 }

@@ -51,22 +51,22 @@ orderWithin q Stay = 0 ≤ q
 orderWithin q Gap = 0 ≤ q
 orderWithin q (To m) = (1 ≤ m .order) × (m .order ≤ q)
 
-moved : (b : Bool) (s : Settings) (c : Common) (rh : Float) (order : ℕ) → (1 ≤ order) × (order ≤ c .nq)
-    → orderWithin (c .nq) (moveIf b s c rh order)
+moved : (b : Bool) (c : Common) (rh : Float) (order : ℕ) → (1 ≤ order) × (order ≤ c .nq)
+    → orderWithin (c .nq) (moveIf b c rh order)
 unfolding orderWithin moveIf
-moved true s c rh order h = h
-moved false s c rh order h = omega arith
+moved true c rh order h = h
+moved false c rh order h = omega arith
 
 module _ (s : Settings) (c : Common) (dsm : Float) (work : List Float) (one : 1 ≤ c .nq)
     (adams : 1 ≤ s .mxordn) (bdf : 1 ≤ s .mxords) where
   to-bdf-within : orderWithin (c .nq) (toBdfOf s c dsm work)
   unfolding toBdfOf
-  to-bdf-within = moved _ s c _ _ (bdf-order s c dsm work one bdf)
+  to-bdf-within = moved _ c _ _ (bdf-order s c dsm work one bdf)
 
-  to-adams-within : (b : Bool) → orderWithin (c .nq) (cond b Gap (toAdamsAt s c dsm (adamsProposalOf s c dsm work)))
+  to-adams-within : (b : Bool) → orderWithin (c .nq) (cond b Gap (toAdamsAt c dsm (adamsProposalOf s c dsm work)))
   unfolding orderWithin
   to-adams-within true = omega arith
-  to-adams-within false = moved _ s c _ _ (adams-order s c dsm work one adams)
+  to-adams-within false = moved _ c _ _ (adams-order s c dsm work one adams)
 
   change-in-within : (m : MethodFamily) → orderWithin (c .nq) (changeIn m s c dsm work)
   unfolding toAdamsOf

@@ -41,9 +41,9 @@ bdfProposalOf s c dsm work =
 abbrev pub adamsFactorOf : Common → Float → Float
 adamsFactorOf c dsm = withinStabilityOf (sizeOf d1·2 d1·2e-6 dsm (c .nq + 1)) (c .pdlast ⊗ absOf (c .h)) (c .nq)
 
-unfoldable pub moveIf : Bool → Settings → Common → Float → ℕ → Change
-moveIf true s c rh order = To (record { rh = maxOf rh (leastOf s c); order = order })
-moveIf false s c rh order = Stay
+unfoldable pub moveIf : Bool → Common → Float → ℕ → Change
+moveIf true c rh order = To (record { rh = maxOf rh (leastOf c); order = order })
+moveIf false c rh order = Stay
 
 -- order at most 5, an error above the prediction's noise, an estimate of the Jacobian's norm, and a gain of 5 or more
 unfoldable pub toBdfOf : Settings → Common → Float → List Float → Change
@@ -52,7 +52,7 @@ toBdfOf s c dsm work =
     moveIf
     (leb (c .nq) 5 && (Ieee.lt (d100 ⊗ c .pnorm ⊗ uround) dsm
     && (Ieee.ne (c .pdest) zeroF && Ieee.le (d5 ⊗ adamsFactorOf c dsm) (p .rh))))
-    s c (p .rh) (p .order)
+    c (p .rh) (p .order)
 
 -- ---- from BDF to Adams
 
@@ -65,17 +65,17 @@ adamsProposalOf s c dsm work =
     record { error = dm1; order = order; rh = sizeOf d1·2 d1·2e-6 dm1 (order + 1) }
 
 -- rh1, the Adams method's factor within its stability limit; rh2, the BDF method's own
-abbrev pub toAdamsAt : Settings → Common → Float → AdamsProposal → Change
-toAdamsAt s c dsm p =
+abbrev pub toAdamsAt : Common → Float → AdamsProposal → Change
+toAdamsAt c dsm p =
     let rh1 = withinStabilityOf (p .rh) (c .pdnorm ⊗ absOf (c .h)) (p .order) in
     let rh2 = sizeOf d1·2 d1·2e-6 dsm (c .nq + 1) in
     moveIf
     (Ieee.le (d5 ⊗ rh2) (rh1 ⊗ d5)
     && Ieee.lt (d1000 ⊗ uround ⊗ c .pnorm) (rootOf (maxOf rh1 d1e-3) (p .order + 1) .value ⊗ p .error))
-    s c rh1 (p .order)
+    c rh1 (p .order)
 
 unfoldable pub toAdamsOf : Settings → Common → Float → List Float → Change
-toAdamsOf s c dsm work = cond (ltb 5 (c .nq)) Gap (toAdamsAt s c dsm (adamsProposalOf s c dsm work))
+toAdamsOf s c dsm work = cond (ltb 5 (c .nq)) Gap (toAdamsAt c dsm (adamsProposalOf s c dsm work))
 
 abbrev pub changeIn : MethodFamily → Settings → Common → Float → List Float → Change
 changeIn Adams s c dsm work = toBdfOf s c dsm work
@@ -101,4 +101,4 @@ otherFamilyOf c to = with-icount icount20 (with-pdlast zeroF (with-nq (to .order
 unfoldable pub changedOf : Settings → Common → Move → List Float → Moved
 changedOf s c to work =
     let d = otherFamilyOf c to in
-    record { common = adjustOf s d (to .rh); work = rescaleColumnsOf (s .n) (d .nq + 1) (limitedOf s d (to .rh)) work }
+    record { common = adjustOf d (to .rh); work = rescaleColumnsOf (s .n) (d .nq + 1) (limitedOf d (to .rh)) work }

@@ -11,7 +11,6 @@ use Rattle.numbers.specs.Order.{minOf}
 use Rattle.root.specs.Root.{rootOf}
 use Rattle.coefficients.specs.Table.{sm1Of}
 use Rattle.vectors.specs.Norm.{vmnormOf}
-use Rattle.common.specs.declared.Settings.{Settings}
 use Rattle.common.specs.declared.Common.{Common}
 use Rattle.common.specs.Layout.{column, ewt}
 
@@ -23,8 +22,8 @@ abbrev pub columnSizeOf : ℕ → ℕ → List Float → Float
 columnSizeOf n j work = vmnormOf (column n j work) (ewt n work) .value
 
 -- hmin / |h|
-abbrev pub leastOf : Settings → Common → Float
-leastOf s c = s .hmin ⊘ absOf (c .h)
+abbrev pub leastOf : Common → Float
+leastOf c = c .hmin ⊘ absOf (c .h)
 
 -- at most twice itself, or SM1 / pdh where the step times the Jacobian's norm counts
 abbrev pub withinStabilityOf : Float → Float → ℕ → Float

@@ -27,10 +27,10 @@ countsOf x =
 
 abbrev pub floatsOf : Session → List Float
 floatsOf x =
-    x .settings .xend ∷ x .settings .direction ∷ x .settings .hmin ∷ x .settings .hmxi ∷ x .common .tn
-    ∷ x .common .h ∷ x .common .hu ∷ x .common .told ∷ x .common .rc ∷ x .common .el0 ∷ x .common .conit
-    ∷ x .common .rmax ∷ x .common .pdest ∷ x .common .pdlast ∷ x .common .pdnorm ∷ x .common .convrate
-    ∷ x .common .pnorm ∷ x .common .rate ∷ x .common .delp ∷ []
+    x .settings .xend ∷ x .settings .direction ∷ x .common .hmin ∷ x .common .hmxi ∷ x .common .tn ∷ x .common .h
+    ∷ x .common .hu ∷ x .common .told ∷ x .common .rc ∷ x .common .el0 ∷ x .common .conit ∷ x .common .rmax
+    ∷ x .common .pdest ∷ x .common .pdlast ∷ x .common .pdnorm ∷ x .common .convrate ∷ x .common .pnorm
+    ∷ x .common .rate ∷ x .common .delp ∷ []
 
 -- ---- the record from its words: u are words 0 to 33, f words 34 to 52
 
@@ -38,8 +38,7 @@ abbrev pub settingsOf : List ℕ → List Float → Settings
 settingsOf u f = record {
       n = getD u 1 0; maxsteps = getD u 2 0; mxordn = getD u 3 0; mxords = getD u 4 0; maxcor = getD u 5 0;
       msbp = getD u 6 0; mxncf = getD u 7 0; supplied = flagOf (getD u 8 0); given = flagOf (getD u 9 0);
-      nrtol = getD u 10 0; natol = getD u 11 0; xend = getD f 0 nan; direction = getD f 1 nan; hmin = getD f 2 nan;
-      hmxi = getD f 3 nan;
+      nrtol = getD u 10 0; natol = getD u 11 0; xend = getD f 0 nan; direction = getD f 1 nan;
 }
 
 -- the floats alone
@@ -47,10 +46,10 @@ abbrev pub floatsAloneOf : List Float → Common
 floatsAloneOf f = record {
       meth = Adams; nq = 0; lmax = 0; nqnyh = 0; ialth = 0; icount = 0; table = 0; nslp = 0; nst = 0; nfe = 0;
       nje = 0; nlu = 0; rejected = 0; total = 0; count = 0; kflag = 0; ncf = 0; m = 0; column = 0; due = false;
-      jcur = false; setup = false; tn = getD f 4 nan; h = getD f 5 nan; hu = getD f 6 nan; told = getD f 7 nan;
-      rc = getD f 8 nan; el0 = getD f 9 nan; conit = getD f 10 nan; rmax = getD f 11 nan; pdest = getD f 12 nan;
-      pdlast = getD f 13 nan; pdnorm = getD f 14 nan; convrate = getD f 15 nan; pnorm = getD f 16 nan;
-      rate = getD f 17 nan; delp = getD f 18 nan;
+      jcur = false; setup = false; hmin = getD f 2 nan; hmxi = getD f 3 nan; tn = getD f 4 nan; h = getD f 5 nan;
+      hu = getD f 6 nan; told = getD f 7 nan; rc = getD f 8 nan; el0 = getD f 9 nan; conit = getD f 10 nan;
+      rmax = getD f 11 nan; pdest = getD f 12 nan; pdlast = getD f 13 nan; pdnorm = getD f 14 nan;
+      convrate = getD f 15 nan; pnorm = getD f 16 nan; rate = getD f 17 nan; delp = getD f 18 nan;
 }
 
 -- a record with its family and its counts replaced
@@ -60,9 +59,10 @@ withCounts family u c = record {
       icount = getD u 17 0; table = getD u 18 0; nslp = getD u 19 0; nst = getD u 20 0; nfe = getD u 21 0;
       nje = getD u 22 0; nlu = getD u 23 0; rejected = getD u 24 0; total = getD u 25 0; count = getD u 26 0;
       kflag = getD u 27 0; ncf = getD u 28 0; m = getD u 29 0; column = getD u 30 0; due = flagOf (getD u 31 0);
-      jcur = flagOf (getD u 32 0); setup = flagOf (getD u 33 0); tn = c .tn; h = c .h; hu = c .hu; told = c .told;
-      rc = c .rc; el0 = c .el0; conit = c .conit; rmax = c .rmax; pdest = c .pdest; pdlast = c .pdlast;
-      pdnorm = c .pdnorm; convrate = c .convrate; pnorm = c .pnorm; rate = c .rate; delp = c .delp;
+      jcur = flagOf (getD u 32 0); setup = flagOf (getD u 33 0); hmin = c .hmin; hmxi = c .hmxi; tn = c .tn;
+      h = c .h; hu = c .hu; told = c .told; rc = c .rc; el0 = c .el0; conit = c .conit; rmax = c .rmax;
+      pdest = c .pdest; pdlast = c .pdlast; pdnorm = c .pdnorm; convrate = c .convrate; pnorm = c .pnorm;
+      rate = c .rate; delp = c .delp;
 }
 
 abbrev pub commonOf : List ℕ → List Float → Common
@@ -186,8 +186,8 @@ Fit v = T (fits binary64 v)
 pub record FloatsFit (x : Session) : Type 0 where
   pub xend : Fit (x .settings .xend)
   pub direction : Fit (x .settings .direction)
-  pub hmin : Fit (x .settings .hmin)
-  pub hmxi : Fit (x .settings .hmxi)
+  pub hmin : Fit (x .common .hmin)
+  pub hmxi : Fit (x .common .hmxi)
   pub tn : Fit (x .common .tn)
   pub h : Fit (x .common .h)
   pub hu : Fit (x .common .hu)

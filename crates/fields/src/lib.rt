@@ -158,8 +158,8 @@ pub fn floats(x: Session) -> [f64; 19]
     [
         s.xend,
         s.direction,
-        s.hmin,
-        s.hmxi,
+        c.hmin,
+        c.hmxi,
         c.tn,
         c.h,
         c.hu,
@@ -185,8 +185,6 @@ fn settings(u: &[usize; 34], f: &[f64; 19]) -> Settings
         n: u[1],
         xend: f[0],
         direction: f[1],
-        hmin: f[2],
-        hmxi: f[3],
         maxsteps: u[2],
         mxordn: u[3],
         mxords: u[4],
@@ -205,6 +203,8 @@ fn floats_alone(f: &[f64; 19]) -> Common
     ensures { λ r. ⌜ r ≡ floatsAloneOf (now (f .entry)) ⌝ }
 {
     Common {
+        hmin: f[2],
+        hmxi: f[3],
         tn: f[4],
         h: f[5],
         hu: f[6],
@@ -250,6 +250,8 @@ fn common(u: &[usize; 34], f: &[f64; 19]) -> Common
 {
     let c = floats_alone(f);
     Common {
+        hmin: c.hmin,
+        hmxi: c.hmxi,
         tn: c.tn,
         h: c.h,
         hu: c.hu,

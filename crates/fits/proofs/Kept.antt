@@ -18,7 +18,7 @@ use Rattle.reports.specs.Reports.{initialOf}
 use Rattle.machine.specs.Resume.{With, isAsked, takenOf, unasked, resumeOf}
 use Rattle.refusals.specs.declared.Options.{Options}
 use Rattle.refusals.specs.declared.Lengths.{Lengths}
-use Rattle.refusals.specs.Start.{largestOf, smallestOf, inverseOf, settingsOf, firstStepOf}
+use Rattle.refusals.specs.Start.{largestOf, smallestOf, inverseOf, inverseLargestOf, settingsOf, firstStepOf}
 use Rattle.fields.specs.Fields.{Fit, FloatsFit}
 use Rattle.fits.specs.Next.{started, next}
 use Rattle.fits.proofs.Floats.{either, literal, quotient, absolute, signum}
@@ -28,15 +28,15 @@ use Rattle.fits.proofs.Replies.{LeftFits}
 
 commons : (x : Session) → FloatsFit x → CommonFits (x .common)
 commons x f = record {
+  hmin = f .hmin; hmxi = f .hmxi;
   tn = f .tn; h = f .h; hu = f .hu; told = f .told; rc = f .rc; el0 = f .el0; conit = f .conit; rmax = f .rmax;
   pdest = f .pdest; pdlast = f .pdlast; pdnorm = f .pdnorm; convrate = f .convrate; pnorm = f .pnorm; rate = f .rate;
   delp = f .delp;
 }
 
-floats : (x : Session) → Fit (x .settings .xend) → Fit (x .settings .direction) → Fit (x .settings .hmin)
-    → Fit (x .settings .hmxi) → CommonFits (x .common) → FloatsFit x
-floats x xend direction hmin hmxi c = record {
-  xend = xend; direction = direction; hmin = hmin; hmxi = hmxi;
+floats : (x : Session) → Fit (x .settings .xend) → Fit (x .settings .direction) → CommonFits (x .common) → FloatsFit x
+floats x xend direction c = record {
+  xend = xend; direction = direction; hmin = c .hmin; hmxi = c .hmxi;
   tn = c .tn; h = c .h; hu = c .hu; told = c .told; rc = c .rc; el0 = c .el0; conit = c .conit; rmax = c .rmax;
   pdest = c .pdest; pdlast = c .pdlast; pdnorm = c .pdnorm; convrate = c .convrate; pnorm = c .pnorm; rate = c .rate;
   delp = c .delp;
@@ -79,7 +79,7 @@ module _ (x : Session) (time : Float) (t : Fit time) (w : With) (f : CommonFits 
 pub floats-kept : (x : Session) (kind : Kind) (reply : List Float) (time : Float) (w : With) → FloatsFit x → Fit time
     → FloatsFit (next x (resumeOf x kind reply time w))
 floats-kept x kind reply time w f t =
-    floats (next x (resumeOf x kind reply time w)) (f .xend) (f .direction) (f .hmin) (f .hmxi)
+    floats (next x (resumeOf x kind reply time w)) (f .xend) (f .direction)
     (resume-fits x time t w (commons x f) kind reply)
 
 -- ---- a start
@@ -92,13 +92,19 @@ inverse-fits : (hmax : Float) → Fit (inverseOf hmax)
 unfolding inverseOf
 inverse-fits hmax = either Fit (Ieee.lt zeroF hmax) _ zeroF (quotient oneF hmax) (literal _)
 
+inverse-largest-fits : (x0 xend : Float) (o : Options) → Fit (inverseLargestOf x0 xend o)
+unfolding inverseLargestOf
+inverse-largest-fits x0 xend o = inverse-fits (largestOf o (xend ⊖ x0))
+
 first-step-fits : (o : Options) → Fit (o .«first_step») → Fit (firstStepOf o)
 unfolding firstStepOf
 first-step-fits o p = either Fit (eqb (o .«has_first_step») 0) zeroF _ (literal _) p
 
-initial-fits : (s : Settings) (x0 h : Float) → Fit x0 → Fit h → CommonFits (initialOf s x0 h)
+initial-fits : (s : Settings) (x0 h hmin hmxi : Float) → Fit x0 → Fit h → Fit hmin → Fit hmxi
+    → CommonFits (initialOf s x0 h hmin hmxi)
 unfolding initialOf
-initial-fits s x0 h p q = record {
+initial-fits s x0 h hmin hmxi p q m i = record {
+  hmin = m; hmxi = i;
   tn = p; h = q; hu = literal _; told = p; rc = literal _; el0 = literal _; conit = literal _; rmax = literal _;
   pdest = literal _; pdlast = literal _; pdnorm = literal _; convrate = literal _; pnorm = literal _; rate = literal _;
   delp = literal _;
@@ -108,5 +114,6 @@ pub start-fits : (x0 xend : Float) (o : Options) (l : Lengths) → Fit x0 → Fi
     → Fit (o .«first_step») → FloatsFit (started x0 xend o l)
 unfolding settingsOf
 start-fits x0 xend o l p q m h =
-    floats (started x0 xend o l) q (signum (xend ⊖ x0)) (smallest-fits o m) (inverse-fits (largestOf o (xend ⊖ x0)))
-    (initial-fits (settingsOf x0 xend o l) x0 (firstStepOf o) p (first-step-fits o h))
+    floats (started x0 xend o l) q (signum (xend ⊖ x0))
+    (initial-fits (settingsOf x0 xend o l) x0 (firstStepOf o) (smallestOf o) (inverseLargestOf x0 xend o)
+    p (first-step-fits o h) (smallest-fits o m) (inverse-largest-fits x0 xend o))

@@ -253,7 +253,7 @@ module _ (s : Settings) where
       → KeptFits (sizedAt s refused c h work)
   unfolding sizedAt
   sized-at true c h work p f = put-h p f
-  sized-at false c h work p f = put-h (first-size s (c .tn) h p) f
+  sized-at false c h work p f = put-h (first-size s c h p) f
 
   sized-fits : (c : Common) (h : Float) (work : List Float) → Fit h → CommonFits c → KeptFits (sizedOf s c h work)
   unfolding sizedOf

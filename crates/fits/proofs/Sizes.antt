@@ -17,6 +17,7 @@ use Rattle.coefficients.specs.Table.{elcoOf}
 use Rattle.vectors.specs.Norm.{normAt, vmnormOf}
 use Rattle.vectors.specs.FirstStep.{initialStepOf}
 use Rattle.common.specs.declared.Settings.{Settings}
+use Rattle.common.specs.declared.Common.{Common}
 use Rattle.reports.specs.Reports.{firstSizeOf}
 use Rattle.fields.specs.Fields.{Fit}
 use Rattle.fits.proofs.Floats.{either, literal, difference, product, quotient, absolute, copysign, maximum}
@@ -56,12 +57,12 @@ unfolding initialStepOf
 initial-step t tout y f0 w rtol atol =
     copysign _ _ (minimum _ _ (quotient _ _) (absolute _ (difference tout t)))
 
-pub first-size : (s : Settings) (x0 h : Float) → Fit h → Fit (firstSizeOf s x0 h)
+pub first-size : (s : Settings) (c : Common) (h : Float) → Fit h → Fit (firstSizeOf s c h)
 unfolding firstSizeOf
-first-size s x0 h p =
-    let d = s .xend ⊖ x0 in
-    let h1 = cond (Ieee.ne (s .hmxi) zeroF) (h ⊘ maxOf (absOf h ⊗ s .hmxi) oneF) h in
+first-size s c h p =
+    let d = s .xend ⊖ c .tn in
+    let h1 = cond (Ieee.ne (c .hmxi) zeroF) (h ⊘ maxOf (absOf h ⊗ c .hmxi) oneF) h in
     let h2 = cond (Ieee.lt (absOf d) (absOf h1)) d h1 in
-    either Fit (Ieee.lt (absOf h2) (s .hmin)) _ h2 (product (s .hmin) (s .direction))
-    (either Fit (Ieee.lt (absOf d) (absOf h1)) d h1 (difference (s .xend) x0)
-    (either Fit (Ieee.ne (s .hmxi) zeroF) _ h (quotient h _) p))
+    either Fit (Ieee.lt (absOf h2) (c .hmin)) _ h2 (product (c .hmin) (s .direction))
+    (either Fit (Ieee.lt (absOf d) (absOf h1)) d h1 (difference (s .xend) (c .tn))
+    (either Fit (Ieee.ne (c .hmxi) zeroF) _ h (quotient h _) p))

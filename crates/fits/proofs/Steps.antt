@@ -30,7 +30,7 @@ module _ (s : Settings) where
   unfolding resetOf
   reset-fits c f = put-rc (quotient _ _) (put-el0 (elco _ _ _) (put-conit (quotient _ _) f))
 
-  pub adjust-fits : (c : Common) (rh : Float) → CommonFits c → CommonFits (adjustOf s c rh)
+  pub adjust-fits : (c : Common) (rh : Float) → CommonFits c → CommonFits (adjustOf c rh)
   unfolding adjustOf
   adjust-fits c rh f = put-h (product _ _) (put-rc (product _ _) f)
 
@@ -47,7 +47,7 @@ module _ (s : Settings) where
   repredict-fits : (c : Common) (rh : Float) (work : List Float) → CommonFits c
       → CommonFits (repredictOf s c rh work .common)
   unfolding repredictOf
-  repredict-fits c rh work f = predicted-fits (adjustOf s c rh) (adjust-fits c rh f)
+  repredict-fits c rh work f = predicted-fits (adjustOf c rh) (adjust-fits c rh f)
 
   no-convergence-at : (poor : Bool) (c : Common) (work : List Float) → CommonFits c
       → CommonFits (noConvergenceAt s poor c work .common)
@@ -74,7 +74,7 @@ module _ (s : Settings) where
   unfolding failedOf missedOf overshotOf
   failed-fits c dsm work f =
       let d = overshotOf c in
-      missed-at dsm (tinyOf s d) (ltb (d .kflag) 3) (eqb (d .kflag) 10) d (retractedWork s c work) (retracted-fits c f)
+      missed-at dsm (tinyOf d) (ltb (d .kflag) 3) (eqb (d .kflag) 10) d (retractedWork s c work) (retracted-fits c f)
 
   lowered-fits : (same : Bool) (c : Common) → CommonFits c → CommonFits (loweredOf s same c)
   lowered-fits true c f = f

@@ -6,12 +6,13 @@ use Rattle.turns.specs.Turns.{Left}
 use Rattle.reports.specs.Reports.{initialOf}
 use Rattle.refusals.specs.declared.Options.{Options}
 use Rattle.refusals.specs.declared.Lengths.{Lengths}
-use Rattle.refusals.specs.Start.{settingsOf, firstStepOf}
+use Rattle.refusals.specs.Start.{settingsOf, firstStepOf, smallestOf, inverseLargestOf}
 
 abbrev pub started : Float → Float → Options → Lengths → Session
 started x0 xend o l =
     let s = settingsOf x0 xend o l in
-    record { settings = s; common = initialOf s x0 (firstStepOf o); phase = FirstDerivative }
+    let c = initialOf s x0 (firstStepOf o) (smallestOf o) (inverseLargestOf x0 xend o) in
+    record { settings = s; common = c; phase = FirstDerivative }
 
 abbrev pub next : Session → Left → Session
 next x l = record { settings = x .settings; common = l .turn .common; phase = l .turn .phase }

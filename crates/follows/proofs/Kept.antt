@@ -45,7 +45,7 @@ module _ (g : Given) (a : Start) (ok : Accepts g a) where
 
   fine-start : FineLeft (g .s) (startedAt g a)
   unfolding beginning
-  fine-start = (within-initial (g .s) (ok .settings) (a .x0) (a .h), lent-start)
+  fine-start = (within-initial (g .s) (ok .settings) (a .x0) (a .h) (a .hmin) (a .hmxi), lent-start)
 
   -- ---- the replies
 

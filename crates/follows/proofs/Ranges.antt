@@ -418,9 +418,9 @@ module _ (s : Settings) (acc : Accepted s) where
 
   -- ---- the start
 
-  pub within-initial : (x0 h : Float) → Within s 0 (coreOf (initialOf s x0 h))
+  pub within-initial : (x0 h hmin hmxi : Float) → Within s 0 (coreOf (initialOf s x0 h hmin hmxi))
   unfolding initialOf
-  within-initial x0 h =
+  within-initial x0 h hmin hmxi =
       record {
         nq = omega arith;
         lmax = (omega (arith, acc .mxordn), omega arith, omega (arith, acc .mxordn));

@@ -37,8 +37,6 @@ givenOf p = record {
     n = 1;
     xend = p .xend;
     direction = signumOf (p .xend ⊖ zeroF);
-    hmin = p .hmin;
-    hmxi = oneF ⊘ absOf (p .xend ⊖ zeroF);
     maxsteps = p .maxsteps;
     mxordn = 12;
     mxords = 5;
@@ -55,7 +53,9 @@ givenOf p = record {
 }
 
 abbrev pub startOf : Problem → Start
-startOf p = record { x0 = zeroF; h = p .first; y0 = p .y0 ∷ [] }
+startOf p = record {
+  x0 = zeroF; h = p .first; hmin = p .hmin; hmxi = oneF ⊘ absOf (p .xend ⊖ zeroF); y0 = p .y0 ∷ [];
+}
 
 -- ---- a host
 

@@ -121,6 +121,6 @@ pub in-range-predicted : (s : Settings) (c : Common) → InRange s c → InRange
 unfolding predictedOf
 in-range-predicted s c p = same-range _ refl refl refl refl p
 
-pub in-range-adjust : (s : Settings) (c : Common) (rh : Float) → InRange s c → InRange s (adjustOf s c rh)
+pub in-range-adjust : (s : Settings) (c : Common) (rh : Float) → InRange s c → InRange s (adjustOf c rh)
 unfolding adjustOf
 in-range-adjust s c rh p = same-range _ refl refl refl refl p

@@ -26,16 +26,16 @@ pub record InRange (s : Settings) (c : Common) : Type 0 where
   pub steps : (c .nslp < 2 ^ 62) × (s .msbp ≤ 1000000)
 
 -- the factor of a rescale: at most rmax, within the largest step, and in the Adams family within the stability limit
-unfoldable pub limitedOf : Settings → Common → Float → Float
-limitedOf s c rh =
+unfoldable pub limitedOf : Common → Float → Float
+limitedOf c rh =
     let rh1 = minOf rh (c .rmax) in
-    let rh2 = rh1 ⊘ maxOf oneF (absOf (c .h) ⊗ s .hmxi ⊗ rh1) in
+    let rh2 = rh1 ⊘ maxOf oneF (absOf (c .h) ⊗ c .hmxi ⊗ rh1) in
     let pdh = maxOf (absOf (c .h) ⊗ c .pdlast) d1e-6 in
     cond (isBdf (c .meth)) rh2 (cond (Ieee.le (sm1Of (c .nq)) (rh2 ⊗ pdh ⊗ d1·00001)) (sm1Of (c .nq) ⊘ pdh) rh2)
 
-unfoldable pub adjustOf : Settings → Common → Float → Common
-adjustOf s c rh =
-    let r = limitedOf s c rh in
+unfoldable pub adjustOf : Common → Float → Common
+adjustOf c rh =
+    let r = limitedOf c rh in
     with-h (c .h ⊗ r) (with-rc (c .rc ⊗ r) (with-ialth (c .nq + 1) c))
 
 -- |rc - 1| > 0.3, or msbp steps since the last Jacobian

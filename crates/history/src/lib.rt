@@ -156,12 +156,12 @@ pub fn store(work: &mut [f64], at: usize, from: &[f64])
 }
 
 // The factor of a rescale within its limits: rmax, the largest step, and in the Adams family the stability limit SM1.
-pub fn limited(s: Settings, c: Common, rh: f64) -> f64
+pub fn limited(c: Common, rh: f64) -> f64
     requires { ⌜ (1 ≤ c .nq) × (c .nq ≤ 12) ⌝ }
-    ensures { λ r. ⌜ r ≡ limitedOf s c rh ⌝ }
+    ensures { λ r. ⌜ r ≡ limitedOf c rh ⌝ }
 {
     let rh1 = numbers::min(rh, c.rmax);
-    let rh2 = rh1 / numbers::max(1.0, numbers::abs(c.h) * s.hmxi * rh1);
+    let rh2 = rh1 / numbers::max(1.0, numbers::abs(c.h) * c.hmxi * rh1);
     let meth = c.meth;
     if common::is_bdf(meth) {
         return rh2;
@@ -177,10 +177,10 @@ pub fn limited(s: Settings, c: Common, rh: f64) -> f64
 pub fn stoda_adjust_step_size(s: Settings, c: Common, rh: f64, work: &mut [f64]) -> Common
     requires { ⌜ InRange s c ⌝ }
     requires { ⌜ 19 * s .n ≤ length (now work) ⌝ }
-    ensures { λ r. ⌜ (r ≡ adjustOf s c rh)
-        × (now (work .exit) ≡ rescaleColumnsOf (s .n) (c .nq + 1) (limitedOf s c rh) (now (work .entry))) ⌝ }
+    ensures { λ r. ⌜ (r ≡ adjustOf c rh)
+        × (now (work .exit) ≡ rescaleColumnsOf (s .n) (c .nq + 1) (limitedOf c rh) (now (work .entry))) ⌝ }
 {
-    let r = limited(s, c, rh);
+    let r = limited(c, rh);
     rescale_columns(work, s.n, c.nq + 1, r);
     let mut d = c;
     d.h = c.h * r;

@@ -101,6 +101,7 @@ pub record SameStep (c d : Common) : Type 0 where
 -- c, with the fields of d that a pass may change
 abbrev pub moved : Common → Common → Common
 moved d c = record {
+      hmin = c .hmin; hmxi = c .hmxi;
       tn = c .tn; h = c .h; hu = c .hu; told = c .told; rc = d .rc; el0 = c .el0; conit = c .conit; rmax = c .rmax;
       pdest = d .pdest; pdlast = d .pdlast; pdnorm = d .pdnorm; convrate = d .convrate; pnorm = c .pnorm;
       rate = d .rate; delp = d .delp; meth = c .meth; nq = c .nq; lmax = c .lmax; nqnyh = c .nqnyh; ialth = c .ialth;

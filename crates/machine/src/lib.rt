@@ -96,9 +96,9 @@ pub fn resume(
 }
 
 // The record at the start, with the first step where it is given; the first derivative is asked for.
-pub fn initial(s: Settings, x0: f64, h: f64) -> Common
+pub fn initial(s: Settings, x0: f64, h: f64, hmin: f64, hmxi: f64) -> Common
     requires { ⌜ Accepted s ⌝ }
-    ensures { λ r. ⌜ r ≡ initialOf s x0 h ⌝ }
+    ensures { λ r. ⌜ r ≡ initialOf s x0 h hmin hmxi ⌝ }
 {
     let a = common::mxordn(s);
     let b = common::mxords(s);
@@ -106,7 +106,10 @@ pub fn initial(s: Settings, x0: f64, h: f64) -> Common
     if a < b {
         order = b;
     }
+    let lmax = order + 1;
     Common {
+        hmin: hmin,
+        hmxi: hmxi,
         tn: x0,
         h: h,
         hu: 0.0,
@@ -124,7 +127,7 @@ pub fn initial(s: Settings, x0: f64, h: f64) -> Common
         delp: 0.0,
         meth: MethodFamily::Adams,
         nq: 1,
-        lmax: order + 1,
+        lmax: lmax,
         nqnyh: s.n,
         ialth: 2,
         icount: 1000020,

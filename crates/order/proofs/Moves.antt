@@ -101,7 +101,7 @@ module _ (s : Settings) (c : Common) (k : ℕ) where
   taken-moves rh branch work =
       record {
         fields = refl;
-        sized = length-rescale (s .n) (c .nq + 1) (limitedOf s c rh) work;
+        sized = length-rescale (s .n) (c .nq + 1) (limitedOf c rh) work;
         icount = inl refl;
         meth = λ n. refl;
         ialth = λ h. omega arith;
@@ -113,7 +113,7 @@ module _ (s : Settings) (k : ℕ) where
       → (Ready s c → (1 ≤ p .order) × (p .order + 1 ≤ c .lmax)) → Moves s c k work (settledOf s c p branch work)
   unfolding settledOf resetOf
   settled-moves c p branch work within =
-      let rh = maxOf (p .rh) (leastOf s c) in
+      let rh = maxOf (p .rh) (leastOf c) in
       let other = resetOf s (with-nq (p .order) c) in
       let to-other =
       from s c k other work work _ refl refl refl (λ o. reset-ready (p .order) (within o) o) refl

@@ -88,15 +88,15 @@ atOrder s c q = cond (eqb q (c .nq)) c (resetOf s (with-nq q c))
 
 abbrev pub takenOf : Settings → Common → Float → Branch → List Float → Settled
 takenOf s d rh branch work =
-    let scaled = rescaleColumnsOf (s .n) (d .nq + 1) (limitedOf s d rh) work in
-    record { branch = branch; common = adjustOf s d rh; work = scaled }
+    let scaled = rescaleColumnsOf (s .n) (d .nq + 1) (limitedOf d rh) work in
+    record { branch = branch; common = adjustOf d rh; work = scaled }
 
 -- held by SM1; a gain of less than a tenth; taken
 unfoldable pub settledOf : Settings → Common → Proposal → Branch → List Float → Settled
 settledOf s c p branch work =
     cond (heldOf c p) (waitsOf HeldBySm1 c work)
     (cond (Ieee.lt (p .rh) d1·1) (waitsOf SmallGain c work)
-    (takenOf s (atOrder s c (p .order)) (maxOf (p .rh) (leastOf s c)) branch work))
+    (takenOf s (atOrder s c (p .order)) (maxOf (p .rh) (leastOf c)) branch work))
 
 -- ---- the choice
 

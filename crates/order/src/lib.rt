@@ -149,7 +149,7 @@ fn settle(s: Settings, c: Common, p: Proposal, branch: Branch, work: &mut [f64])
             common: d,
         };
     }
-    let rh = numbers::max(p.rh, s.hmin / numbers::abs(c.h));
+    let rh = numbers::max(p.rh, c.hmin / numbers::abs(c.h));
     if p.order == c.nq {
         return Chosen {
             branch: branch,

@@ -55,8 +55,8 @@ unfoldable pub adjustLeft : List Float → List ℕ → Float → List Float →
 adjustLeft fs cs rh work =
     let s = settingsOf fs cs in
     let c = commonOf fs cs in
-    left (isTaken fs cs (length work)) (adjustOf s c rh)
-    (rescaleColumnsOf (s .n) (c .nq + 1) (limitedOf s c rh) work)
+    left (isTaken fs cs (length work)) (adjustOf c rh)
+    (rescaleColumnsOf (s .n) (c .nq + 1) (limitedOf c rh) work)
     fs cs work
 
 unfoldable pub predictedLeft : List Float → List ℕ → List Float → Left

@@ -26,8 +26,6 @@ settingsOf fs cs = record {
   n = getD cs 0 0;
   xend = zeroF;
   direction = zeroF;
-  hmin = zeroF;
-  hmxi = getD fs 0 nan;
   maxsteps = 0;
   mxordn = getD cs 1 0;
   mxords = getD cs 2 0;
@@ -42,6 +40,8 @@ settingsOf fs cs = record {
 
 unfoldable pub commonOf : List Float → List ℕ → Common
 commonOf fs cs = record {
+  hmin = zeroF;
+  hmxi = getD fs 0 nan;
   tn = getD fs 1 nan;
   h = getD fs 2 nan;
   hu = getD fs 3 nan;

@@ -89,8 +89,6 @@ fn settings(floats: &[f64], counts: &[usize]) -> Settings
         n: counts[0],
         xend: 0.0,
         direction: 0.0,
-        hmin: 0.0,
-        hmxi: floats[0],
         maxsteps: 0,
         mxordn: counts[1],
         mxords: counts[2],
@@ -110,6 +108,8 @@ fn common(floats: &[f64], counts: &[usize]) -> Common
 {
     let meth = family(counts[4]);
     Common {
+        hmin: 0.0,
+        hmxi: floats[0],
         tn: floats[1],
         h: floats[2],
         hu: floats[3],

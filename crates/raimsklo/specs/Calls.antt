@@ -10,7 +10,7 @@ use Rattle.numbers.specs.Float.{zeroF}
 use Rattle.refusals.specs.declared.Options.{Options}
 use Rattle.refusals.specs.declared.Lengths.{Lengths}
 use Rattle.refusals.specs.declared.Refusal.{Refusal}
-use Rattle.refusals.specs.Start.{startRefusalOf, settingsOf, firstStepOf}
+use Rattle.refusals.specs.Start.{startRefusalOf, settingsOf, firstStepOf, smallestOf, inverseLargestOf}
 use Rattle.answers.specs.Answers.{plainOf, refusedOf}
 use Rattle.answers.specs.Called.{Buffers, Called}
 use Rattle.replies.specs.Replies.{kindOf, replyRefusalOf, goOf}
@@ -39,7 +39,7 @@ unfoldable pub startAt : Problem → Buffers → Refusal → Called
 startAt p b r =
     cond (eqb (r .number) 0)
     (beganOf (settingsOf (p .x0) (p .xend) (p .options) (lengthsOf p b)) (p .x0) (firstStepOf (p .options))
-    (p .y0) (p .rtol) (p .atol) b)
+    (smallestOf (p .options)) (inverseLargestOf (p .x0) (p .xend) (p .options)) (p .y0) (p .rtol) (p .atol) b)
     (unchanged r b)
 
 -- no states: success, h 0, all counts 0, nothing written

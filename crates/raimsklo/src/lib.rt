@@ -131,7 +131,10 @@ pub extern "C" fn raimsklo_start(
         return answers::refused(r);
     }
     let s = refusals::settings(x0, xend, options, l);
-    starts::begin(s, x0, refusals::first_step(options), y0, rtol, atol, work, pivots, session, question)
+    let h = refusals::first_step(options);
+    let hmin = refusals::smallest(options);
+    let hmxi = refusals::inverse_largest(x0, xend, options);
+    starts::begin(s, x0, h, hmin, hmxi, y0, rtol, atol, work, pivots, session, question)
 }
 
 // The host's reply to the question that stands: the next question, a report, the end, or a refusal.

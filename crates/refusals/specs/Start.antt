@@ -90,19 +90,22 @@ startRefusalOf x0 xend o l rtol atol =
 unfoldable pub largestOf : Options → Float → Float
 largestOf o difference = cond (eqb (o .«has_max_step») 0) (absOf difference) (absOf (o .«max_step»))
 
+-- hmin
 unfoldable pub smallestOf : Options → Float
 smallestOf o = cond (eqb (o .«has_min_step») 0) zeroF (absOf (o .«min_step»))
 
 unfoldable pub inverseOf : Float → Float
 inverseOf hmax = cond (Ieee.lt zeroF hmax) (oneF ⊘ hmax) zeroF
 
+-- hmxi
+unfoldable pub inverseLargestOf : Float → Float → Options → Float
+inverseLargestOf x0 xend o = inverseOf (largestOf o (xend ⊖ x0))
+
 unfoldable pub settingsOf : Float → Float → Options → Lengths → Settings
 settingsOf x0 xend o l = record {
   n = l .n;
   xend = xend;
   direction = signumOf (xend ⊖ x0);
-  hmin = smallestOf o;
-  hmxi = inverseOf (largestOf o (xend ⊖ x0));
   maxsteps = o .«max_steps»;
   mxordn = o .mxordn;
   mxords = o .mxords;

@@ -6,7 +6,8 @@ ghost use Prim.Native.Nat.{ℕ, _≤_, _<_};
 ghost use lib.ListN.{length};
 ghost use Rattle.refusals.specs.Start.{isList, listsOf, sizesOf, largeOf, limitsOf};
 ghost use Rattle.refusals.specs.Start.{isNegative, toleranceAt, tolerancesOf};
-ghost use Rattle.refusals.specs.Start.{largestOf, smallestOf, inverseOf, settingsOf, firstStepOf, stepOf, startRefusalOf};
+ghost use Rattle.refusals.specs.Start.{largestOf, smallestOf, inverseOf, inverseLargestOf, settingsOf};
+ghost use Rattle.refusals.specs.Start.{firstStepOf, stepOf, startRefusalOf};
 ghost use Rattle.refusals.specs.Refusal.{none, plain, alsoOf};
 
 use common::Settings;
@@ -185,7 +186,8 @@ fn largest(o: Options, difference: f64) -> f64
     numbers::abs(o.max_step)
 }
 
-fn smallest(o: Options) -> f64
+// hmin: the smallest step, 0 where none is given.
+pub fn smallest(o: Options) -> f64
     ensures { λ r. ⌜ r ≡ smallestOf o ⌝ }
 {
     if o.has_min_step == 0 {
@@ -204,6 +206,13 @@ fn inverse(hmax: f64) -> f64
     0.0
 }
 
+// hmxi.
+pub fn inverse_largest(x0: f64, xend: f64, o: Options) -> f64
+    ensures { λ r. ⌜ r ≡ inverseLargestOf x0 xend o ⌝ }
+{
+    inverse(largest(o, xend - x0))
+}
+
 pub fn settings(x0: f64, xend: f64, o: Options, l: Lengths) -> Settings
     ensures { λ r. ⌜ r ≡ settingsOf x0 xend o l ⌝ }
 {
@@ -212,8 +221,6 @@ pub fn settings(x0: f64, xend: f64, o: Options, l: Lengths) -> Settings
         n: l.n,
         xend: xend,
         direction: numbers::signum(difference),
-        hmin: smallest(o),
-        hmxi: inverse(largest(o, difference)),
         maxsteps: o.max_steps,
         mxordn: o.mxordn,
         mxords: o.mxords,

@@ -33,8 +33,9 @@ use Rattle.turns.specs.Begin.{goOnOf}
 -- ---- the start
 
 -- the record at the start, h being the first step where it is given; the first derivative is asked for
-unfoldable pub initialOf : Settings → Float → Float → Common
-initialOf s x0 h = record {
+unfoldable pub initialOf : Settings → Float → Float → Float → Float → Common
+initialOf s x0 h hmin hmxi = record {
+  hmin = hmin; hmxi = hmxi;
   tn = x0; h = h; hu = zeroF; told = x0; rc = zeroF; el0 = oneF; conit = zeroF; rmax = zeroF;
   pdest = zeroF; pdlast = zeroF; pdnorm = zeroF; convrate = d0·7; pnorm = zeroF; rate = zeroF; delp = zeroF;
   meth = Adams; nq = 1; lmax = max (mxordnOf s) (mxordsOf s) + 1; nqnyh = s .n; ialth = 2; icount = icount20; table = 0;
@@ -44,19 +45,19 @@ initialOf s x0 h = record {
 }
 
 -- within the largest step, the interval, and at least the smallest step
-unfoldable pub firstSizeOf : Settings → Float → Float → Float
-firstSizeOf s x0 h =
-    let d = s .xend ⊖ x0 in
-    let h1 = cond (Ieee.ne (s .hmxi) zeroF) (h ⊘ maxOf (absOf h ⊗ s .hmxi) oneF) h in
+unfoldable pub firstSizeOf : Settings → Common → Float → Float
+firstSizeOf s c h =
+    let d = s .xend ⊖ c .tn in
+    let h1 = cond (Ieee.ne (c .hmxi) zeroF) (h ⊘ maxOf (absOf h ⊗ c .hmxi) oneF) h in
     let h2 = cond (Ieee.lt (absOf d) (absOf h1)) d h1 in
-    cond (Ieee.lt (absOf h2) (s .hmin)) (s .hmin ⊗ s .direction) h2
+    cond (Ieee.lt (absOf h2) (c .hmin)) (c .hmin ⊗ s .direction) h2
 
 -- 11: a first step that is zero, NaN or of another sign
 unfoldable pub sizedAt : Settings → Bool → Common → Float → List Float → Kept
 sizedAt s true c h work =
     kept (record { question = Question.StepRefused h; phase = Phase.Finished; common = with-h h c }) work
 sizedAt s false c h work =
-    let h1 = firstSizeOf s (c .tn) h in
+    let h1 = firstSizeOf s c h in
     kept (record {
       question = Question.FirstReport (record { time = c .tn });
       phase = Phase.FirstReport;

@@ -21,19 +21,19 @@ use turns::Status;
 use turns::Turn;
 
 // The first step within the largest step, the interval and the smallest step.
-fn first_size(s: Settings, x0: f64, h: f64) -> f64
-    ensures { λ r. ⌜ r ≡ firstSizeOf s x0 h ⌝ }
+fn first_size(s: Settings, c: Common, h: f64) -> f64
+    ensures { λ r. ⌜ r ≡ firstSizeOf s c h ⌝ }
 {
     let mut h1 = h;
-    if s.hmxi != 0.0 {
-        h1 = h / numbers::max(numbers::abs(h) * s.hmxi, 1.0);
+    if c.hmxi != 0.0 {
+        h1 = h / numbers::max(numbers::abs(h) * c.hmxi, 1.0);
     }
     let mut h2 = h1;
-    if numbers::abs(h1) > numbers::abs(s.xend - x0) {
-        h2 = s.xend - x0;
+    if numbers::abs(h1) > numbers::abs(s.xend - c.tn) {
+        h2 = s.xend - c.tn;
     }
-    if numbers::abs(h2) < s.hmin {
-        return s.hmin * s.direction;
+    if numbers::abs(h2) < c.hmin {
+        return c.hmin * s.direction;
     }
     h2
 }
@@ -48,7 +48,7 @@ fn sized(s: Settings, c: Common, h: f64, work: &mut [f64]) -> Turn
     if numbers::is_refused(h, s.direction) {
         return Turn { question: Question::StepRefused(h), phase: Phase::Finished, common: d };
     }
-    d.h = first_size(s, c.tn, h);
+    d.h = first_size(s, c, h);
     history::set_slope(work, s.n, d.h);
     Turn { question: Question::FirstReport(At { time: c.tn }), phase: Phase::FirstReport, common: d }
 }

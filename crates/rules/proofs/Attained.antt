@@ -39,7 +39,7 @@ use Rattle.rules.specs.Replies.{Reply, waits, fed}
 
 abbrev settings : Settings
 settings = record {
-  n = 1; xend = oneF; direction = oneF; hmin = zeroF; hmxi = oneF; maxsteps = 1; mxordn = 12; mxords = 5; maxcor = 2;
+  n = 1; xend = oneF; direction = oneF; maxsteps = 1; mxordn = 12; mxords = 5; maxcor = 2;
   msbp = 20; mxncf = 1; supplied = false; given = true; nrtol = 1; natol = 1;
 }
 
@@ -47,7 +47,7 @@ abbrev given : Given
 given = record { s = settings; rtol = zeroF ∷ []; atol = oneF ∷ [] }
 
 abbrev from : Start
-from = record { x0 = zeroF; h = oneF; y0 = zeroF ∷ [] }
+from = record { x0 = zeroF; h = oneF; hmin = zeroF; hmxi = oneF; y0 = zeroF ∷ [] }
 
 -- 2^100
 abbrev large : Float

@@ -209,10 +209,12 @@ solve k g x = solveAt k g (isGoing (g .s) (x .c)) (leb (g .s .maxsteps) (x .c .n
 
 -- ---- the start
 
--- the start's time, first step (where it is given) and state
+-- the start's time, first step (where it is given), smallest step, 1 / largest step, and state
 pub record Start : Type 0 where
   pub x0 : Float
   pub h : Float
+  pub hmin : Float
+  pub hmxi : Float
   pub y0 : List Float
 
 -- work and pivots are 0, but for y
@@ -220,14 +222,14 @@ unfoldable pub beginning : Given → Start → State
 beginning g a =
     let n = g .s .n in
     record {
-      c = initialOf (g .s) (a .x0) (a .h);
+      c = initialOf (g .s) (a .x0) (a .h) (a .hmin) (a .hmxi);
       w = putPart (17 * n) n (replicate (n * n + 19 * n) zeroF) (a .y0);
       p = replicate n 0;
     }
 
 -- the first report, with the first step's size
 abbrev pub sizedState : Given → Float → State → State
-sizedState g h x = let h1 = firstSizeOf (g .s) (x .c .tn) h in made x (with-h h1 (x .c)) (slopeOf (g .s .n) h1 (x .w))
+sizedState g h x = let h1 = firstSizeOf (g .s) (x .c) h in made x (with-h h1 (x .c)) (slopeOf (g .s .n) h1 (x .w))
 
 abbrev pub firstReportOf : Given → State → Report
 firstReportOf g x = record {

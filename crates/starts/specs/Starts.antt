@@ -32,13 +32,14 @@ abbrev pub laidOf : ℕ → List Float → List Float → List Float
 laidOf n y0 work = putPart (17 * n) (length y0) (fillOf (length work) 0 zeroF work) y0
 
 -- work and pivots are filled with 0 first, y is the start's, and its derivative is wanted
-unfoldable pub beganOf : Settings → Float → Float → List Float → List Float → List Float → Buffers → Called
-beganOf s x0 h y0 rtol atol b = record {
+unfoldable pub beganOf : Settings → Float → Float → Float → Float → List Float → List Float → List Float → Buffers
+    → Called
+beganOf s x0 h hmin hmxi y0 rtol atol b = record {
   reply = answerOf (Question.Derivative (record { time = x0 }));
   lent = record {
     work = laidOf (s .n) y0 (b .work);
     pivots = clearedOf (b .pivots);
-    session = keptOf s (initialOf s x0 h) rtol atol (b .session);
+    session = keptOf s (initialOf s x0 h hmin hmxi) rtol atol (b .session);
     question = putPart 0 (length y0) (b .question) y0;
   };
 }

@@ -48,6 +48,8 @@ pub fn begin(
     s: Settings,
     x0: f64,
     h: f64,
+    hmin: f64,
+    hmxi: f64,
     y0: &[f64],
     rtol: &[f64],
     atol: &[f64],
@@ -66,14 +68,14 @@ pub fn begin(
             session = now (bytes .exit); question = now (question .exit);
           };
         })
-        (beganOf s x0 h (now (y0 .entry)) (now (rtol .entry)) (now (atol .entry)) (record {
+        (beganOf s x0 h hmin hmxi (now (y0 .entry)) (now (rtol .entry)) (now (atol .entry)) (record {
           work = now (work .entry); pivots = now (pivots .entry);
           session = now (bytes .entry); question = now (question .entry);
         })) ⌝ }
 {
     lay(s.n, y0, work);
     clear(pivots);
-    keep(s, machine::initial(s, x0, h), rtol, atol, bytes);
+    keep(s, machine::initial(s, x0, h, hmin, hmxi), rtol, atol, bytes);
     history::store(question, 0, y0);
     answers::answer(Question::Derivative(At { time: x0 }))
 }

@@ -34,7 +34,7 @@ unfoldable pub cutOf : Settings → Common → List Float → Moved
 cutOf s c work =
     let d = with-setup false c in
     let rh = remainingOf s c ⊘ c .h in
-    record { common = adjustOf s d rh; work = rescaleColumnsOf (s .n) (d .nq + 1) (limitedOf s d rh) work }
+    record { common = adjustOf d rh; work = rescaleColumnsOf (s .n) (d .nq + 1) (limitedOf d rh) work }
 
 unfoldable pub setupOf : Settings → Common → Common
 setupOf s c = resetOf s (firstCallInitOf s (with-setup false c))

@@ -16,8 +16,8 @@ mxordn-requires c κs = search needs
 mxords-requires : tie.Need-mxords-requires
 mxords-requires c κs = search needs
 
-add-t9 : tie.Need-add-t9
-add-t9 c =
+add-lmax : tie.Need-add-lmax
+add-lmax c =
     let j = c .before in
     let few : j .if1 .order ≤ 12 =
     ⊎-elim (λ w. omega (arith, w .1, j .before .mxords .ensures))
@@ -38,4 +38,4 @@ returns c =
     rw larger
 
 pub initial-spec : {M : Type 1} → statement M
-initial-spec = tie.close (tie.spec mxordn-requires mxords-requires add-t9 returns)
+initial-spec = tie.close (tie.spec mxordn-requires mxords-requires add-lmax returns)

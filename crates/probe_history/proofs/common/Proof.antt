@@ -41,11 +41,11 @@ shared-slice-read-t23 c = search needs
 shared-slice-read-t25 : tie.Need-shared-slice-read-t25
 shared-slice-read-t25 c = search needs
 
+shared-slice-read-t27 : tie.Need-shared-slice-read-t27
+shared-slice-read-t27 c = search needs
+
 shared-slice-read-t5 : tie.Need-shared-slice-read-t5
 shared-slice-read-t5 c = search needs
-
-shared-slice-read-t28 : tie.Need-shared-slice-read-t28
-shared-slice-read-t28 c = search needs
 
 shared-slice-read-t30 : tie.Need-shared-slice-read-t30
 shared-slice-read-t30 c = search needs
@@ -68,9 +68,14 @@ shared-slice-read-t40 c = search needs
 shared-slice-read-t42 : tie.Need-shared-slice-read-t42
 shared-slice-read-t42 c = search needs
 
+shared-slice-read-t44 : tie.Need-shared-slice-read-t44
+shared-slice-read-t44 c = search needs
+
 returns : tie.Need-returns
 unfolding commonOf
-returns c = rw (c .before .before .before .before .before .before .before .before .before .before .before .before .before .before .before .before .before .before .before .family .ensures)
+returns c =
+    let f = c .before .before .before .before .before .before .before .before .before .before in
+    rw (f .before .before .before .before .before .before .before .before .before .before .family .ensures)
 
 pub common-spec : {M : Type 1} → statement M
 common-spec =
@@ -88,8 +93,8 @@ common-spec =
     shared-slice-read-t21
     shared-slice-read-t23
     shared-slice-read-t25
+    shared-slice-read-t27
     shared-slice-read-t5
-    shared-slice-read-t28
     shared-slice-read-t30
     shared-slice-read-t32
     shared-slice-read-t34
@@ -97,4 +102,5 @@ common-spec =
     shared-slice-read-t38
     shared-slice-read-t40
     shared-slice-read-t42
+    shared-slice-read-t44
     returns)

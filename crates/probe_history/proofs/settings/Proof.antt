@@ -18,9 +18,6 @@ shared-slice-read-t8 c = search needs
 shared-slice-read-t10 : tie.Need-shared-slice-read-t10
 shared-slice-read-t10 c = search needs
 
-shared-slice-read-t12 : tie.Need-shared-slice-read-t12
-shared-slice-read-t12 c = search needs
-
 returns : tie.Need-returns
 unfolding settingsOf
 returns c = refl
@@ -33,5 +30,4 @@ settings-spec =
     shared-slice-read-t6
     shared-slice-read-t8
     shared-slice-read-t10
-    shared-slice-read-t12
     returns)

@@ -40,15 +40,21 @@ settings-requires c κs = search needs
 first-step-requires : tie.Need-first-step-requires
 first-step-requires c κs = search needs
 
+smallest-requires : tie.Need-smallest-requires
+smallest-requires c κs = search needs
+
+inverse-largest-requires : tie.Need-inverse-largest-requires
+inverse-largest-requires c κs = search needs
+
 begin-requires : tie.Need-begin-requires
 unfolding settingsOf
 begin-requires c κs =
-    let z = c .before .before .before .before .before .before in
+    let z = c .before .before .before .before .before .before .before .before in
     let q = ap (λ (r : Refusal). r .number) (sym (z .before .before .start-refusal .ensures)) ∙ z .if2 .left in
     let st = accepted _ _ _ _ _ _ q in
     let l = st .limits in
     let some = z .before .before .before .if1 .left in
-    rw (c .before .before .before .before .before .settings .ensures)
+    rw (c .before .before .before .before .before .before .before .settings .ensures)
     (
       record {
         n = (omega arith, st .sizes .n);
@@ -81,11 +87,13 @@ returns-3 c =
     let c12 = c6 .before .before .before .before .before .before in
     let c18 = c12 .before .before .before .before .before .before in
     rw (
-      ne-eqb _ _ (c18 .if1 .left),
-      ← c12 .before .before .before .before .before .start-refusal .ensures,
-      eq-eqb _ _ (c12 .before .before .before .if2 .left),
-      ← c12 .before .before .settings .ensures,
-      ← c12 .before .first-step .ensures,
+      ne-eqb _ _ (c18 .before .before .if1 .left),
+      ← c18 .before .start-refusal .ensures,
+      eq-eqb _ _ (c12 .before .before .before .before .before .if2 .left),
+      ← c12 .before .before .before .before .settings .ensures,
+      ← c12 .before .before .before .first-step .ensures,
+      ← c12 .before .before .smallest .ensures,
+      ← c12 .before .inverse-largest .ensures,
     )
     (c6 .before .before .begin .ensures)
 
@@ -100,6 +108,8 @@ raimsklo-start-spec =
     returns-2
     settings-requires
     first-step-requires
+    smallest-requires
+    inverse-largest-requires
     begin-requires
     same-length
     same-length-2

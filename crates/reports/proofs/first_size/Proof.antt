@@ -30,32 +30,32 @@ abs-requires-4 c κs = search needs
 returns : tie.Need-returns
 unfolding firstSizeOf
 returns c =
-    let k = c .before .before .before .before in
-    let j = k .before .before .before .before in
+    let k = c .before .before .before .before .before in
+    let j = k .before .before .before .before .before in
     let a = j .before .before .args in
-    let d = a .s .xend ⊖ a .x0 in
-    let h1 : j .if1 .h1 ≡ cond (Ieee.ne (a .s .hmxi) zeroF) (a .h ⊘ maxOf (absOf (a .h) ⊗ a .s .hmxi) oneF) (a .h) =
+    let d = a .s .xend ⊖ a .c .tn in
+    let h1 : j .if1 .h1 ≡ cond (Ieee.ne (a .c .hmxi) zeroF) (a .h ⊘ maxOf (absOf (a .h) ⊗ a .c .hmxi) oneF) (a .h) =
     ⊎-elim (λ w. w .4 ∙ rw (w .0 .taken, w .3 .ensures, w .1 .ensures)) (λ w. w .1 ∙ rw (w .0 .left)) (j .if1 .came)
     in
     let h2 : k .if2 .h2 ≡ cond (Ieee.lt (absOf d) (absOf (j .if1 .h1))) d (j .if1 .h1) =
-    ⊎-elim (λ w. w .2 ∙ rw (← k .before .abs3 .ensures, ← k .before .before .before .abs2 .ensures, w .0 .taken))
-    (λ w. w .1 ∙ rw (← k .before .abs3 .ensures, ← k .before .before .before .abs2 .ensures, w .0 .left)) (k .if2 .came)
+    ⊎-elim (λ w. w .3 ∙ rw (← k .before .abs3 .ensures, ← k .before .before .before .before .abs2 .ensures, w .0 .taken))
+    (λ w. w .1 ∙ rw (← k .before .abs3 .ensures, ← k .before .before .before .before .abs2 .ensures, w .0 .left)) (k .if2 .came)
     in
-    rw (← h1, ← h2, ← c .before .before .before .abs4 .ensures, c .before .if3 .taken)
+    rw (← h1, ← h2, ← c .before .before .before .before .abs4 .ensures, c .before .before .if3 .taken)
 
 returns-2 : tie.Need-returns-2
 unfolding firstSizeOf
 returns-2 c =
     let k = c .before .before .before in
-    let j = k .before .before .before .before in
+    let j = k .before .before .before .before .before in
     let a = j .before .before .args in
-    let d = a .s .xend ⊖ a .x0 in
-    let h1 : j .if1 .h1 ≡ cond (Ieee.ne (a .s .hmxi) zeroF) (a .h ⊘ maxOf (absOf (a .h) ⊗ a .s .hmxi) oneF) (a .h) =
+    let d = a .s .xend ⊖ a .c .tn in
+    let h1 : j .if1 .h1 ≡ cond (Ieee.ne (a .c .hmxi) zeroF) (a .h ⊘ maxOf (absOf (a .h) ⊗ a .c .hmxi) oneF) (a .h) =
     ⊎-elim (λ w. w .4 ∙ rw (w .0 .taken, w .3 .ensures, w .1 .ensures)) (λ w. w .1 ∙ rw (w .0 .left)) (j .if1 .came)
     in
     let h2 : k .if2 .h2 ≡ cond (Ieee.lt (absOf d) (absOf (j .if1 .h1))) d (j .if1 .h1) =
-    ⊎-elim (λ w. w .2 ∙ rw (← k .before .abs3 .ensures, ← k .before .before .before .abs2 .ensures, w .0 .taken))
-    (λ w. w .1 ∙ rw (← k .before .abs3 .ensures, ← k .before .before .before .abs2 .ensures, w .0 .left)) (k .if2 .came)
+    ⊎-elim (λ w. w .3 ∙ rw (← k .before .abs3 .ensures, ← k .before .before .before .before .abs2 .ensures, w .0 .taken))
+    (λ w. w .1 ∙ rw (← k .before .abs3 .ensures, ← k .before .before .before .before .abs2 .ensures, w .0 .left)) (k .if2 .came)
     in
     rw (← h1, ← h2, ← c .before .before .abs4 .ensures, c .if3 .left)
 
