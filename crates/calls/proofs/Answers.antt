@@ -115,13 +115,13 @@ module _ (g : Given) (a : Start) (run : Runs g a) (l : Left) (bytes : List ℕ) 
 
     -- the reply finds the machine
     turned-is : turned (kindOf (r .kind)) (r .numbers) (r .time) lent ≡ next g l (fedAs r)
-    turned-is = rw (found .decoded, k .rtol, k .atol)
+    turned-is = rw (k .decoded, k .rtol, k .atol)
 
     go-is : goOf (kindOf (r .kind)) (r .numbers) (r .time) lent ≡ written (g .s) (next g l (fedAs r)) lent
     unfolding goOf
     go-is =
         ap (λ (x : Left). written (decodeOf bytes .settings) x lent) turned-is
-        ∙ rw (found .decoded)
+        ∙ rw (k .decoded)
 
   -- ---- the three
 

@@ -17,6 +17,7 @@ use Rattle.turns.specs.declared.Question.{Question}
 use Rattle.turns.specs.declared.Question.the-variants as Question
 use Rattle.turns.specs.declared.Status.{Status}
 use Rattle.turns.specs.declared.Status.the-variants as Status
+use Rattle.turns.specs.declared.Session.{Session}
 use Rattle.turns.specs.Turns.{Left}
 use Rattle.session.specs.Session.{decodeOf}
 use Rattle.rules.specs.Play.{Given, derivativeAt, jacobianAt, Ending, Play, ret, ask, tell, say}
@@ -220,7 +221,7 @@ module _ (g : Given) (a : Start) (run : Runs g a) where
     -- the session's accepted count is the node's
     accepted-is : decodeOf (x .lent .session) .common .nst ≡ stateAt (z .node) .c .nst
     accepted-is =
-        z .at .keeps .accepted
+        ap (λ (y : Session). y .common .nst) (z .at .keeps .decoded)
         ∙ ap (λ (c : Common). c .nst) (fits g (z .node) (z .left) (z .at .stands) .holds .common)
 
     count-is : Last (z .node) x → isReport (x .reply) ≡ true → x .reply .count ≡ latest zs

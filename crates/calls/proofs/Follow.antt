@@ -13,6 +13,7 @@ use Rattle.turns.specs.declared.Question.{Question}
 use Rattle.turns.specs.declared.Question.the-variants as Question
 use Rattle.turns.specs.declared.Status.{Status}
 use Rattle.turns.specs.declared.Status.the-variants as Status
+use Rattle.turns.specs.declared.Session.{Session}
 use Rattle.turns.specs.Turns.{Left}
 use Rattle.common.specs.declared.Common.{Common}
 use Rattle.refusals.specs.Start.{settingsOf}
@@ -172,6 +173,20 @@ calls-follow p b begins =
       pivots = λ rs f.
           let z = stays-all g a run rs f (treeOf p b) (startedAt g a) (startOf p b) at in
           z .1 .pivots ∙ fits g (standsAt (g .s .n) (treeOf p b) rs) (z .0) (z .1 .stands) .holds .ipiv;
+      session = λ rs f.
+          let z = stays-all g a run rs f (treeOf p b) (startedAt g a) (startOf p b) at in
+          let k = z .1 .keeps in
+          let h = fits g (standsAt (g .s .n) (treeOf p b) rs) (z .0) (z .1 .stands) .holds in
+          let phase = ap (λ (x : Session). x .phase) (k .decoded) in
+          record {
+            sized = k .long;
+            settings = ap (λ (x : Session). x .settings) (k .decoded);
+            common = ap (λ (x : Session). x .common) (k .decoded) ∙ h .common;
+            phase = rw phase (z .1 .phased);
+            takes = λ r. rw phase (h .takes r);
+            rtol = k .slots .0;
+            atol = k .slots .1;
+          };
       refused = λ rs r f t i.
           let z = stays-all g a run rs f (treeOf p b) (startedAt g a) (startOf p b) at in
           refused-one g a run r _ (z .0) _ (call g a run _ (z .0) _ r t (z .1)) i;

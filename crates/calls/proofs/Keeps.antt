@@ -2,13 +2,14 @@
 -- that the next reply finds the machine as the last left it.
 --     Runs            what an accepted start gives
 --     Keeps           what bytes keep of where the machine stands
+--     counts-fit-of   the bytes can keep the counts of any session of a run
 --     keeps-next      what a reply leaves keeps where it leads
 -- Assumes nothing.
 use mathlib.Core.Bool.{true, false, true≢false}
 use mathlib.Core.List.{List}
-use mathlib.Core.Logic.{_⊎_, inl, inr}
+use mathlib.Core.Logic.{_⊎_, inl, inr, ⊎-elim}
 use mathlib.Core.Path.{_≡_, refl, _∙_}
-use Prim.Native.Nat.{ℕ, _+_, _^_, _≤_, _<_}
+use Prim.Native.Nat.{ℕ, _+_, _-_, _^_, _≤_, _<_}
 use native.Mathlib.Omega.{arith}
 use lib.Dec.{lit<}
 use lib.Ieee.{Float}
@@ -17,22 +18,24 @@ use Rattle.loops.specs.Part.{part}
 use Rattle.turns.specs.declared.Phase.{Phase}
 use Rattle.turns.specs.declared.Phase.the-variants as Phase
 use Rattle.turns.specs.declared.Session.{Session}
-use Rattle.turns.specs.Ranges.{Lent}
+use Rattle.turns.specs.Ranges.{Counts, Lent}
 use Rattle.turns.specs.Requires.{Resumes, UnlessFinished}
 use Rattle.turns.specs.Turns.{Left}
 use Rattle.machine.proofs.Lengths.{resume-lent}
-use Rattle.fields.specs.Fields.{Fit, FloatsFit, Fits}
+use Rattle.fields.specs.Fields.{Fit, CountsFit, FloatsFit, Fits}
 use Rattle.session.specs.Session.{encodeOf, decodeOf, rtolSlots, atolSlots, storedN, finishedIn, OneOrN}
 use Rattle.session.specs.Session.{tolerancesInRange, inRangeOf}
-use Rattle.words.proofs.Rows.{counts-at}
 use Rattle.session.proofs.Back.{length-encode, encoded-count, finished-encode, decode-encode, rtol-kept, atol-kept}
-use Rattle.session.proofs.Passes.{counts-fit, passes, tolerances-kept}
+use Rattle.session.proofs.Passes.{passes, tolerances-kept}
 use Rattle.rules.specs.Play.{Given}
 use Rattle.rules.specs.Rules.{Start}
 use Rattle.rules.specs.Replies.{Reply as Fed}
 use Rattle.follows.specs.Seen.{sessionOf, withOf, next}
 use Rattle.follows.specs.InRun.{Accepts, InRun}
+use Rattle.follows.proofs.Ranges.{coreOf}
+use Rattle.follows.proofs.Closing.{Closing}
 use Rattle.fits.proofs.Kept.{floats-kept}
+use Rattle.calls.specs.Follow.{slotsOf}
 use Rattle.calls.proofs.Low.{Low}
 use Rattle.calls.proofs.Turns.{isOver}
 
@@ -73,7 +76,6 @@ pub record Runs (g : Given) (a : Start) : Type 0 where
 
 -- of a run that has not ended
 pub record Found (g : Given) (l : Left) (bytes : List ℕ) : Type 0 where
-  pub decoded : decodeOf bytes ≡ sessionOf g l
   pub passed : inRangeOf bytes (l .ipiv) ≡ true
   pub ialth : l .turn .common .ialth ≤ 13
 
@@ -84,9 +86,10 @@ pub record Keeps (g : Given) (l : Left) (bytes : List ℕ) : Type 0 where
   pub finished : finishedIn bytes ≡ isOver (l .turn .phase)
   pub rtol : part 0 (g .s .nrtol) (rtolSlots bytes) ≡ g .rtol
   pub atol : part 0 (g .s .natol) (atolSlots bytes) ≡ g .atol
+  pub slots : (rtolSlots bytes ≡ slotsOf (g .rtol)) × (atolSlots bytes ≡ slotsOf (g .atol))
   pub signs : tolerancesInRange bytes (g .s) ≡ true
   pub floats : FloatsFit (sessionOf g l)
-  pub accepted : decodeOf bytes .common .nst ≡ l .turn .common .nst
+  pub decoded : decodeOf bytes ≡ sessionOf g l
   pub found : isOver (l .turn .phase) ≡ false → Found g l bytes
 
 -- ---- an encoding
@@ -99,36 +102,65 @@ pub pivots-below : {n : ℕ} {work : List Float} {ipiv : List ℕ} → Lent n wo
     → (k : ℕ) → k < length ipiv → getD ipiv k 0 < n
 pivots-below p k h = p .below k (omega (arith, p .pivots))
 
-pub stored-accepted : (x : Session) (b : List ℕ) → 1448 ≤ length b → x .common .nst < 2 ^ 64
-    → decodeOf (encodeOf x b) .common .nst ≡ x .common .nst
-unfolding decodeOf
-stored-accepted x b room h = counts-at (encodeOf x b) 20 (lit< tt) ∙ encoded-count x b room 20 (lit< tt) h
-
 module _ (g : Given) (a : Start) (run : Runs g a) where
-  pub found-after : (l : Left) (bytes : List ℕ) → 1448 ≤ length bytes → FloatsFit (sessionOf g l)
+  -- a run's counts, whether it has ended or not
+  pub record Bounded (l : Left) : Type 0 where
+    pub closing : Closing (g .s) (coreOf (l .turn .common))
+    pub counts : Counts (l .turn .common) (2 ^ 62 - 1)
+    pub low : Low 0 (l .turn .common)
+
+  pub counts-fit-of : (l : Left) → Bounded l → CountsFit (sessionOf g l)
+  counts-fit-of l h =
+      let s = run .ok .settings in
+      let c = l .turn .common in
+      let k = h .counts in
+      let o = h .closing in
+      record {
+        n = omega (arith, s .n);
+        maxsteps = omega (arith, s .maxsteps);
+        mxordn = omega (arith, s .mxordn);
+        mxords = omega (arith, s .mxords);
+        maxcor = omega (arith, s .maxcor);
+        msbp = omega (arith, s .msbp);
+        mxncf = omega (arith, s .mxncf);
+        nrtol = ⊎-elim (λ e. omega arith) (λ e. omega (arith, s .n)) (run .nrtol);
+        natol = ⊎-elim (λ e. omega arith) (λ e. omega (arith, s .n)) (run .natol);
+        nq = omega (arith, o .nq);
+        lmax = omega (arith, o .lmax);
+        nqnyh = omega (arith, o .nqnyh, s .n);
+        ialth = omega (arith, low-ialth (c .nq) (c .ialth) (o .nq) (h .low));
+        icount = omega (arith, o .icount);
+        table = omega (arith, o .table);
+        nslp = omega (arith, k .nslp);
+        nst = omega (arith, k .nst);
+        nfe = omega (arith, k .nfe);
+        nje = omega (arith, k .nje);
+        nlu = omega (arith, k .nlu);
+        rejected = omega (arith, k .rejected);
+        total = omega (arith, k .total);
+        count = omega (arith, k .count);
+        kflag = omega (arith, o .kflag);
+        ncf = omega (arith, o .ncf, s .mxncf);
+        m = omega (arith, o .m, s .maxcor);
+        column = omega (arith, o .column, s .n);
+      }
+
+  pub found-after : (l : Left) (bytes : List ℕ) → 1448 ≤ length bytes → Fits (sessionOf g l)
       → tolerancesInRange bytes (g .s) ≡ true → Low 0 (l .turn .common)
       → Resumes (sessionOf g l) (g .rtol) (g .atol) (l .work) (l .ipiv)
       → Found g l (encodeOf (sessionOf g l) bytes)
-  found-after l bytes room floats signs low r =
-      let x = sessionOf g l in
+  found-after l bytes room fits signs low r =
       let c = l .turn .common in
-      let h = low-ialth (c .nq) (c .ialth) (r .ranges .orders .nq .1) low in
-      let fits : Fits x = record {
-        counts = counts-fit x (r .ranges) (run .nrtol) (run .natol) (omega (arith, h));
-        floats = floats;
-      } in
       record {
-        decoded = decode-encode x bytes room fits;
-        passed = passes x bytes room fits (r .ranges) (run .nrtol) (run .natol) signs (l .ipiv)
+        passed = passes (sessionOf g l) bytes room fits (r .ranges) (run .nrtol) (run .natol) signs (l .ipiv)
             (pivots-below (r .lent));
-        ialth = h;
+        ialth = low-ialth (c .nq) (c .ialth) (r .ranges .orders .nq .1) low;
       }
 
   -- ---- after a reply
 
   module _ (l : Left) (bytes : List ℕ) (k : Keeps g l bytes) (r : Fed) (time : Fit (r .time))
-      (low : Low 0 (next g l r .turn .common)) (inRun : InRun g (next g l r))
-      (few : next g l r .turn .common .nst < 2 ^ 64) where
+      (bounded : Bounded (next g l r)) (inRun : InRun g (next g l r)) where
     abbrev after : Left
     after = next g l r
 
@@ -140,6 +172,7 @@ module _ (g : Given) (a : Start) (run : Runs g a) where
         let room : 1448 ≤ length bytes = omega (arith, k .long) in
         let x = sessionOf g after in
         let floats = floats-kept (sessionOf g l) (r .kind) (r .numbers) (r .time) (withOf g l) (k .floats) time in
+        let fits : Fits x = record { counts = counts-fit-of after bounded; floats = floats } in
         record {
           long = length-encode x bytes ∙ k .long;
           lent = resume-lent (sessionOf g l) (r .numbers) (r .time) (withOf g l) (k .lent) (r .kind);
@@ -147,8 +180,10 @@ module _ (g : Given) (a : Start) (run : Runs g a) where
           finished = finished-encode x bytes room;
           rtol = rw (rtol-kept x bytes room) (k .rtol);
           atol = rw (atol-kept x bytes room) (k .atol);
+          slots = (rtol-kept x bytes room ∙ k .slots .0, atol-kept x bytes room ∙ k .slots .1);
           signs = tolerances-kept x bytes room (g .s) (k .signs);
           floats = floats;
-          accepted = stored-accepted x bytes room few;
-          found = λ e. found-after after bytes room floats (k .signs) low (unless (after .turn .phase) e inRun);
+          decoded = decode-encode x bytes room fits;
+          found = λ e. found-after after bytes room fits (k .signs) (bounded .low)
+              (unless (after .turn .phase) e inRun);
         }

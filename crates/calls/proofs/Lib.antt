@@ -1,6 +1,8 @@
 pub mod Low
 pub mod Turns
 pub mod Said
+pub mod Phases
+pub mod Slots
 pub mod Keeps
 pub mod Answers
 pub mod Numbers

@@ -33,6 +33,7 @@ use Rattle.session.specs.Session.{encodeOf, decodeOf, putTolerancesOf, OneOrN}
 use Rattle.session.specs.Session.{tolerancesInRange}
 use Rattle.session.proofs.Back.{length-encode, encoded-count, finished-encode, decode-encode, counts-back}
 use Rattle.session.proofs.Back.{length-put-tolerances, put-other, counts-put, decode-put, rtol-put, atol-put}
+use Rattle.session.proofs.Back.{rtol-slot, atol-slot}
 use Rattle.session.proofs.Passes.{assembled, counts-fit, fields-in-range, pivots-in-range, tolerances-put}
 use Rattle.rules.specs.Play.{Given}
 use Rattle.rules.specs.Rules.{Start, beginning}
@@ -47,6 +48,7 @@ use Rattle.raimsklo.specs.Calls.{Problem, lengthsOf, startAt, startOf}
 use Rattle.calls.specs.Run.{Begins}
 use Rattle.calls.specs.Follow.{givenOf, fromOf}
 use Rattle.calls.proofs.Numbers.{start-number}
+use Rattle.calls.proofs.Slots.{slots-put}
 use Rattle.calls.proofs.Keeps.{Runs, Found, Keeps, pivots-below}
 use Rattle.calls.proofs.Answers.{lentOf}
 
@@ -207,7 +209,6 @@ module _ (p : Problem) (b : Buffers) (begins : Begins p b) where
   begun-found =
       let e = encodeOf first (b .session) in
       record {
-        decoded = decoded;
         passed = assembled begunBytes (startedAt given from .ipiv) first (countsOf first) decoded
             (counts-put (p .rtol) (p .atol) e ∙ counts-back first (b .session) room fits)
             (fields-in-range first fits (resumes .ranges) (begun-run .nrtol) (begun-run .natol)) signs
@@ -231,8 +232,14 @@ module _ (p : Problem) (b : Buffers) (begins : Begins p b) where
             ∙ finished-encode first (b .session) room;
         rtol = rtol-put (p .rtol) (p .atol) e in-e (short (p .rtol) (given-is .sizes .rtol)) (f .rtol);
         atol = atol-put (p .rtol) (p .atol) e in-e (short (p .atol) (given-is .sizes .atol)) (f .atol);
+        slots = (
+          slots-put begunBytes 53 (p .rtol) (short (p .rtol) (given-is .sizes .rtol)) (f .rtol)
+              (rtol-slot (p .rtol) (p .atol) e in-e (f .rtol)),
+          slots-put begunBytes 117 (p .atol) (short (p .atol) (given-is .sizes .atol)) (f .atol)
+              (atol-slot (p .rtol) (p .atol) e in-e (f .atol)),
+        );
         signs = signs;
         floats = floats;
-        accepted = ap (λ (x : Session). x .common .nst) decoded;
+        decoded = decoded;
         found = λ e. begun-found;
       }

@@ -8,7 +8,7 @@ use mathlib.Core.Bool.{Bool, true, false, _&&_, true≢false}
 use mathlib.Core.List.{List, [], _∷_, _++_}
 use mathlib.Core.Logic.{_⊎_, inl, inr}
 use mathlib.Core.Path.{_≡_, refl, sym, ap, _∙_}
-use Prim.Native.Nat.{ℕ, _+_, _*_, _^_, _≤_, _<_}
+use Prim.Native.Nat.{ℕ, _+_, _*_, _≤_}
 use native.Mathlib.Omega.{arith}
 use lib.Ieee.{Float}
 use lib.ListN.{length, take, drop, replicate, length-replicate}
@@ -26,27 +26,25 @@ use Rattle.machine.specs.Resume.{isAsked}
 use Rattle.refusals.specs.Start.{settingsOf}
 use Rattle.fields.specs.Fields.{Fit}
 use Rattle.session.specs.Session.{encodeOf}
-use Rattle.rules.specs.Play.{Given, Play, ret, ask, tell, say}
+use Rattle.rules.specs.Play.{Given, Play}
 use Rattle.rules.specs.Rules.{Start, beginning, start}
-use Rattle.rules.specs.Steps.{Step}
-use Rattle.rules.specs.Replies.{Reply as Fed, fed}
-use Rattle.rules.specs.Counts.{Counted, CountedAt}
-use Rattle.rules.proofs.Demands.{counts-kept}
+use Rattle.rules.specs.Replies.{Reply as Fed}
 use Rattle.follows.specs.Seen.{sessionOf, withOf, next, after, isTaken, asks, step}
 use Rattle.follows.specs.Stands.{Stands, startedAt}
-use Rattle.follows.specs.Follows.{stateAt}
 use Rattle.follows.specs.InRun.{InRun}
 use Rattle.follows.proofs.Follows.{replies, follows}
-use Rattle.follows.proofs.Kept.{session-kept}
+use Rattle.follows.proofs.Kept.{counts-after, closing-after, session-kept}
 use Rattle.answers.specs.Answers.{plainOf, answerOf}
 use Rattle.answers.specs.Called.{Buffers, Called}
 use Rattle.replies.specs.Replies.{isKind, kindOf, questionOf}
 use Rattle.raimsklo.specs.Calls.{Problem, startOf, replyOf}
 use Rattle.calls.specs.Run.{Begins, ReplyCall, lentFor, answered}
-use Rattle.calls.specs.Follow.{treeOf, saidBy, saidAt, fedAs, isAnswer, isSized}
+use Rattle.calls.specs.Follow.{treeOf, saidBy, saidAt, fedAs, isAnswer, isSized, PhaseAt}
+use Rattle.calls.proofs.Low.{Low}
 use Rattle.calls.proofs.Turns.{isOver, Well, resume-well}
 use Rattle.calls.proofs.Said.{fits, says-node}
-use Rattle.calls.proofs.Keeps.{over-or-not, unless, Runs, Keeps, keeps-next}
+use Rattle.calls.proofs.Phases.{phase-node}
+use Rattle.calls.proofs.Keeps.{over-or-not, unless, Runs, Keeps, Bounded, keeps-next}
 use Rattle.calls.proofs.Answers.{lentOf, reply-sizes, reply-refused, reply-taken}
 use Rattle.calls.proofs.Start.{given, from, begun-run, begun-is, begun-keeps}
 
@@ -76,18 +74,12 @@ module _ (g : Given) (a : Start) (run : Runs g a) where
   in-run : (l : Left) → Reached l → InRun g l
   in-run l h = rw (h .1) (session-kept g a (run .ok) (h .0))
 
-  few : (l : Left) → Reached l → l .turn .common .nst < 2 ^ 64
-  few l h =
-      let z = fed (g .s .n) (start g a) [] (h .0) in
-      let k = counted (z .play) (z .steps) (counts-kept g a (run .ok .settings) (h .0)) in
-      let e = follows g a (run .ok .settings) .held (h .0) .common in
-      rw (h .1, e) (omega (arith, k .steps, run .ok .settings .maxsteps .1))
-    where
-      counted : (p : Play) (xs : List Step) → CountedAt g p xs → Counted (g .s) (stateAt p .c)
-      counted (ret e) xs h = h
-      counted (ask q x k) xs h = h
-      counted (tell r x k) xs h = h
-      counted (say e p) xs h = absurd h
+  bounded : (l : Left) → Reached l → Low 0 (l .turn .common) → Bounded g a run l
+  bounded l h low = rw (h .1) (record {
+    closing = closing-after g a (run .ok) (h .0);
+    counts = counts-after g a (run .ok) (h .0);
+    low = rw (h .1) at low;
+  })
 
   pub record At (t : Play) (l : Left) (x : Called) : Type 0 where
     pub stands : Stands g t l
@@ -95,6 +87,7 @@ module _ (g : Given) (a : Start) (run : Runs g a) where
     pub work : x .lent .work ≡ l .work
     pub pivots : x .lent .pivots ≡ l .ipiv
     pub keeps : Keeps g l (x .lent .session)
+    pub phased : PhaseAt (g .s .n) t (l .turn .phase)
 
   -- ---- a reply
 
@@ -149,8 +142,8 @@ module _ (g : Given) (a : Start) (run : Runs g a) where
 
       keeps : Keeps g m (encodeOf (sessionOf g m) (x .lent .session))
       keeps =
-          keeps-next g a run l (x .lent .session) (at .keeps) (fedAs r) time (well .low) (in-run m reached)
-          (few m reached)
+          keeps-next g a run l (x .lent .session) (at .keeps) (fedAs r) time (bounded m reached (well .low))
+          (in-run m reached)
 
       abbrev put : List Float
       put = questionOf (g .s) (m .turn .phase) (m .turn .common) (m .work) (r .question)
@@ -171,7 +164,14 @@ module _ (g : Given) (a : Start) (run : Runs g a) where
       at-next : At (step t (fedAs r)) m (answered x r)
       at-next =
           rw answered-taken
-          (record { stands = stands; reached = reached; work = refl; pivots = refl; keeps = keeps })
+          (record {
+            stands = stands;
+            reached = reached;
+            work = refl;
+            pivots = refl;
+            keeps = keeps;
+            phased = phase-node g m (well .agrees) (step t (fedAs r)) stands;
+          })
 
     call-at : (b c : Bool) → isSized (g .s .n) r ≡ b → isAnswer (g .s .n) t r ≡ c → Outcome t l x r
     call-at false c s e =
@@ -197,6 +197,7 @@ module _ (g : Given) (a : Start) (run : Runs g a) where
     work = at .work;
     pivots = at .pivots;
     keeps = at .keeps;
+    phased = at .phased;
   }
 
 -- ---- the start
@@ -217,12 +218,14 @@ module _ (p : Problem) (b : Buffers) (begins : Begins p b) where
   unfolding after
   begun-at =
       rw (begun-is p b begins)
-      (record {
-        stands = follows g a (begun-run p b begins .ok .settings) .stands;
+      (let stands = follows g a (begun-run p b begins .ok .settings) .stands in
+      record {
+        stands = stands;
         reached = ([], refl);
         work = refl;
         pivots = refl;
         keeps = begun-keeps p b begins;
+        phased = phase-node g (startedAt g a) tt (treeOf p b) stands;
       })
 
   pub begun-says : saidBy (startOf p b) ≡ saidAt (g .s .n) (treeOf p b) (b .question)

@@ -1,23 +1,29 @@
 -- Demand 2 for the calls: what the calls of a run answer and leave in the question is what the tree of the step rules
 -- says, fed the start's arguments and the replies not refused, bit for bit (`calls-follow` in proofs/Follow.antt).
--- No call of a run returns 13; a refused reply returns 3 or 14 and changes nothing.
+-- What is left in work, pivots and session is the tree's too. No call of a run returns 13; a refused reply returns 3 or
+-- 14 and changes nothing.
 use mathlib.Core.Bool.{Bool, true, false, cond, not, _&&_}
-use mathlib.Core.List.{List, [], _∷_, map}
+use mathlib.Core.List.{List, [], _∷_, _++_, map}
 use mathlib.Core.Logic.{_⊎_}
 use mathlib.Core.Path.{_≡_}
-use Prim.Native.Nat.{ℕ, _+_, _*_}
+use Prim.Native.Nat.{ℕ, _+_, _-_, _*_}
 use lib.Dec.{eqb}
-use lib.ListN.{length}
+use lib.ListN.{length, replicate}
 use lib.Ieee.{Float}
 use Rattle.loops.specs.Part.{putPart}
 use Rattle.numbers.specs.Float.{zeroF}
+use Rattle.turns.specs.declared.Kind.the-variants as Kind
+use Rattle.turns.specs.declared.Phase.{Phase}
+use Rattle.turns.specs.declared.Phase.the-variants as Phase
+use Rattle.machine.specs.Resume.{isAsked}
 use Rattle.refusals.specs.Start.{settingsOf, firstStepOf, smallestOf, inverseLargestOf}
 use Rattle.fields.specs.Fields.{Fit}
-use Rattle.rules.specs.Play.{Given, Report, Play}
+use Rattle.session.specs.Session.{decodeOf, rtolSlots, atolSlots}
+use Rattle.rules.specs.Play.{Given, derivativeAt, jacobianAt, Report, Play, ret, ask, tell, say}
 use Rattle.rules.specs.Rules.{Start, start}
 use Rattle.rules.specs.Replies.{Reply as Fed}
 use Rattle.follows.specs.Seen.{Shown, wantsDerivative, wantsJacobian, reports, ends, refusesStep, refusesWeight}
-use Rattle.follows.specs.Seen.{refuses, stuck, shownAt, asks, step, stepIf, keepIf}
+use Rattle.follows.specs.Seen.{refuses, stuck, wantedAt, shownAt, asks, step, stepIf, keepIf}
 use Rattle.follows.specs.Follows.{stateAt}
 use Rattle.answers.specs.declared.Reply.{Reply}
 use Rattle.answers.specs.Answers.{plainOf, endOf}
@@ -134,6 +140,36 @@ heardOf x [] = []
 heardOf x (r ∷ rs) =
     keepIf (not (isRefusal (answered x r .reply))) (saidBy (answered x r)) (heardOf (answered x r) rs)
 
+-- ---- the session that the tree's node stands for
+
+-- one of the seven phases that take a derivative
+abbrev pub TakesDerivative : Phase → Type 0
+TakesDerivative phase = (len n : ℕ) → isAsked phase Kind.Derivative len n ≡ eqb len n
+
+-- the phase in which the node's reply is awaited. A derivative's asks for it at the node's state: in a difference column
+-- at the perturbed one, else at y.
+abbrev pub PhaseAt : ℕ → Play → Phase → Type 0
+PhaseAt n (ret e) phase = phase ≡ Phase.Finished
+PhaseAt n (ask (derivativeAt t v) x k) phase = TakesDerivative phase × (v ≡ wantedAt n phase (x .w))
+PhaseAt n (ask (jacobianAt t v) x k) phase = phase ≡ Phase.JacobianAsked
+PhaseAt n (tell r x k) phase = phase ≡ cond (isStep (r .snapshot)) Phase.Report Phase.FirstReport
+PhaseAt n (say e p) phase = PhaseAt n p phase
+
+-- a tolerance list in its 64 slots: those beyond it are 0
+abbrev pub slotsOf : List Float → List Float
+slotsOf list = list ++ replicate (64 - length list) zeroF
+
+pub record SessionAt (p : Problem) (b : Buffers) (t : Play) (bytes : List ℕ) : Type 0 where
+  pub sized : length bytes ≡ 1448
+  pub settings : decodeOf bytes .settings ≡ givenOf p b .s
+  pub common : decodeOf bytes .common ≡ stateAt t .c
+  pub phase : PhaseAt (length (p .y0)) t (decodeOf bytes .phase)
+  -- it takes the replies that the node takes
+  pub takes : (r : Fed)
+      → isAsked (decodeOf bytes .phase) (r .kind) (length (r .numbers)) (length (p .y0)) ≡ asks (length (p .y0)) t r
+  pub rtol : rtolSlots bytes ≡ slotsOf (p .rtol)
+  pub atol : atolSlots bytes ≡ slotsOf (p .atol)
+
 -- ---- the claim
 
 -- a refused reply: by 3 or 14, with everything that was lent as it was
@@ -155,6 +191,9 @@ pub record CallsFollow (p : Problem) (b : Buffers) : Type 0 where
       → lastOf (startOf p b) rs .lent .work ≡ stateAt (standsAt (length (p .y0)) (treeOf p b) rs) .w
   pub pivots : (rs : List ReplyCall) → TimesFit rs
       → lastOf (startOf p b) rs .lent .pivots ≡ stateAt (standsAt (length (p .y0)) (treeOf p b) rs) .p
+  -- and what the session decodes to, at an end too
+  pub session : (rs : List ReplyCall) → TimesFit rs
+      → SessionAt p b (standsAt (length (p .y0)) (treeOf p b) rs) (lastOf (startOf p b) rs .lent .session)
   -- refused ones change nothing
   pub refused : (rs : List ReplyCall) (r : ReplyCall) → TimesFit rs → Fit (r .time)
       → isRefusal (answered (lastOf (startOf p b) rs) r .reply) ≡ true → Refused (lastOf (startOf p b) rs) r

@@ -1,5 +1,6 @@
 -- A run stays in range: from what an accepted start leaves, over any list of replies.
 --     session-kept              no session of a run is answered 13
+--     counts-after, closing-after     what bounds the counts of any session of a run, finished ones included
 -- Assumes nothing.
 use mathlib.Core.List.{List, [], _∷_}
 use mathlib.Core.Path.{_≡_, _∙_}
@@ -25,7 +26,8 @@ use Rattle.follows.specs.Follows.{stateAt}
 use Rattle.follows.specs.InRun.{Accepts, SessionKept}
 use Rattle.follows.proofs.Follows.{follows}
 use Rattle.follows.proofs.Ranges.{coreOf, Within, orders-of, within-initial}
-use Rattle.follows.proofs.Session.{underWay, FineLeft}
+use Rattle.follows.proofs.Closing.{Closing, closing-of}
+use Rattle.follows.proofs.Session.{underWay, Either, FineLeft}
 use Rattle.follows.proofs.Resumed.{resume-fine}
 
 -- ---- the start
@@ -74,7 +76,7 @@ module _ (g : Given) (a : Start) (ok : Accepts g a) where
           lent = p .1;
         }
 
-    in-run : (phase : Phase) → UnlessFinished phase (Ranged (underWay phase))
+    in-run : (phase : Phase) → Either phase (Ranged (underWay phase)) (Closing (g .s) (coreOf (l .turn .common)))
         → UnlessFinished phase (Resumes (sessionOf g l) (g .rtol) (g .atol) (l .work) (l .ipiv))
     in-run Phase.FirstDerivative p = resumes _ p
     in-run Phase.FirstReport p = resumes _ p
@@ -88,7 +90,21 @@ module _ (g : Given) (a : Start) (ok : Accepts g a) where
     in-run Phase.Modified p = resumes _ p
     in-run Phase.Finished p = tt
 
-  counts-after : (rs : List Reply) → Counts (after g (startedAt g a) rs .turn .common) (2 ^ 62 - 1)
+    closing : (phase : Phase) → Either phase (Ranged (underWay phase)) (Closing (g .s) (coreOf (l .turn .common)))
+        → Closing (g .s) (coreOf (l .turn .common))
+    closing Phase.FirstDerivative p = closing-of (p .0)
+    closing Phase.FirstReport p = closing-of (p .0)
+    closing Phase.FirstModified p = closing-of (p .0)
+    closing Phase.Opened p = closing-of (p .0)
+    closing Phase.JacobianAsked p = closing-of (p .0)
+    closing Phase.DifferenceColumn p = closing-of (p .0)
+    closing Phase.FurtherDerivative p = closing-of (p .0)
+    closing Phase.Restep p = closing-of (p .0)
+    closing Phase.Report p = closing-of (p .0)
+    closing Phase.Modified p = closing-of (p .0)
+    closing Phase.Finished p = p
+
+  pub counts-after : (rs : List Reply) → Counts (after g (startedAt g a) rs .turn .common) (2 ^ 62 - 1)
   counts-after rs =
       let z = fed (g .s .n) (start g a) [] rs in
       rw (follows g a (ok .settings) .held rs .common)
@@ -100,6 +116,11 @@ module _ (g : Given) (a : Start) (ok : Accepts g a) where
       counted (ask q x k) xs h = h
       counted (tell r x k) xs h = h
       counted (say e p) xs h = absurd h
+
+  pub closing-after : (rs : List Reply) → Closing (g .s) (coreOf (after g (startedAt g a) rs .turn .common))
+  closing-after rs =
+      let l = after g (startedAt g a) rs in
+      closing l (counts-after rs) (l .turn .phase) (fine-after (startedAt g a) rs fine-start)
 
   pub session-kept : SessionKept g a
   session-kept rs =

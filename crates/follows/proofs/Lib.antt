@@ -6,6 +6,7 @@ pub mod Start
 pub mod Follows
 pub mod Ends
 pub mod Ranges
+pub mod Closing
 pub mod Session
 pub mod Resumed
 pub mod Kept

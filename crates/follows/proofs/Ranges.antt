@@ -97,7 +97,7 @@ module _ (s : Settings) (acc : Accepted s) where
         column = p .column;
       }
 
-  range-of : {under : ℕ} (c : Common) → Within s under (coreOf c) → InRange s c
+  pub range-of : {under : ℕ} (c : Common) → Within s under (coreOf c) → InRange s c
   range-of c p =
       record {
         n = acc .n;

@@ -1,4 +1,4 @@
--- What a reply leaves is in range again, unless the run is finished.
+-- What a reply leaves is in range again.
 --     resume-fine               every reply, refused ones included
 -- Assumes nothing.
 use mathlib.Core.Bool.{Bool, true, false, cond, true≢false}
@@ -40,6 +40,7 @@ use Rattle.machine.specs.Resume.{resumeOf}
 use Rattle.follows.proofs.Ranges.{coreOf, Within, within-factored, within-column}
 use Rattle.follows.proofs.Ranges.{within-restep}
 use Rattle.follows.proofs.Ranges.{within-restart}
+use Rattle.follows.proofs.Closing.{closing-of}
 use Rattle.follows.proofs.Session.{Fine, FineLeft, Stays, open-fine, go-on-fine, iterations-fine}
 use Rattle.follows.proofs.Session.{iterate-fine, factored-at-fine, ask-column-fine, begin-fine, weighted-fine}
 use Rattle.follows.proofs.Session.{lent-inverted}
@@ -91,7 +92,7 @@ module _ (s : Settings) (acc : Accepted s) where
       first-report-fine : (a : Answer) (t : Float) → Within s 0 (coreOf c) → Remains (firstReportOf s c a f t work)
       unfolding firstReportOf endedOf askedOf
       first-report-fine Continue t p = go-on-fine s acc ipiv (with-tn t c) work p l
-      first-report-fine Interrupt t p = tt
+      first-report-fine Interrupt t p = closing-of p
       first-report-fine Modified t p = (p, lent-taken)
 
       first-modified-fine : Within s 0 (coreOf c) → Remains (firstModifiedOf s c f work)
@@ -101,7 +102,7 @@ module _ (s : Settings) (acc : Accepted s) where
       report-fine : (a : Answer) (t : Float) → Within s 0 (coreOf c) → Remains (afterReportOf s c a f t work)
       unfolding afterReportOf endedOf askedOf
       report-fine Continue t p = go-on-fine s acc ipiv (with-tn t c) _ p lent-taken
-      report-fine Interrupt t p = tt
+      report-fine Interrupt t p = closing-of p
       report-fine Modified t p = (p, lent-taken)
 
       modified-fine : Within s 0 (coreOf c) → Remains (modifiedOf s c f work)

@@ -1,6 +1,6 @@
--- What the machine's definitions leave is in range again, unless the run is finished: the orders, columns and counters
--- of `Within`, and the lent work and pivots. One lemma for each definition; those of a reply are in Resumed.antt.
---     Fine, FineLeft            what is kept, unless finished
+-- What the machine's definitions leave is in range again: the orders, columns and counters of `Within`, and the lent
+-- work and pivots; of a finished run `Closing`. One lemma for each definition; those of a reply are in Resumed.antt.
+--     Fine, FineLeft            what is kept
 -- Assumes nothing.
 use mathlib.Core.Bool.{Bool, true, false}
 use mathlib.Core.List.{List}
@@ -39,7 +39,6 @@ use Rattle.turns.specs.declared.Phase.{Phase}
 use Rattle.turns.specs.declared.Phase.the-variants as Phase
 use Rattle.turns.specs.Ranges.{Accepted, Lent}
 use Rattle.passes.proofs.Inside.{lent-length}
-use Rattle.turns.specs.Requires.{UnlessFinished}
 use Rattle.turns.specs.Turns.{Kept, Left, askedInStepOf, finishedOf as endedOf}
 use Rattle.turns.specs.Begin.{cutOf, preparedAt, preparedOf, isCut, openPassOf, predictedAt, beganOf}
 use Rattle.turns.specs.Begin.{goOnAt, goOnOf, isGoing}
@@ -52,6 +51,7 @@ use Rattle.reports.specs.Reports.{sizedAt, sizedOf, weightedAt, inverted}
 use Rattle.follows.proofs.Ranges.{coreOf, Within, within-open, within-judged, within-column}
 use Rattle.follows.proofs.Ranges.{within-unconverged, within-failed, failed-pass, failed-restep}
 use Rattle.follows.proofs.Ranges.{within-prepared, within-entered, within-another, within-accept}
+use Rattle.follows.proofs.Closing.{Closing, closing-of, closing-unconverged, closing-failed}
 
 -- the steps under way
 abbrev pub underWay : Phase → ℕ
@@ -67,9 +67,23 @@ underWay Phase.Report = 0
 underWay Phase.Modified = 0
 underWay Phase.Finished = 0
 
+-- X while a run goes on, Y when it has ended
+abbrev pub Either : Phase → Type 0 → Type 0 → Type 0
+Either Phase.FirstDerivative X Y = X
+Either Phase.FirstReport X Y = X
+Either Phase.FirstModified X Y = X
+Either Phase.Opened X Y = X
+Either Phase.JacobianAsked X Y = X
+Either Phase.DifferenceColumn X Y = X
+Either Phase.FurtherDerivative X Y = X
+Either Phase.Restep X Y = X
+Either Phase.Report X Y = X
+Either Phase.Modified X Y = X
+Either Phase.Finished X Y = Y
+
 abbrev pub Fine : Settings → Phase → Common → List Float → List ℕ → Type 0
 Fine s phase c work ipiv =
-    UnlessFinished phase (Within s (underWay phase) (coreOf c) × Lent (s .n) work ipiv)
+    Either phase (Within s (underWay phase) (coreOf c) × Lent (s .n) work ipiv) (Closing s (coreOf c))
 
 abbrev pub FineLeft : Settings → Left → Type 0
 FineLeft s l = Fine s (l .turn .phase) (l .turn .common) (l .work) (l .ipiv)
@@ -107,8 +121,8 @@ module _ (s : Settings) (acc : Accepted s) where
     go-on-at-fine : (going enough : Bool) (c : Common) (work : List Float) → leb (s .maxsteps) (c .nst) ≡ enough
         → Within s 0 (coreOf c) → Lent (s .n) work ipiv → Stays (goOnAt s going enough c work)
     unfolding goOnAt endedOf
-    go-on-at-fine false enough c work e p l = tt
-    go-on-at-fine true true c work e p l = tt
+    go-on-at-fine false enough c work e p l = closing-of p
+    go-on-at-fine true true c work e p l = closing-of p
     go-on-at-fine true false c work e p l =
         began-fine c work (within-another s acc c p (omega (arith, leb-false (s .maxsteps) (c .nst) e))) l
 
@@ -120,17 +134,18 @@ module _ (s : Settings) (acc : Accepted s) where
     -- ---- the end of a pass
 
     attempted-fine : (v : Next) (c : Common) (work : List Float) → (v ≡ Next.Pass → Within s 1 (coreOf c))
-        → (v ≡ Next.Restep → Within s 1 (coreOf c)) → Lent (s .n) work ipiv → Stays (attemptedAt (s .n) v c work)
+        → (v ≡ Next.Restep → Within s 1 (coreOf c)) → Closing s (coreOf c) → Lent (s .n) work ipiv
+        → Stays (attemptedAt (s .n) v c work)
     unfolding attemptedAt askedInStepOf endedOf
-    attempted-fine Next.Pass c work p q l = open-fine c work (p refl) l
-    attempted-fine Next.Restep c work p q l = (q refl, l)
-    attempted-fine Next.TooSmall c work p q l = tt
-    attempted-fine Next.Poor c work p q l = tt
+    attempted-fine Next.Pass c work p q e l = open-fine c work (p refl) l
+    attempted-fine Next.Restep c work p q e l = (q refl, l)
+    attempted-fine Next.TooSmall c work p q e l = e
+    attempted-fine Next.Poor c work p q e l = e
 
     closed-fine : (w : Weights) (c : Common) (work : List Float) → Within s 0 (coreOf c) → Lent (s .n) work ipiv
         → Stays (closedAt (s .n) c w work)
     unfolding closedAt reportedOf
-    closed-fine (Refused i) c work p l = tt
+    closed-fine (Refused i) c work p l = closing-of p
     closed-fine Inverted c work p l = (p, lent-length _ (length-copy (s .n) (17 * s .n) 0 work) l)
 
     module _ (rtol atol : List Float) where
@@ -144,7 +159,7 @@ module _ (s : Settings) (acc : Accepted s) where
       accepted-at-fine : (order : ℕ) (b : Branch) (c : Common) (work : List Float) → Within s 0 (coreOf c)
           → Lent (s .n) work ipiv → Stays (acceptedAt s order rtol atol b c work)
       unfolding acceptedAt endedOf
-      accepted-at-fine order Branch.CoefficientGap c work p l = tt
+      accepted-at-fine order Branch.CoefficientGap c work p l = closing-of p
       accepted-at-fine order Branch.Unchanged c work p l = close-fine order c work p l
       accepted-at-fine order Branch.SmallGain c work p l = close-fine order c work p l
       accepted-at-fine order Branch.Lowered c work p l = close-fine order c work p l
@@ -159,6 +174,7 @@ module _ (s : Settings) (acc : Accepted s) where
       converged-at-fine dsm true c work p l =
           attempted-fine _ _ _ (λ e. within-failed s acc c p work dsm (failed-pass s acc c p work dsm e))
           (λ e. within-failed s acc c p work dsm (failed-restep s acc c p work dsm e))
+          (closing-failed s acc c p work dsm)
           (lent-length _ (failed s c dsm work .sized) l)
       converged-at-fine dsm false c work p l =
           accepted-at-fine (c .nq) _ _ _ (within-accept s acc c p dsm work)
@@ -169,6 +185,7 @@ module _ (s : Settings) (acc : Accepted s) where
       unfolding unconvergedOf
       unconverged-fine c work p l =
           attempted-fine _ _ _ (within-unconverged s acc c p work) (λ e. never (unconverged s c work .next) e)
+          (closing-unconverged s acc c p work)
           (lent-length _ (unconverged s c work .sized) l)
         where
           never : {v : Next} {X : Type 0} → (v ≡ Next.Pass) ⊎ (v ≡ Next.Poor) → v ≡ Next.Restep → X
@@ -235,11 +252,11 @@ module _ (s : Settings) (acc : Accepted s) where
     sized-fine : (refuses : Bool) (h : Float) (c : Common) (work : List Float) → Within s 0 (coreOf c)
         → Lent (s .n) work ipiv → Stays (sizedAt s refuses c h work)
     unfolding sizedAt
-    sized-fine true h c work p l = tt
+    sized-fine true h c work p l = closing-of p
     sized-fine false h c work p l = (p, lent-length _ (length-slope (s .n) _ work) l)
 
     pub weighted-fine : (rtol atol : List Float) (w : Weights) (c : Common) (work : List Float) → Within s 0 (coreOf c)
         → Lent (s .n) work ipiv → Stays (weightedAt s c rtol atol w work)
     unfolding weightedAt sizedOf
-    weighted-fine rtol atol (Refused i) c work p l = tt
+    weighted-fine rtol atol (Refused i) c work p l = closing-of p
     weighted-fine rtol atol Inverted c work p l = sized-fine _ _ c work p l
