@@ -86,8 +86,8 @@ fn entry(i: usize) -> f64
     COEFFICIENTS[i]
 }
 
-// Entry i of the table. A variable index writes the whole array to the stack, a literal one is a constant: so the places
-// of orders 1 and 2, which runs read, are named here.
+// Entry i of the table. A variable index writes the whole array to the stack, a literal one is a constant: so the
+// places of orders 1 and 2, which runs read, are named here.
 pub fn coefficient(i: usize) -> f64
     requires { ⌜ i < 384 ⌝ }
     ensures { λ r. ⌜ r ≡ getD cfodeOf i nan ⌝ }

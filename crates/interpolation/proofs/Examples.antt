@@ -1,10 +1,10 @@
--- Worked interpolations, by computation: sum (7) of document 01, each refusal with the order in which they come, the
--- copy; and a worked snapshot.
+-- Worked interpolations, by computation: sum (7) of document 01, in which no operation rounds, each refusal with the
+-- order in which they come, the copy; and a worked snapshot.
 -- Assumes nothing.
 use mathlib.Core.Path.{_≡_, refl}
 use mathlib.Core.Bool.{false}
 use mathlib.Core.List.{List, [], _∷_}
-use lib.Ieee.{Float, nan, inf, ofBits, ofInt, sub, mul, div, eq}
+use lib.Ieee.{Float, nan, inf, ofBits, ofInt, add, sub, mul, div, eq}
 use Rattle.loops.specs.For.{times}
 use Rattle.numbers.specs.Float.{lit, zeroF, oneF, uround, d0·5, d2}
 use Rattle.common.specs.declared.Settings.{Settings}
@@ -12,6 +12,7 @@ use Rattle.common.specs.declared.Common.{Common}
 use Rattle.interpolation.specs.Snapshot.{headerOf, snapshotOf}
 use Rattle.interpolation.specs.Header.{countOf, readHeaderOf}
 use Rattle.interpolation.specs.Evaluate.{lastColumnOf, hornerOf, evaluateOf, left, sizedOf, interpolateOf}
+use Rattle.interpolation.specs.Published.{horner, entries, PoseExact}
 
 abbrev d0·75 : Float
 d0·75 = lit 0x3fe8_0000_0000_0000
@@ -41,6 +42,15 @@ pub sum-7 : (y : Float) →
     × (interpolateOf d0·75 (snapshot oneF oneF zeroF) (y ∷ []) ≡ left 17 (y ∷ []))
 unfolding times countOf readHeaderOf lastColumnOf hornerOf evaluateOf sizedOf interpolateOf eq sub mul div ofBits ofInt
 sum-7 y = (refl, refl)
+
+-- no operation of it rounds: the pose is the value of 2 + s/2 at s = (0.75 - 1) / 0.5
+pub sum-7-exact : PoseExact d0·75 (snapshot oneF oneF d0·5) (record { n = 1; nq = 1; tn = oneF; h = d0·5 }) 0
+unfolding horner entries add sub mul div ofBits
+sum-7-exact = record {
+  difference = (tt, tt, (tt, refl));
+  quotient = (tt, tt, tt, refl);
+  columns = (tt, (tt, tt, (tt, refl)), (tt, tt, (tt, refl)));
+}
 
 -- 15: n is NaN, infinite, 64.5 or 65; nq is NaN or 13; there are 5 numbers
 pub refused-15 : (xi y : Float) →

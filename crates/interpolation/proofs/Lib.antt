@@ -3,3 +3,5 @@ pub mod Counts
 pub mod Published
 pub mod Roundtrip
 pub mod Examples
+pub mod Fractions
+pub mod Exact

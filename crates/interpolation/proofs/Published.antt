@@ -1,7 +1,7 @@
 -- Interpolation against the published formula:
 --     evaluated       each number that `evaluateOf` gives is Horner's rule, in floats, on its state's columns
 --     interpolated    the same of `interpolateOf`, where none of the refusals applies
---     horner-is       in exact arithmetic Horner's rule is the polynomial
+--     horner-is       in exact arithmetic Horner's rule is the polynomial; `naturals` have it
 -- Assumes nothing.
 use mathlib.Core.Path.{_≡_, refl, sym, ap, _∙_}
 use mathlib.Core.Bool.{false}
@@ -95,22 +95,37 @@ interpolated xi cont yi z r other states columns step =
     let whole : interpolateOf xi cont yi ≡ left 0 (evaluateOf xi cont z yi) = rw (a, read, b, c, step) in
     rw whole (refl, (λ i h. evaluated xi cont z yi i (omega arith)))
 
-module _ {A : Type 0} (add mul : A → A → A) (one : A) (exact : Exact add mul one) (s : A) where
+module _ {A : Type 0} (same : A → A → Type 0) (add mul : A → A → A) (unit : A) (exact : Exact same add mul unit)
+    (s : A) where
   -- times s^j
   horner-times : (rest : List A) (j : ℕ) (a : A)
-      → mul (horner add mul s a rest) (power add mul one s j) ≡ polynomial add mul one s j a rest
+      → same (mul (horner add mul s a rest) (power add mul unit s j)) (polynomial add mul unit s j a rest)
   unfolding horner power polynomial
-  horner-times [] j a = refl
+  horner-times [] j a = exact .itself _
   horner-times (b ∷ rest) j a =
       let v = horner add mul s b rest in
-      let p = power add mul one s j in
-      let turned = ap (λ x. mul x p) (exact .commutes s v) ∙ exact .associates v s p in
-      exact .distributes a (mul s v) p ∙ ap (add (mul a p)) (turned ∙ horner-times rest (suc j) b)
+      let p = power add mul unit s j in
+      let swapped = exact .products _ _ p p (exact .commutes s v) (exact .itself p) in
+      let turned = exact .through _ _ _ swapped (exact .associates v s p) in
+      let further = exact .through _ _ _ turned (horner-times rest (suc j) b) in
+      exact .through _ _ _ (exact .distributes a (mul s v) p)
+      (exact .sums _ _ _ _ (exact .itself (mul a p)) further)
 
-  pub horner-is : (a : A) (rest : List A) → horner add mul s a rest ≡ polynomial add mul one s 0 a rest
+  pub horner-is : (a : A) (rest : List A) → same (horner add mul s a rest) (polynomial add mul unit s 0 a rest)
   unfolding power
-  horner-is a rest = sym (exact .unit (horner add mul s a rest)) ∙ horner-times rest 0 a
+  horner-is a rest =
+      exact .through _ _ _ (exact .back _ _ (exact .units (horner add mul s a rest))) (horner-times rest 0 a)
 
 -- the whole numbers are exact
-pub naturals : Exact _+_ _*_ 1
-naturals = record { commutes = mul-comm; associates = mul-assoc; distributes = add-mul; unit = mul-one }
+pub naturals : Exact _≡_ _+_ _*_ 1
+naturals = record {
+  itself = λ a. refl;
+  back = λ a b p. sym p;
+  through = λ a b c p q. p ∙ q;
+  sums = λ a b c d p q. rw (p, q);
+  products = λ a b c d p q. rw (p, q);
+  commutes = mul-comm;
+  associates = mul-assoc;
+  distributes = add-mul;
+  units = mul-one;
+}

@@ -1,4 +1,5 @@
 pub mod Snapshot
 pub mod Header
 pub mod Evaluate
+pub mod Fraction
 pub mod Published

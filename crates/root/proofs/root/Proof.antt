@@ -4,7 +4,8 @@ use lib.Ieee.{nanBits}
 use borrow.Author.Needs.{needs}
 use Rattle.numbers.proofs.Bits.{to-infinity, zero-over-zero}
 use Rattle.root.specs.Root.{bitsOf}
-use Rattle.root.proofs.Cases.{accepted, too-low, too-high, of-zero, of-infinity, of-positive, of-other, is-positive}
+use Rattle.root.proofs.Cases.{accepted, too-low, too-high}
+use Rattle.root.proofs.Cases.{of-zero, of-infinity, of-positive, of-other, is-positive}
 use Rattle.root.proofs.Monotone.{largest}
 use Rattle.root.proofs.root.Statement.{statement}
 use Rattle.root.proofs.root.Tie as tie

@@ -33,7 +33,8 @@ loop-less c = omega arith
 loop-again : tie.Need-loop-again Inv-loop μ-loop
 loop-again c =
     let l = c .before .before .loop in
-    rw (c .keep .ensures) (next _ _ (c .before .before .before .pre) _ _ _ (l .inv .0), again _ _ _ _ _ (omega arith) (l .inv .1))
+    let above = c .before .before .before .pre in
+    rw (c .keep .ensures) (next _ _ above _ _ _ (l .inv .0), again _ _ _ _ _ (omega arith) (l .inv .1))
 
 returns : tie.Need-returns Inv-loop μ-loop
 unfolding bitsOf
