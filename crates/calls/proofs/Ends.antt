@@ -12,7 +12,7 @@ use Rattle.loops.specs.Test.{both}
 use Rattle.turns.specs.declared.Question.the-variants as Question
 use Rattle.turns.specs.Turns.{Left}
 use Rattle.refusals.specs.Start.{settingsOf}
-use Rattle.fields.specs.Fields.{Fit}
+use Rattle.fits.specs.Host.{IsF64}
 use Rattle.rules.specs.Play.{Given, Play, ret, ask, tell, say}
 use Rattle.rules.specs.Rules.{Start}
 use Rattle.rules.specs.Steps.{Step, noted, marked}
@@ -104,7 +104,7 @@ module _ (g : Given) (a : Start) (run : Runs g a) where
         };
       }
 
-  wanted-onward : (t : Play) (l : Left) (x : Called) (r : ReplyCall) → Fit (r .time) → At g a run t l x
+  wanted-onward : (t : Play) (l : Left) (x : Called) (r : ReplyCall) → IsF64 (r .time) → At g a run t l x
       → Spoken n t x → wants n (x .reply .number) r ≡ true → isSized n r ≡ true → Onward t l x r
   wanted-onward t l x r f at k w s = onward t l x r s (wants-asks n r t x k w) (call g a run t l x r f at)
 
@@ -114,7 +114,7 @@ module _ (g : Given) (a : Start) (run : Runs g a) where
   Asked rs = (t : Play) (l : Left) (x : Called) → At g a run t l x → Spoken n t x → AllWanted n x rs
       → AllAsked n t (feds rs)
 
-  asked-by : (r : ReplyCall) (rs : List ReplyCall) → Fit (r .time) → Asked rs → (t : Play) (l : Left) (x : Called)
+  asked-by : (r : ReplyCall) (rs : List ReplyCall) → IsF64 (r .time) → Asked rs → (t : Play) (l : Left) (x : Called)
       → At g a run t l x → Spoken n t x → (b : Bool) → isEnd (x .reply) ≡ b
       → Unless b ((wants n (x .reply .number) r ≡ true) × (isSized n r ≡ true) × AllWanted n (answered x r) rs)
       → AllAsked n t (feds (r ∷ rs))
@@ -138,7 +138,7 @@ module _ (g : Given) (a : Start) (run : Runs g a) where
   Ends rs = (t : Play) (l : Left) (x : Called) (xs : List Step) → At g a run t l x → Spoken n t x → AllWanted n x rs
       → HasEnded (fed n t xs (feds rs) .play) → Ended x rs
 
-  ends-by : (r : ReplyCall) (rs : List ReplyCall) → Fit (r .time) → Ends rs → (t : Play) (l : Left) (x : Called)
+  ends-by : (r : ReplyCall) (rs : List ReplyCall) → IsF64 (r .time) → Ends rs → (t : Play) (l : Left) (x : Called)
       (xs : List Step) → At g a run t l x → Spoken n t x → (b : Bool) → isEnd (x .reply) ≡ b
       → Unless b ((wants n (x .reply .number) r ≡ true) × (isSized n r ≡ true) × AllWanted n (answered x r) rs)
       → HasEnded (fed n t xs (feds (r ∷ rs)) .play) → Ended x (r ∷ rs)

@@ -20,7 +20,6 @@ use Rattle.turns.specs.declared.Phase.{Phase}
 use Rattle.turns.specs.declared.Question.{Question}
 use Rattle.turns.specs.declared.Question.the-variants as Question
 use Rattle.turns.specs.Turns.{Left}
-use Rattle.fields.specs.Fields.{Fit}
 use Rattle.rules.specs.Play.{Given, Play}
 use Rattle.rules.specs.Rules.{Start}
 use Rattle.follows.specs.Seen.{Shown, snapshotOf, shownAs, isTaken, next, step}
@@ -31,7 +30,9 @@ use Rattle.answers.specs.declared.Reply.{Reply}
 use Rattle.answers.specs.Answers.{answerOf}
 use Rattle.answers.specs.Called.{Called}
 use Rattle.replies.specs.Replies.{isKind, kindOf}
+use Rattle.fits.specs.Host.{IsF64}
 use Rattle.fits.proofs.Floats.{literal}
+use Rattle.fits.proofs.Host.{fits-is-f64}
 use Rattle.calls.specs.Run.{ReplyCall, answered}
 use Rattle.calls.specs.Follow.{Said, saidBy, saidOf, saidAt, fedAs, isSized}
 use Rattle.calls.specs.Sums.{replyWith, actedBy, hostedBy}
@@ -135,14 +136,14 @@ module _ (g : Given) (a : Start) (run : Runs g a) (one : g .s .n ≡ 1) where
     agrees = w .agrees;
   }
 
-  goes : (l : Left) (x : Called) (r : ReplyCall) → Fit (r .time) → Host l x → isSized (g .s .n) r ≡ true
+  goes : (l : Left) (x : Called) (r : ReplyCall) → IsF64 (r .time) → Host l x → isSized (g .s .n) r ≡ true
       → isKind (r .kind) ≡ true → isTaken g l (fedAs r) ≡ true → Host (next g l (fedAs r)) (answered x r)
   goes l x r f h s k t = goes-by l x r h s k t (call g a run (h .node) l x r f (h .at))
 
   acts : (l : Left) (x : Called) (v : Act) → Host l x → isFine g l v ≡ true → Host (acted g l v) (actedBy x v)
   unfolding kindOf
   acts l x (gives f) h e =
-      goes l x (replyWith 1 (f ∷ []) zeroF) (literal 0) h (sized 1 (f ∷ []) zeroF) refl e
+      goes l x (replyWith 1 (f ∷ []) zeroF) (fits-is-f64 _ (literal 0)) h (sized 1 (f ∷ []) zeroF) refl e
   acts l x continues h e =
       let w = both (isReported (l .turn .question)) _ e in
       let v = l .turn .question in
@@ -155,7 +156,8 @@ module _ (g : Given) (a : Start) (run : Runs g a) (one : g .s .n ≡ 1) where
       let time : x .reply .time ≡ c .tn =
       ap (λ (z : Reply). z .time) (h .answer) ∙ reads-time v (l .turn .phase) c (w .0) (h .agrees) in
       rw (ap (λ (k : ℕ). part 0 k (x .lent .question)) (sym one) ∙ first, time)
-      (goes l x (replyWith 3 state (c .tn)) (h .at .keeps .floats .tn) h (sized 3 state (c .tn)) refl (w .1))
+      (goes l x (replyWith 3 state (c .tn)) (fits-is-f64 _ (h .at .keeps .floats .tn)) h (sized 3 state (c .tn)) refl
+      (w .1))
 
   pub hosts : (vs : List Act) (l : Left) (x : Called) → Host l x → allowed g l vs ≡ true
       → Host (hosted g l vs) (hostedBy x vs)

@@ -6,10 +6,12 @@ pub mod Slots
 pub mod Keeps
 pub mod Answers
 pub mod Numbers
+pub mod WellFormed
 pub mod Start
 pub mod Walk
 pub mod Follow
 pub mod Refused
+pub mod Exactly
 pub mod Spoken
 pub mod Ends
 pub mod Capped

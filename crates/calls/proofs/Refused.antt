@@ -33,7 +33,7 @@ use Rattle.calls.proofs.Follow.{not-refusal}
 -- ---- start
 
 module _ (p : Problem) (b : Buffers) where
-  empty-start : length (p .y0) ≡ 0 → startOf p b ≡ record { reply = plainOf 110 0 zeroF zeroF; lent = b }
+  pub empty-start : length (p .y0) ≡ 0 → startOf p b ≡ record { reply = plainOf 110 0 zeroF zeroF; lent = b }
   unfolding startOf
   empty-start e = rw e
 
@@ -59,7 +59,7 @@ module _ (p : Problem) (b : Buffers) where
   unfolding startOf
   start-some e = rw e (some-start (eqb (refusal .number) 0) refl)
 
-  starts : 1 ≤ length (p .y0)
+  pub starts : 1 ≤ length (p .y0)
       → let k = startOf p b .reply .number in (k ≡ 100) ⊎ ((1 ≤ k) × (k ≤ 11))
   starts h = start-some (ne-eqb (length (p .y0)) 0 (λ e. omega arith)) .0
 

@@ -25,11 +25,9 @@ use Rattle.turns.specs.declared.Session.{Session}
 use Rattle.turns.specs.Requires.{Resumes}
 use Rattle.reports.specs.Reports.{initialOf}
 use Rattle.refusals.specs.declared.Refusal.{Refusal}
-use Rattle.refusals.specs.Start.{isNegative, startRefusalOf, settingsOf}
-use Rattle.refusals.specs.Accepted.{Started}
-use Rattle.refusals.proofs.Accepted.{accepted}
+use Rattle.refusals.specs.Start.{settingsOf}
 use Rattle.fields.specs.Fields.{countsOf, FloatsFit, Fits}
-use Rattle.session.specs.Session.{encodeOf, decodeOf, putTolerancesOf, OneOrN}
+use Rattle.session.specs.Session.{ListFits, encodeOf, decodeOf, putTolerancesOf, OneOrN}
 use Rattle.session.specs.Session.{tolerancesInRange}
 use Rattle.session.proofs.Back.{length-encode, encoded-count, finished-encode, decode-encode, counts-back}
 use Rattle.session.proofs.Back.{length-put-tolerances, put-other, counts-put, decode-put, rtol-put, atol-put}
@@ -41,13 +39,15 @@ use Rattle.follows.specs.Seen.{sessionOf, after}
 use Rattle.follows.specs.Stands.{startedAt}
 use Rattle.follows.proofs.Kept.{session-kept}
 use Rattle.fits.proofs.Kept.{start-fits}
+use Rattle.fits.proofs.Host.{is-f64-fits}
 use Rattle.answers.specs.Answers.{plainOf}
 use Rattle.answers.specs.Called.{Buffers, Called}
 use Rattle.starts.specs.Starts.{clearedOf, keptOf, beganOf}
 use Rattle.raimsklo.specs.Calls.{Problem, lengthsOf, startAt, startOf}
+use Rattle.calls.specs.WellFormed.{WellFormed}
 use Rattle.calls.specs.Run.{Begins}
 use Rattle.calls.specs.Follow.{givenOf, fromOf}
-use Rattle.calls.proofs.Numbers.{start-number}
+use Rattle.calls.proofs.WellFormed.{refusalOf, some-start, start-number-is, well-formed}
 use Rattle.calls.proofs.Slots.{slots-put}
 use Rattle.calls.proofs.Keeps.{Runs, Found, Keeps, pivots-below}
 use Rattle.calls.proofs.Answers.{lentOf}
@@ -85,55 +85,38 @@ module _ (p : Problem) (b : Buffers) (begins : Begins p b) where
   from = fromOf p
 
   abbrev refusal : Refusal
-  refusal = startRefusalOf (p .x0) (p .xend) (p .options) (lengthsOf p b) (p .rtol) (p .atol)
+  refusal = refusalOf p b
 
-  refused-number : eqb (refusal .number) 0 ≡ false → startAt p b refusal .reply .number ≡ refusal .number
-  unfolding startAt
-  refused-number e = rw e
-
-  start-is : startOf p b ≡ startAt p b refusal
-  unfolding startOf
-  start-is = rw (ne-eqb (length (p .y0)) 0 (λ e. omega (arith, begins .some)))
+  formed : WellFormed p b
+  formed = begins .formed
 
   not-refused : refusal .number ≡ 0
-  not-refused =
-      by (eqb (refusal .number) 0) refl (ap (λ (x : Called). x .reply .number) (sym start-is) ∙ begins .wanted)
-    where
-      small : refusal .number ≤ 11
-      small = start-number (p .x0) (p .xend) (p .options) (lengthsOf p b) (p .rtol) (p .atol)
-
-      by : (t : Bool) → eqb (refusal .number) 0 ≡ t → startAt p b refusal .reply .number ≡ 100 → refusal .number ≡ 0
-      by true e h = eqb-true (refusal .number) 0 e
-      by false e h = let z : refusal .number ≡ 100 = sym (refused-number e) ∙ h in absurd (omega (arith, small))
-
-  given-is : Started (p .x0) (p .xend) (p .options) (lengthsOf p b) (p .rtol) (p .atol)
-  given-is = accepted (p .x0) (p .xend) (p .options) (lengthsOf p b) (p .rtol) (p .atol) not-refused
+  not-refused = start-number-is p b .0 (well-formed p b .0 formed) .1
 
   one-or-n : (list : List Float) → OneOrN (length (p .y0)) (length list) → List1OrN list (length (p .y0) - 1)
   one-or-n list (inl e) = inl e
-  one-or-n list (inr e) = inr (omega (arith, e, begins .some))
+  one-or-n list (inr e) = inr (omega (arith, e, formed .states .0))
 
   pub begun-run : Runs given from
   unfolding settingsOf
   begun-run =
-      let l = given-is .limits in
       record {
         ok = record {
           settings = record {
-            n = (begins .some, given-is .sizes .n);
-            maxsteps = l .maxsteps;
-            mxordn = l .mxordn;
-            mxords = l .mxords;
-            maxcor = l .maxcor;
-            msbp = l .msbp;
-            mxncf = l .mxncf;
+            n = formed .states;
+            maxsteps = formed .maxsteps;
+            mxordn = formed .mxordn;
+            mxords = formed .mxords;
+            maxcor = formed .maxcor;
+            msbp = formed .msbp;
+            mxncf = formed .mxncf;
           };
-          relative = one-or-n (p .rtol) (given-is .sizes .rtol);
-          absolute = one-or-n (p .atol) (given-is .sizes .atol);
+          relative = one-or-n (p .rtol) (formed .rtol);
+          absolute = one-or-n (p .atol) (formed .atol);
           sized = refl;
         };
-        nrtol = given-is .sizes .rtol;
-        natol = given-is .sizes .atol;
+        nrtol = formed .rtol;
+        natol = formed .atol;
       }
 
   -- ---- the call
@@ -151,19 +134,26 @@ module _ (p : Problem) (b : Buffers) (begins : Begins p b) where
   unfolding startAt beganOf keptOf settingsOf beginning
   begun-is =
       let e : eqb (refusal .number) 0 ≡ true = eq-eqb (refusal .number) 0 not-refused in
-      start-is
-      ∙ rw (e, fill-all (b .work), clear-all (b .pivots), given-is .sizes .work, given-is .sizes .pivots)
+      some-start p b (formed .states .0)
+      ∙ rw (e, fill-all (b .work), clear-all (b .pivots), formed .work, formed .pivots)
 
   -- ---- its session
 
   room : 1448 ≤ length (b .session)
-  room = omega (arith, given-is .sizes .session)
+  room = omega (arith, formed .session)
 
   floats : FloatsFit first
   unfolding beginning
   floats =
       let f = begins .floats in
-      start-fits (p .x0) (p .xend) (p .options) (lengthsOf p b) (f .x0) (f .xend) (f .smallest) (f .first)
+      start-fits (p .x0) (p .xend) (p .options) (lengthsOf p b) (is-f64-fits _ (f .x0)) (is-f64-fits _ (f .xend))
+      (is-f64-fits _ (f .smallest)) (is-f64-fits _ (f .first))
+
+  rtol-fits : ListFits (p .rtol)
+  rtol-fits i h = is-f64-fits _ (begins .floats .rtol i h)
+
+  atol-fits : ListFits (p .atol)
+  atol-fits i h = is-f64-fits _ (begins .floats .atol i h)
 
   resumes : Resumes first (p .rtol) (p .atol) (startedAt given from .work) (startedAt given from .ipiv)
   unfolding after
@@ -178,27 +168,14 @@ module _ (p : Problem) (b : Buffers) (begins : Begins p b) where
 
   short : (list : List Float) → OneOrN (length (p .y0)) (length list) → length list ≤ 64
   short list (inl e) = omega arith
-  short list (inr e) = omega (arith, given-is .sizes .n)
-
-  -- an entry of an accepted list is not below 0
-  signs-of : (list : List Float) → OneOrN (length (p .y0)) (length list)
-      → ((i : ℕ) → i < length (p .y0) → isNegative list i ≡ false)
-      → (i : ℕ) → i < length list → Ieee.lt (getD list i nan) zeroF ≡ false
-  signs-of list one h i m = rw (lt-ltb i (length list) m) at (h i (within one))
-    where
-      within : OneOrN (length (p .y0)) (length list) → i < length (p .y0)
-      within (inl e) = omega (arith, begins .some)
-      within (inr e) = omega arith
+  short list (inr e) = omega (arith, formed .states .1)
 
   signs : tolerancesInRange begunBytes (given .s) ≡ true
   unfolding settingsOf
   signs =
-      let f = begins .floats in
-      let r = given-is .sizes .rtol in
-      let a = given-is .sizes .atol in
       tolerances-put (p .rtol) (p .atol) (encodeOf first (b .session)) (rw length-encode room) (given .s) refl refl
-      (short (p .rtol) r) (short (p .atol) a) (f .rtol) (f .atol)
-      (signs-of (p .rtol) r (given-is .relative)) (signs-of (p .atol) a (given-is .absolute))
+      (short (p .rtol) (formed .rtol)) (short (p .atol) (formed .atol)) rtol-fits atol-fits
+      (formed .relative) (formed .absolute)
 
   decoded : decodeOf begunBytes ≡ first
   decoded =
@@ -221,22 +198,21 @@ module _ (p : Problem) (b : Buffers) (begins : Begins p b) where
   begun-keeps =
       let e = encodeOf first (b .session) in
       let in-e : 1448 ≤ length e = rw length-encode room in
-      let f = begins .floats in
       record {
         long = length-put-tolerances (p .rtol) (p .atol) e ∙ length-encode first (b .session)
-            ∙ given-is .sizes .session;
+            ∙ formed .session;
         lent = resumes .lent;
         states = put-other (p .rtol) (p .atol) e 1 (lit< tt)
             ∙ encoded-count first (b .session) room 1 (lit< tt) (omega (arith, begun-run .ok .settings .n .1));
         finished = ap (λ (w : ℕ). eqb w 10) (put-other (p .rtol) (p .atol) e 0 (lit< tt))
             ∙ finished-encode first (b .session) room;
-        rtol = rtol-put (p .rtol) (p .atol) e in-e (short (p .rtol) (given-is .sizes .rtol)) (f .rtol);
-        atol = atol-put (p .rtol) (p .atol) e in-e (short (p .atol) (given-is .sizes .atol)) (f .atol);
+        rtol = rtol-put (p .rtol) (p .atol) e in-e (short (p .rtol) (formed .rtol)) rtol-fits;
+        atol = atol-put (p .rtol) (p .atol) e in-e (short (p .atol) (formed .atol)) atol-fits;
         slots = (
-          slots-put begunBytes 53 (p .rtol) (short (p .rtol) (given-is .sizes .rtol)) (f .rtol)
-              (rtol-slot (p .rtol) (p .atol) e in-e (f .rtol)),
-          slots-put begunBytes 117 (p .atol) (short (p .atol) (given-is .sizes .atol)) (f .atol)
-              (atol-slot (p .rtol) (p .atol) e in-e (f .atol)),
+          slots-put begunBytes 53 (p .rtol) (short (p .rtol) (formed .rtol)) rtol-fits
+              (rtol-slot (p .rtol) (p .atol) e in-e rtol-fits),
+          slots-put begunBytes 117 (p .atol) (short (p .atol) (formed .atol)) atol-fits
+              (atol-slot (p .rtol) (p .atol) e in-e atol-fits),
         );
         signs = signs;
         floats = floats;

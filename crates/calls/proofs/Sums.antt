@@ -7,7 +7,6 @@ use mathlib.Core.List.{List, [], _∷_}
 use mathlib.Core.Path.{_≡_, refl, ap, _∙_}
 use Prim.Native.Nat.{ℕ, zero, suc, _≤_}
 use native.Mathlib.Nat.{not-suc-le-zero, le-of-suc-le-suc}
-use lib.Dec.{lit≤}
 use lib.ListN.{getD}
 use lib.Ieee.{Float, nan, add, sub, mul, div, neg, lt, eq, le, ne, ofInt, ofBits}
 use borrow.Author.Tests.{eq-eqb}
@@ -56,6 +55,7 @@ use Rattle.follows.specs.Sums.{problem8, problem10, problem11, problem12, hoste
 use Rattle.follows.specs.Sums as Follows
 use Rattle.follows.proofs.Sums.{sums-8-to-12}
 use Rattle.fits.proofs.Floats.{literal}
+use Rattle.fits.proofs.Host.{fits-is-f64}
 use Rattle.answers.specs.Called.{Buffers, Called}
 use Rattle.starts.specs.Starts.{beganOf}
 use Rattle.raimsklo.specs.Calls.{Problem, lengthsOf, startAt, startOf}
@@ -64,6 +64,7 @@ use Rattle.calls.specs.Follow.{Said, saidOf, givenOf, fromOf, treeOf}
 use Rattle.calls.specs.Sums.{optionsOf, problemOf, Lent, hostedBy, Row, resultOf, row8, row9, row10, row11}
 use Rattle.calls.specs.Sums.{row12, Sums}
 use Rattle.calls.proofs.Keeps.{Runs}
+use Rattle.calls.proofs.WellFormed.{well-formed}
 use Rattle.calls.proofs.Start.{given, from, begun-run, begun-is}
 use Rattle.calls.proofs.Walk.{begun-at, begun-says}
 use Rattle.calls.proofs.Host.{allowed, Host, said-shown, hosts}
@@ -100,7 +101,7 @@ module _ (r : Row) (k : Follows.Result) (x : Computed r k) (b : Buffers) (l : Le
   unfolding startOf startAt beganOf
   begins =
       let e = eq-eqb _ 0 (x .accepted) in
-      record { some = lit≤ tt; wanted = rw (lengths, e); floats = x .floats }
+      record { formed = well-formed p b .1 (rw (lengths, e)); floats = x .floats }
 
   same-given : givenOf p b ≡ Follows.givenOf (r .problem)
   same-given = rw (lengths, x .settings .0)
@@ -172,12 +173,12 @@ floatsOf c = Fit (c .xend) × Fit (c .hmin) × Fit (c .first) × Fit (c .rtol) �
 
 given-floats : (c : Follows.Problem) (smallest : ℕ) → floatsOf c → FloatsGiven (problemOf c smallest)
 given-floats c smallest f = record {
-  x0 = literal 0;
-  xend = f .0;
-  smallest = f .1;
-  first = f .2;
-  rtol = one-fits (c .rtol) (f .3);
-  atol = one-fits (c .atol) (f .4);
+  x0 = fits-is-f64 _ (literal 0);
+  xend = fits-is-f64 _ (f .0);
+  smallest = fits-is-f64 _ (f .1);
+  first = fits-is-f64 _ (f .2);
+  rtol = λ i h. fits-is-f64 _ (one-fits (c .rtol) (f .3) i h);
+  atol = λ i h. fits-is-f64 _ (one-fits (c .atol) (f .4) i h);
 }
 
 -- how row i of crate follows ends

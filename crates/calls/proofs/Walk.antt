@@ -24,7 +24,8 @@ use Rattle.turns.specs.Turns.{Left}
 use Rattle.reports.specs.Reports.{initialOf}
 use Rattle.machine.specs.Resume.{isAsked}
 use Rattle.refusals.specs.Start.{settingsOf}
-use Rattle.fields.specs.Fields.{Fit}
+use Rattle.fits.specs.Host.{IsF64}
+use Rattle.fits.proofs.Host.{is-f64-fits}
 use Rattle.session.specs.Session.{encodeOf}
 use Rattle.rules.specs.Play.{Given, Play}
 use Rattle.rules.specs.Rules.{Start, beginning, start}
@@ -104,7 +105,7 @@ module _ (g : Given) (a : Start) (run : Runs g a) where
         → Well 0 (next g l (fedAs r) .turn)
         → saidBy (answered x r) ≡ saidAt (g .s .n) (step t (fedAs r)) (r .question) → Outcome t l x r
 
-  module _ (t : Play) (l : Left) (x : Called) (r : ReplyCall) (time : Fit (r .time)) (at : At t l x) where
+  module _ (t : Play) (l : Left) (x : Called) (r : ReplyCall) (time : IsF64 (r .time)) (at : At t l x) where
     -- what is lent
     lent-is : lentFor x r ≡ lentOf l (x .lent .session) (r .question)
     lent-is = rw (at .work, at .pivots)
@@ -142,8 +143,8 @@ module _ (g : Given) (a : Start) (run : Runs g a) where
 
       keeps : Keeps g m (encodeOf (sessionOf g m) (x .lent .session))
       keeps =
-          keeps-next g a run l (x .lent .session) (at .keeps) (fedAs r) time (bounded m reached (well .low))
-          (in-run m reached)
+          keeps-next g a run l (x .lent .session) (at .keeps) (fedAs r) (is-f64-fits _ time)
+          (bounded m reached (well .low)) (in-run m reached)
 
       abbrev put : List Float
       put = questionOf (g .s) (m .turn .phase) (m .turn .common) (m .work) (r .question)

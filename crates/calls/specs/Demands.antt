@@ -8,7 +8,7 @@ use mathlib.Core.Path.{_≡_}
 use Prim.Native.Nat.{ℕ, _+_, _*_, _≤_}
 use lib.Dec.{eqb, leb}
 use lib.ListN.{length}
-use Rattle.fields.specs.Fields.{Fit}
+use Rattle.fits.specs.Host.{IsF64}
 use Rattle.session.specs.Session.{decodeOf}
 use Rattle.rules.specs.Play.{derivativeAt, Play, ret, ask, tell, say}
 use Rattle.rules.specs.Steps.{Step, noted, marked, isEnded, isEndedKeeping, number}
@@ -54,7 +54,7 @@ pub record CallsEnd (p : Problem) (b : Buffers) : Type 0 where
   pub ends : (rs : List ReplyCall) → TimesFit rs → AllWanted (length (p .y0)) (startOf p b) rs
       → length rs ≡ repliesOf (givenOf p b .s) → hasEnd (callsOf (startOf p b) rs) ≡ true
   -- and after an end every reply is refused, by 14 (by 3 where the question's length is wrong), and changes nothing
-  pub after : (rs : List ReplyCall) (r : ReplyCall) → TimesFit rs → Fit (r .time)
+  pub after : (rs : List ReplyCall) (r : ReplyCall) → TimesFit rs → IsF64 (r .time)
       → hasEnd (callsOf (startOf p b) rs) ≡ true
       → Refused (lastOf (startOf p b) rs) r
       × (isSized (length (p .y0)) r ≡ true → answered (lastOf (startOf p b) rs) r .reply .number ≡ 14)

@@ -17,7 +17,7 @@ use Rattle.turns.specs.declared.Phase.{Phase}
 use Rattle.turns.specs.declared.Phase.the-variants as Phase
 use Rattle.machine.specs.Resume.{isAsked}
 use Rattle.refusals.specs.Start.{settingsOf, firstStepOf, smallestOf, inverseLargestOf}
-use Rattle.fields.specs.Fields.{Fit}
+use Rattle.fits.specs.Host.{IsF64}
 use Rattle.session.specs.Session.{decodeOf, rtolSlots, atolSlots}
 use Rattle.rules.specs.Play.{Given, derivativeAt, jacobianAt, Report, Play, ret, ask, tell, say}
 use Rattle.rules.specs.Rules.{Start, start}
@@ -195,8 +195,8 @@ pub record CallsFollow (p : Problem) (b : Buffers) : Type 0 where
   pub session : (rs : List ReplyCall) → TimesFit rs
       → SessionAt p b (standsAt (length (p .y0)) (treeOf p b) rs) (lastOf (startOf p b) rs .lent .session)
   -- refused ones change nothing
-  pub refused : (rs : List ReplyCall) (r : ReplyCall) → TimesFit rs → Fit (r .time)
+  pub refused : (rs : List ReplyCall) (r : ReplyCall) → TimesFit rs → IsF64 (r .time)
       → isRefusal (answered (lastOf (startOf p b) rs) r .reply) ≡ true → Refused (lastOf (startOf p b) rs) r
   -- no session of a run is out of range
-  pub never-13 : (rs : List ReplyCall) (r : ReplyCall) → TimesFit rs → Fit (r .time)
+  pub never-13 : (rs : List ReplyCall) (r : ReplyCall) → TimesFit rs → IsF64 (r .time)
       → answered (lastOf (startOf p b) rs) r .reply .number ≡ 13 → ⊥

@@ -1,3 +1,5 @@
+pub mod WellFormed
+pub mod Start
 pub mod Run
 pub mod Follow
 pub mod Refused

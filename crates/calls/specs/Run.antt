@@ -3,33 +3,30 @@
 -- start and reply are `startOf` and `replyOf` of crate raimsklo, which the contracts of the two functions cite.
 use mathlib.Core.Bool.{Bool, not, _||_}
 use mathlib.Core.List.{List, [], _∷_}
-use mathlib.Core.Path.{_≡_}
-use Prim.Native.Nat.{ℕ, _≤_}
+use Prim.Native.Nat.{ℕ}
 use lib.Dec.{eqb}
-use lib.ListN.{length}
 use lib.Ieee.{Float}
-use Rattle.fields.specs.Fields.{Fit}
-use Rattle.session.specs.Session.{ListFits}
 use Rattle.follows.specs.Seen.{keepIf}
+use Rattle.fits.specs.Host.{IsF64, AreF64}
 use Rattle.answers.specs.declared.Reply.{Reply}
 use Rattle.answers.specs.Called.{Buffers, Called}
-use Rattle.raimsklo.specs.Calls.{Problem, startOf, replyOf}
+use Rattle.raimsklo.specs.Calls.{Problem, replyOf}
+use Rattle.calls.specs.WellFormed.{WellFormed}
 
 -- ---- the start
 
--- the floats that a start is given are of the format binary64: every f64 is, so this asks nothing of a host
+-- the floats that a start is given are f64: this asks nothing of a host (`every-f64` in crates/fits/proofs/Host.antt)
 pub record FloatsGiven (p : Problem) : Type 0 where
-  pub x0 : Fit (p .x0)
-  pub xend : Fit (p .xend)
-  pub smallest : Fit (p .options .«min_step»)
-  pub first : Fit (p .options .«first_step»)
-  pub rtol : ListFits (p .rtol)
-  pub atol : ListFits (p .atol)
+  pub x0 : IsF64 (p .x0)
+  pub xend : IsF64 (p .xend)
+  pub smallest : IsF64 (p .options .«min_step»)
+  pub first : IsF64 (p .options .«first_step»)
+  pub rtol : AreF64 (p .rtol)
+  pub atol : AreF64 (p .atol)
 
--- accepted: y0 is not empty, and the first derivative is wanted (100)
+-- a start that is accepted
 pub record Begins (p : Problem) (b : Buffers) : Type 0 where
-  pub some : 1 ≤ length (p .y0)
-  pub wanted : startOf p b .reply .number ≡ 100
+  pub formed : WellFormed p b
   pub floats : FloatsGiven p
 
 -- ---- the replies
@@ -41,10 +38,10 @@ pub record ReplyCall : Type 0 where
   pub time : Float
   pub question : List Float
 
--- every time is of the format, as every f64 is
+-- every time is an f64
 abbrev pub TimesFit : List ReplyCall → Type 0
 TimesFit [] = Unit {0}
-TimesFit (r ∷ rs) = Fit (r .time) × TimesFit rs
+TimesFit (r ∷ rs) = IsF64 (r .time) × TimesFit rs
 
 -- ---- the calls; x is the call before
 

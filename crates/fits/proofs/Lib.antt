@@ -6,3 +6,4 @@ pub mod Correct
 pub mod Accept
 pub mod Replies
 pub mod Kept
+pub mod Host

@@ -1,1 +1,4 @@
+pub mod Decides
+pub mod FirstStep
+pub mod Table
 pub mod Accepted

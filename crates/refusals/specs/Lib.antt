@@ -1,3 +1,5 @@
 pub mod Refusal
 pub mod Start
 pub mod Accepted
+pub mod FirstStep
+pub mod Table

@@ -1,0 +1,25 @@
+-- What a start answers, for any problem and whatever is lent (`starts-exactly` in proofs/Exactly.antt). The order of the
+-- refusals is that of the rows.
+use mathlib.Core.List.{List, _∷_}
+use mathlib.Core.Path.{_≡_}
+use lib.ListN.{length}
+use Rattle.refusals.specs.declared.Refusal.{Refusal}
+use Rattle.refusals.specs.Table.{Row, row, ExactlyFirst, startRows}
+use Rattle.answers.specs.Answers.{refusedOf}
+use Rattle.answers.specs.Called.{Buffers}
+use Rattle.raimsklo.specs.Calls.{Problem, lengthsOf, startOf}
+
+-- an empty y0 is success (110) before everything; then 1 to 11
+abbrev pub rowsOf : Problem → Buffers → List Row
+rowsOf p b =
+    row 110 (length (p .y0) ≡ 0)
+    ∷ startRows (p .x0) (p .xend) (p .options) (lengthsOf p b) (p .rtol) (p .atol)
+
+-- a row's number, index and value, all else 0, and everything that was lent as it was
+abbrev pub Returned : Problem → Buffers → Refusal → Type 0
+Returned p b r = startOf p b ≡ record { reply = refusedOf r; lent = b }
+
+-- a row is returned exactly if its condition holds and no earlier one does; the first derivative is wanted (100)
+-- exactly if none holds
+abbrev pub StartsExactly : Problem → Buffers → Type 0
+StartsExactly p b = ExactlyFirst (Returned p b) (startOf p b .reply .number ≡ 100) (Unit {0}) (rowsOf p b)

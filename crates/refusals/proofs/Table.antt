@@ -1,0 +1,361 @@
+-- A start is refused by the first row of the table whose condition holds, and each row is returned exactly then.
+--     first-row, exactly-first
+-- Assumes nothing.
+use mathlib.Core.Bool.{Bool, true, false, cond, not, _||_}
+use mathlib.Core.List.{List, [], _∷_, _++_}
+use mathlib.Core.Logic.{_⊎_, inl, inr, _≢_, _↔_}
+use mathlib.Core.Path.{_≡_, refl, sym, ap, _∙_}
+use Prim.Native.Nat.{ℕ, zero, suc, _+_, _-_, _*_, _≤_, _<_}
+use native.Mathlib.Omega.{arith}
+use borrow.Author.Tests.{ne-eqb}
+use lib.Dec.{eqb, ltb, lit<, lit≤}
+use lib.ListN.{length, getD}
+use lib.Ieee as Ieee
+use lib.Ieee.{Float, nan}
+use Rattle.loops.specs.Test.{differs}
+use Rattle.loops.specs.For.{times, stays-times}
+use Rattle.numbers.specs.Float.{_⊖_, zeroF}
+use Rattle.numbers.specs.Sign.{signumOf, refused}
+use Rattle.refusals.specs.declared.Options.{Options}
+use Rattle.refusals.specs.declared.Lengths.{Lengths}
+use Rattle.refusals.specs.declared.Refusal.{Refusal}
+use Rattle.refusals.specs.Refusal.{none, plain, alsoOf, inOrder, orElse}
+use Rattle.refusals.specs.Start.{isList, listsOf, sizesOf, largeOf, limitsOf, isNegative, toleranceAt}
+use Rattle.refusals.specs.Start.{tolerancesOf, stepOf, startRefusalOf}
+use Rattle.refusals.specs.FirstStep.{StepRefused}
+use Rattle.refusals.specs.Table.{Row, row, ExactlyFirst, NotOneOrN, WrongList, WrongSlice, LargeSetting}
+use Rattle.refusals.specs.Table.{BelowZero, toleranceRows, stepRow, startRows}
+use Rattle.refusals.proofs.Decides.{Decides, equal, smaller, denied, either, neither}
+use Rattle.refusals.proofs.FirstStep.{step-decides}
+
+positive : (k : ℕ) → suc k ≢ 0
+positive k e = omega arith
+
+-- ---- the first row that holds
+
+-- x is the refusal of the first row whose condition holds, and none where none holds
+abbrev pub IsFirst : List Row → Refusal → Type 0
+IsFirst [] x = x ≡ none
+IsFirst (r ∷ rs) x = (r .holds × (x ≡ r .refusal)) ⊎ ((r .holds → ⊥) × IsFirst rs x)
+
+-- every row has a number
+abbrev pub Numbered : List Row → Type 0
+Numbered [] = Unit {0}
+Numbered (r ∷ rs) = (r .refusal .number ≢ 0) × Numbered rs
+
+also-stays : (r : Refusal) (b : Bool) (k : ℕ) → r .number ≢ 0 → alsoOf r b k ≡ r
+unfolding alsoOf
+also-stays r b k h = rw (ne-eqb (r .number) 0 h)
+
+else-stays : (a b : Refusal) → a .number ≢ 0 → orElse a b ≡ a
+unfolding orElse
+else-stays a b h = rw (ne-eqb (a .number) 0 h)
+
+-- a row more
+pub first-also : {P : Type 0} (rows : List Row) (r : Refusal) (t : Bool) (k : ℕ) → Numbered rows → IsFirst rows r
+    → Decides t P → IsFirst (rows ++ row k P ∷ []) (alsoOf r t k)
+unfolding alsoOf
+first-also [] r true k m f d = inl (d .0 refl, rw f)
+first-also [] r false k m f d = inr (d .1 refl, rw f)
+first-also (q ∷ rows) r t k m (inl (h, e)) d =
+    inl (h, also-stays r t k (λ z. m .0 (ap (λ (x : Refusal). x .number) (sym e) ∙ z)) ∙ e)
+first-also (q ∷ rows) r t k m (inr (n, f)) d = inr (n, first-also rows r t k (m .1) f d)
+
+-- rows after rows
+pub first-else : (rows more : List Row) (a b : Refusal) → Numbered rows → IsFirst rows a → IsFirst more b
+    → IsFirst (rows ++ more) (orElse a b)
+unfolding orElse
+first-else [] more a b m f g = rw f g
+first-else (q ∷ rows) more a b m (inl (h, e)) g =
+    inl (h, else-stays a b (λ z. m .0 (ap (λ (x : Refusal). x .number) (sym e) ∙ z)) ∙ e)
+first-else (q ∷ rows) more a b m (inr (n, f)) g = inr (n, first-else rows more a b (m .1) f g)
+
+-- two conditions of one number
+also-same : (r : Refusal) (b c : Bool) (k : ℕ) → k ≢ 0 → alsoOf (alsoOf r b k) c k ≡ alsoOf r (b || c) k
+unfolding alsoOf
+also-same r b c k h = by (eqb (r .number) 0) refl b
+  where
+    by : (t : Bool) → eqb (r .number) 0 ≡ t → (b : Bool) → alsoOf (alsoOf r b k) c k ≡ alsoOf r (b || c) k
+    by true e true = rw (e, ne-eqb k 0 h)
+    by true e false = simp e
+    by false e b = simp e
+
+-- ---- lengths and settings
+
+module _ (l : Lengths) where
+  listed : (len : ℕ) → Decides (not (isList len (l .n))) (NotOneOrN len (l .n))
+  listed len = neither (eqb len 1) (eqb len (l .n)) (equal len 1) (equal len (l .n))
+
+  abbrev lists : Bool
+  lists = not (isList (l .rtol) (l .n)) || not (isList (l .atol) (l .n))
+
+  abbrev slices : Bool
+  slices =
+      not (eqb (l .work) (l .n * l .n + 19 * l .n)) || (not (eqb (l .pivots) (l .n))
+      || (not (eqb (l .session) 1448) || not (eqb (l .question) (14 * l .n + 6))))
+
+  lists-are : listsOf l (l .n) ≡ alsoOf (alsoOf none lists 2) slices 3
+  unfolding listsOf inOrder
+  lists-are =
+      also-same _ _ _ 3 (positive 2) ∙ also-same _ _ _ 3 (positive 2) ∙ also-same _ _ _ 3 (positive 2)
+      ∙ ap (λ (r : Refusal). alsoOf r slices 3) (also-same none _ _ 2 (positive 1))
+
+  abbrev unequal : (a b : ℕ) → Decides (not (eqb a b)) (a ≢ b)
+  unequal a b = denied (eqb a b) (equal a b)
+
+  abbrev sizeRows : List Row
+  sizeRows = row 1 (64 < l .n) ∷ row 2 (WrongList l) ∷ row 3 (WrongSlice l) ∷ []
+
+  two : Decides lists (WrongList l)
+  two = either _ _ (listed (l .rtol)) (listed (l .atol))
+
+  three : Decides slices (WrongSlice l)
+  three = either _ _ (unequal _ _) (either _ _ (unequal _ _) (either _ _ (unequal _ _) (unequal _ _)))
+
+  first-sizes : IsFirst sizeRows (sizesOf l)
+  unfolding sizesOf
+  first-sizes = by (ltb 64 (l .n)) (smaller 64 (l .n))
+    where
+      by : (t : Bool) → Decides t (64 < l .n) → IsFirst sizeRows (cond t (plain 1) (listsOf l (l .n)))
+      by true d = inl (d .0 refl, refl)
+      by false d =
+          inr (d .1 refl, rw lists-are
+          (first-also (row 2 (WrongList l) ∷ []) _ slices 3 (positive 1, tt)
+          (first-also [] none lists 2 tt refl two) three))
+
+module _ (o : Options) where
+  abbrev large : Bool
+  large =
+      ltb 1000000 (o .«max_steps») || (ltb 1000000 (o .mxordn) || (ltb 1000000 (o .mxords)
+      || (ltb 1000000 (o .maxcor) || (ltb 1000000 (o .msbp) || ltb 1000000 (o .mxncf)))))
+
+  large-is : largeOf o ≡ alsoOf none large 4
+  unfolding largeOf inOrder
+  large-is =
+      also-same _ _ _ 4 (positive 3) ∙ also-same _ _ _ 4 (positive 3) ∙ also-same _ _ _ 4 (positive 3)
+      ∙ also-same _ _ _ 4 (positive 3) ∙ also-same none _ _ 4 (positive 3)
+
+  four : Decides large (LargeSetting o)
+  four =
+      either _ _ (smaller _ _) (either _ _ (smaller _ _) (either _ _ (smaller _ _)
+      (either _ _ (smaller _ _) (either _ _ (smaller _ _) (smaller _ _)))))
+
+  limits-are : limitsOf o ≡ alsoOf (alsoOf (alsoOf (alsoOf (alsoOf none large 4) (eqb (o .«max_steps») 0) 5)
+      (eqb (o .maxcor) 0) 6) (eqb (o .mxordn) 0 || eqb (o .mxords) 0) 7) (not (eqb (o .banded) 0)) 8
+  unfolding limitsOf inOrder
+  limits-are =
+      ap (λ (r : Refusal). alsoOf r (not (eqb (o .banded) 0)) 8) (also-same _ _ _ 7 (positive 6))
+      ∙ ap (λ (r : Refusal). alsoOf (alsoOf (alsoOf (alsoOf r (eqb (o .«max_steps») 0) 5) (eqb (o .maxcor) 0) 6)
+      (eqb (o .mxordn) 0 || eqb (o .mxords) 0) 7) (not (eqb (o .banded) 0)) 8) large-is
+
+  abbrev r4 : Row
+  r4 = row 4 (LargeSetting o)
+
+  abbrev r5 : Row
+  r5 = row 5 (o .«max_steps» ≡ 0)
+
+  abbrev r6 : Row
+  r6 = row 6 (o .maxcor ≡ 0)
+
+  abbrev r7 : Row
+  r7 = row 7 ((o .mxordn ≡ 0) ⊎ (o .mxords ≡ 0))
+
+  abbrev limitRows : List Row
+  limitRows = r4 ∷ r5 ∷ r6 ∷ r7 ∷ row 8 (o .banded ≢ 0) ∷ []
+
+  first-limits : IsFirst limitRows (limitsOf o)
+  first-limits =
+      rw limits-are
+      (first-also (r4 ∷ r5 ∷ r6 ∷ r7 ∷ []) _ _ 8
+      (positive 3, (positive 4, (positive 5, (positive 6, tt))))
+      (first-also (r4 ∷ r5 ∷ r6 ∷ []) _ _ 7 (positive 3, (positive 4, (positive 5, tt)))
+      (first-also (r4 ∷ r5 ∷ []) _ _ 6 (positive 3, (positive 4, tt))
+      (first-also (r4 ∷ []) _ _ 5 (positive 3, tt) (first-also [] none large 4 tt refl four) (equal _ _))
+      (equal _ _))
+      (either _ _ (equal _ _) (equal _ _)))
+      (denied (eqb (o .banded) 0) (equal (o .banded) 0)))
+
+-- ---- tolerances
+
+module _ (rtol atol : List Float) where
+  below : (list : List Float) (i : ℕ) → Decides (isNegative list i) (BelowZero list i)
+  below list i = by (ltb i (length list)) (smaller i (length list))
+    where
+      by : (t : Bool) → Decides t (i < length list)
+          → Decides (cond t (Ieee.lt (getD list i nan) zeroF) false) (BelowZero list i)
+      by true d = (λ e. (d .0 refl, e), λ e h. differs (sym e ∙ h .1))
+      by false d = (λ e. differs e, λ e h. d .1 refl (h .0))
+
+  abbrev rows : ℕ → ℕ → List Row → List Row
+  rows k i rest = toleranceRows rtol atol k i rest
+
+  tolerances-by : (rest : List Row) (y : Refusal) (k i : ℕ) (s t : Bool)
+      → IsFirst (rows k (i + 1) rest) (orElse (times (toleranceAt rtol atol) k (i + 1) none) y)
+      → Decides s (BelowZero rtol i) → Decides t (BelowZero atol i)
+      → IsFirst (rows (suc k) i rest)
+      (orElse (times (toleranceAt rtol atol) k (i + 1)
+      (cond s (record { number = 9; index = i; value = zeroF })
+      (cond t (record { number = 10; index = i; value = zeroF }) none))) y)
+  unfolding orElse
+  tolerances-by rest y k i true t f d g =
+      let nine : Refusal = record { number = 9; index = i; value = zeroF } in
+      inl (d .0 refl, rw (stays-times (toleranceAt rtol atol) nine (λ j. refl) k (i + 1)))
+  tolerances-by rest y k i false true f d g =
+      let ten : Refusal = record { number = 10; index = i; value = zeroF } in
+      inr (d .1 refl, inl (g .0 refl, rw (stays-times (toleranceAt rtol atol) ten (λ j. refl) k (i + 1))))
+  tolerances-by rest y k i false false f d g = inr (d .1 refl, inr (g .1 refl, f))
+
+  first-tolerances : (rest : List Row) (y : Refusal) → IsFirst rest y → (k i : ℕ)
+      → IsFirst (rows k i rest) (orElse (times (toleranceAt rtol atol) k i none) y)
+  unfolding times orElse
+  first-tolerances rest y f zero i = f
+  first-tolerances rest y f (suc k) i =
+      tolerances-by rest y k i (isNegative rtol i) (isNegative atol i) (first-tolerances rest y f k (i + 1))
+      (below rtol i) (below atol i)
+
+-- ---- the first step
+
+module _ (x0 xend : Float) (o : Options) where
+  first-step : IsFirst (stepRow x0 xend o ∷ []) (stepOf x0 xend o)
+  unfolding stepOf
+  first-step =
+      by (eqb (o .«has_first_step») 0) (refused (o .«first_step») (signumOf (xend ⊖ x0)))
+      (equal (o .«has_first_step») 0) (step-decides (o .«first_step») (xend ⊖ x0))
+    where
+      by : (s t : Bool) → Decides s (o .«has_first_step» ≡ 0)
+          → Decides t (StepRefused (o .«first_step») (xend ⊖ x0))
+          → IsFirst (stepRow x0 xend o ∷ []) (cond s none (cond t (stepRow x0 xend o .refusal) none))
+      by true t d f = inr (λ h. h .0 (d .0 refl), refl)
+      by false true d f = inl ((d .1 refl, f .0 refl), refl)
+      by false false d f = inr (λ h. f .1 refl (h .1), refl)
+
+-- ---- the whole table
+
+pub first-row : (x0 xend : Float) (o : Options) (l : Lengths) (rtol atol : List Float)
+    → IsFirst (startRows x0 xend o l rtol atol) (startRefusalOf x0 xend o l rtol atol)
+unfolding startRefusalOf tolerancesOf
+first-row x0 xend o l rtol atol =
+    let z : l .n - 0 ≡ l .n = omega arith in
+    let tolerances = times (toleranceAt rtol atol) (l .n) 0 none in
+    let step = stepRow x0 xend o ∷ [] in
+    let last = toleranceRows rtol atol (l .n) 0 step in
+    let rest = orElse tolerances (stepOf x0 xend o) in
+    rw z
+    (first-else (sizeRows l) (limitRows o ++ last) (sizesOf l) (orElse (limitsOf o) rest)
+    (positive 0, (positive 1, (positive 2, tt))) (first-sizes l)
+    (first-else (limitRows o) last (limitsOf o) rest
+    (positive 3, (positive 4, (positive 5, (positive 6, (positive 7, tt))))) (first-limits o)
+    (first-tolerances rtol atol step (stepOf x0 xend o) (first-step x0 xend o) (l .n) 0)))
+
+-- ---- where none holds
+
+abbrev pub NoneHolds : List Row → Type 0
+NoneHolds [] = Unit {0}
+NoneHolds (r ∷ rs) = (r .holds → ⊥) × NoneHolds rs
+
+pub none-holds : (rows : List Row) (x : Refusal) → IsFirst rows x → NoneHolds rows → x .number ≡ 0
+none-holds [] x f h = rw f
+none-holds (r ∷ rows) x (inl (y, e)) h = absurd (h .0 y)
+none-holds (r ∷ rows) x (inr (n, f)) h = none-holds rows x f (h .1)
+
+pub none-tolerances : (rtol atol : List Float) (rest : List Row) → ((i : ℕ) → BelowZero rtol i → ⊥)
+    → ((i : ℕ) → BelowZero atol i → ⊥) → NoneHolds rest → (k i : ℕ) → NoneHolds (toleranceRows rtol atol k i rest)
+none-tolerances rtol atol rest r a h zero i = h
+none-tolerances rtol atol rest r a h (suc k) i = (r i, (a i, none-tolerances rtol atol rest r a h k (i + 1)))
+
+-- ---- each row exactly if
+
+-- the place of a refusal in the table: later rows have larger places
+abbrev place : ℕ → Refusal → ℕ
+place n r =
+    cond (ltb (r .number) 9) (r .number)
+    (cond (eqb (r .number) 9) (9 + (r .index + r .index))
+    (cond (eqb (r .number) 10) (10 + (r .index + r .index)) (9 + (n + n))))
+
+-- places after k, in order
+abbrev After : ℕ → ℕ → List Row → Type 0
+After n k [] = Unit {0}
+After n k (r ∷ rs) = (k < place n (r .refusal)) × After n (place n (r .refusal)) rs
+
+module _ (n : ℕ) where
+  -- the first row that holds has a place after k, and none has place 0
+  later : (rows : List Row) (k : ℕ) (x : Refusal) → After n k rows → IsFirst rows x → (x ≡ none) ⊎ (k < place n x)
+  later [] k x a f = inl f
+  later (r ∷ rows) k x a (inl (h, e)) = inr (rw e (a .0))
+  later (r ∷ rows) k x a (inr (h, f)) = by (later rows (place n (r .refusal)) x (a .1) f)
+    where
+      by : (x ≡ none) ⊎ (place n (r .refusal) < place n x) → (x ≡ none) ⊎ (k < place n x)
+      by (inl e) = inl e
+      by (inr q) = inr (omega (arith, q, a .0))
+
+  -- once a row is returned no later one is
+  over : (rows : List Row) (k : ℕ) (x : Refusal) (None : Type 0) → (None → ⊥) → x .number ≢ 0 → place n x ≤ k
+      → After n k rows → ExactlyFirst (λ r. x ≡ r) (x .number ≡ 0) None rows
+  over [] k x None never m h a = (λ e. absurd (m e), λ e. absurd (never e))
+  over (r ∷ rows) k x None never m h a = (
+        (λ e. let q : place n x ≡ place n (r .refusal) = ap (place n) e in absurd (omega (arith, q, h, a .0)),
+        λ e. absurd (never (e .0))),
+        over rows (place n (r .refusal)) x (None × (r .holds → ⊥)) (λ e. never (e .0)) m (omega (arith, h, a .0)) (a .1),
+      )
+
+  exactly : (rows : List Row) (k : ℕ) (x : Refusal) (None : Type 0) → None → Numbered rows → After n k rows
+      → IsFirst rows x → ExactlyFirst (λ r. x ≡ r) (x .number ≡ 0) None rows
+  exactly [] k x None so-far m a f = (λ e. so-far, λ e. rw f)
+  exactly (r ∷ rows) k x None so-far m a (inl (h, e)) = (
+        (λ q. (so-far, h), λ q. e),
+        over rows (place n (r .refusal)) x (None × (r .holds → ⊥)) (λ q. q .1 h) (rw e (m .0))
+        (let q : place n x ≡ place n (r .refusal) = ap (place n) e in omega (arith, q)) (a .1),
+      )
+  exactly (r ∷ rows) k x None so-far m a (inr (h, f)) = (
+        (λ e. absurd (by e (later rows (place n (r .refusal)) x (a .1) f)), λ q. absurd (h (q .1))),
+        exactly rows (place n (r .refusal)) x (None × (r .holds → ⊥)) (so-far, h) (m .1) (a .1) f,
+      )
+    where
+      by : x ≡ r .refusal → (x ≡ none) ⊎ (place n (r .refusal) < place n x) → ⊥
+      by e (inl z) = m .0 (ap (λ (y : Refusal). y .number) (sym e ∙ z))
+      by e (inr q) =
+          let p : place n x ≡ place n (r .refusal) = ap (place n) e in
+          omega (arith, p, q)
+
+  numbered-tolerances : (rtol atol : List Float) (rest : List Row) → Numbered rest → (k i : ℕ)
+      → Numbered (toleranceRows rtol atol k i rest)
+  numbered-tolerances rtol atol rest m zero i = m
+  numbered-tolerances rtol atol rest m (suc k) i =
+      (positive 8, (positive 9, numbered-tolerances rtol atol rest m k (i + 1)))
+
+  after-tolerances : (rtol atol : List Float) (r : Row) → r .refusal .number ≡ 11 → (k i j : ℕ) → i + k ≡ n
+      → j < 9 + (i + i) → After n j (toleranceRows rtol atol k i (r ∷ []))
+  after-tolerances rtol atol r e zero i j h q = rw e (omega arith, tt)
+  after-tolerances rtol atol r e (suc k) i j h q =
+      (q, (omega arith, after-tolerances rtol atol r e k (i + 1) (10 + (i + i)) (omega arith) (omega arith)))
+
+-- what holds of every refusal by 1 to 11 holds of each row's
+abbrev pub Each : (Refusal → Type 0) → List Row → Type 0
+Each P [] = Unit {0}
+Each P (r ∷ rs) = P (r .refusal) × Each P rs
+
+module _ (P : Refusal → Type 0) (h : (r : Refusal) → 1 ≤ r .number → r .number ≤ 11 → P r) where
+  each-tolerance : (rtol atol : List Float) (rest : List Row) → Each P rest → (k i : ℕ)
+      → Each P (toleranceRows rtol atol k i rest)
+  each-tolerance rtol atol rest e zero i = e
+  each-tolerance rtol atol rest e (suc k) i =
+      (h _ (lit≤ tt) (lit≤ tt), (h _ (lit≤ tt) (lit≤ tt), each-tolerance rtol atol rest e k (i + 1)))
+
+  pub each-row : (x0 xend : Float) (o : Options) (l : Lengths) (rtol atol : List Float)
+      → Each P (startRows x0 xend o l rtol atol)
+  each-row x0 xend o l rtol atol = (
+        h _ (lit≤ tt) (lit≤ tt), (h _ (lit≤ tt) (lit≤ tt), (h _ (lit≤ tt) (lit≤ tt), (h _ (lit≤ tt) (lit≤ tt),
+        (h _ (lit≤ tt) (lit≤ tt), (h _ (lit≤ tt) (lit≤ tt), (h _ (lit≤ tt) (lit≤ tt), (h _ (lit≤ tt) (lit≤ tt),
+        each-tolerance rtol atol _ (h _ (lit≤ tt) (lit≤ tt), tt) (l .n) 0)))))))
+      )
+
+pub exactly-first : (x0 xend : Float) (o : Options) (l : Lengths) (rtol atol : List Float)
+    → let x = startRefusalOf x0 xend o l rtol atol in
+    ExactlyFirst (λ r. x ≡ r) (x .number ≡ 0) (Unit {0}) (startRows x0 xend o l rtol atol)
+exactly-first x0 xend o l rtol atol =
+    exactly (l .n) (startRows x0 xend o l rtol atol) 0 (startRefusalOf x0 xend o l rtol atol) (Unit {0}) tt
+    (positive 0, (positive 1, (positive 2, (positive 3, (positive 4, (positive 5, (positive 6, (positive 7,
+    numbered-tolerances (l .n) rtol atol _ (positive 10, tt) (l .n) 0))))))))
+    (lit< tt, (lit< tt, (lit< tt, (lit< tt, (lit< tt, (lit< tt, (lit< tt, (lit< tt,
+    after-tolerances (l .n) rtol atol _ refl (l .n) 0 8 (omega arith) (omega arith)))))))))
+    (first-row x0 xend o l rtol atol)
