@@ -196,3 +196,29 @@ fn options_that_ask_for_a_jacobian_do_not_mislead_solve() {
     let asking = Problem { options: whole.options.with_jacobian(), ..whole };
     assert_eq!(solve(&asking, swing, |_| Control::Continue), solve(&whole, swing, |_| Control::Continue));
 }
+
+// Two runs of the published solver that are kept with its bits: docs/DIFFERENCES.md.
+
+#[test]
+fn robertson_to_4e10_succeeds_far_from_every_concentration() {
+    let problem = problem(4e10, &[1.0, 0.0, 0.0], &[1e-4], &[1e-6, 1e-10, 1e-6]);
+    let mut last = vec![];
+    let finished = solve(&problem, robertson, |step| {
+        last = step.y.to_vec();
+        Control::Continue
+    });
+    let finished = finished.unwrap();
+    assert_eq!((finished.end, finished.accepted, finished.rejected), (End::Success, 7_965, 144));
+    assert_eq!((finished.nfe, finished.nje, finished.nlu), (10_331, 491, 491));
+    let pose = [0xc172_48c9_ff7e_8709, 0xbed0_c6f7_9234_a219, 0x4172_48ca_0f7e_8b39];
+    assert_eq!(last, pose.map(f64::from_bits));
+}
+
+#[test]
+fn a_state_next_to_rest_never_leaves_adams() {
+    let mut problem = problem(10.0, &[1.0 + 1e-12], &[1e-8], &[1e-8]);
+    problem.options.max_steps = 1_000_000;
+    let finished = solve(&problem, |_, y, f| f[0] = -1e4 * (y[0] - 1.0), |_| Control::Continue).unwrap();
+    assert_eq!((finished.end, finished.accepted, finished.rejected), (End::Success, 199_982, 1));
+    assert_eq!((finished.nfe, finished.nje), (200_005, 0));
+}

@@ -36,10 +36,12 @@ pub enum Row {
     Retry,
     ZeroDiagonal,
     NoConvergence(u64),
+    LatePass,
     ErrorFailure { family: u64, number: u64 },
     Accepted { family: u64, order: u64 },
     AcceptedAboveOrder,
     EntersOnOldFactoring,
+    LargeInBdf,
     Choice { family: u64, branch: Branch },
     LoweredToMxords,
     LoweredToMxordn,
@@ -63,7 +65,8 @@ impl Row {
         all.extend([false, true].map(|supplied| Row::JacobianSingular { supplied }));
         all.extend([Row::Retry, Row::ZeroDiagonal, Row::AcceptedAboveOrder, Row::EntersOnOldFactoring]);
         all.extend([Row::LoweredToMxords, Row::LoweredToMxordn, Row::WeightRefusedAtStepEnd]);
-        all.extend((1..=10).map(Row::NoConvergence));
+        all.extend([Row::LatePass, Row::LargeInBdf]);
+        all.extend((1..=12).map(Row::NoConvergence));
         for family in [1, 2] {
             all.extend((1..=10).map(|number| Row::ErrorFailure { family, number }));
             all.extend((1..=12).map(|order| Row::Accepted { family, order }));
@@ -94,6 +97,8 @@ impl fmt::Display for Row {
             Row::Retry => write!(f, "retry"),
             Row::ZeroDiagonal => write!(f, "retry at a zero diagonal in the solve"),
             Row::NoConvergence(number) => write!(f, "no convergence, pass {number} of a step"),
+            Row::LatePass => write!(f, "more than 8 iterations in a pass"),
+            Row::LargeInBdf => write!(f, "BDF, accepted with 60 states or more"),
             Row::ErrorFailure { family: of, number } => write!(f, "{}, error failure -{number}", family(of)),
             Row::Accepted { family: of, order } => write!(f, "{}, accepted at order {order}", family(of)),
             Row::AcceptedAboveOrder => write!(f, "accepted with nqnyh above nq·n"),
@@ -202,6 +207,9 @@ impl Watch {
         if is(Field::ncf) > self.was(Field::ncf) {
             self.reached.insert(Row::NoConvergence(is(Field::ncf)));
         }
+        if from == phase::FURTHER_DERIVATIVE && is(Field::m) > 8 {
+            self.reached.insert(Row::LatePass);
+        }
         if is(Field::kflag) > self.was(Field::kflag) {
             let family = self.was(Field::meth);
             self.reached.insert(Row::ErrorFailure { family, number: is(Field::kflag) });
@@ -248,6 +256,9 @@ impl Watch {
         let family = self.was(Field::meth);
         let order = self.was(Field::nq);
         self.reached.insert(Row::Accepted { family, order });
+        if family == 2 && n >= 60 {
+            self.reached.insert(Row::LargeInBdf);
+        }
         if self.was(Field::nqnyh) > order * n as u64 {
             self.reached.insert(Row::AcceptedAboveOrder);
         }

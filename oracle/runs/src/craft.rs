@@ -126,7 +126,8 @@ fn sizes(random: &mut Random, session: &mut [u8], step: f64) {
     set(Field::hu, or_else(step, random, &ANY));
     set(Field::xend, or_else(tn + to_end, random, &[tn, tn + step, f64::NAN, f64::INFINITY, -1.0e300]));
     set(Field::direction, or_else(step.signum(), random, &[1.0, -1.0, f64::NAN, 1.0e-5]));
-    let hmin = pick(&[0.0, 0.0, 0.0, step.abs() * 0.01, step.abs() * 0.5, step.abs()], random);
+    // At the last one the step is as small as a failure lets it be, but for a rounding.
+    let hmin = pick(&[0.0, 0.0, 0.0, 0.0, 0.01, 0.5, 1.0, 1.0 / 1.00001], random) * step.abs();
     set(Field::hmin, or_else(hmin, random, &SIZES));
     let hmxi = pick(&[0.0, 0.1 / step.abs(), 0.9 / step.abs(), 2.0 / step.abs()], random);
     set(Field::hmxi, or_else(hmxi, random, &SIZES));
@@ -186,6 +187,7 @@ fn fill(random: &mut Random, lent: &mut Lent, n: usize, step: f64) -> Side {
     weigh(random, lent, n, correction);
     let shape = match random.below(8) {
         0 => problem::shape(random, time(lent), time(lent) + step),
+        2 => even(random, lent, n),
         1 => Shape::Spike { at: time(lent), c: sized(random, -6, 2), e: 10f64.powi(-(random.below(200) as i32)) },
         _ => near(random, lent, n, step, correction),
     };
@@ -228,8 +230,47 @@ fn near(random: &mut Random, lent: &mut Lent, n: usize, step: f64, correction: f
         }
     }
     let noise = pick(&[0.0, 0.0, 1.0e-6, 1.0e-2, 1.0], random) * correction / step;
-    let pull = if random.below(2) == 0 { 0.0 } else { sized(random, -4, 0) / step };
+    // The corrections of Adams grow by h·el0 times the pull. At about 1024 the rate has its bound.
+    let pull = match random.below(16) {
+        0..=7 => 0.0,
+        8 => (1000.0 + random.below(50) as f64) / (step * SET.elco[13 * (reset - 1)]),
+        _ => sized(random, -4, 0) / step,
+    };
     Shape::Near { slopes, noise, centre: predicted[..n].to_vec(), pull }
+}
+
+/// A step whose numbers have few digits, at order 1 or 2, so that what the tests compare comes out at their bounds exactly:
+/// an error of 1, corrections that grow by 2 or by 1024.
+fn even(random: &mut Random, lent: &mut Lent, n: usize) -> Shape {
+    let power =
+        |random: &mut Random, low: i32, high: i32| 2f64.powi(random.within(0, (high - low) as usize) as i32 + low);
+    let step = power(random, -6, 0) * pick(&[1.0, -1.0], random);
+    let correction = power(random, -8, 0);
+    let order = random.within(1, 2);
+    let session = &mut lent.session;
+    for (field, value) in [(Field::nq, order), (Field::nqnyh, order * n), (Field::lmax, random.within(order + 1, 13))] {
+        set_count(session, field, value as u64);
+    }
+    let tn = random.below(9) as f64;
+    set_float(session, Field::tn, tn);
+    set_float(session, Field::h, step);
+    set_float(session, Field::direction, step.signum());
+    set_float(session, Field::xend, tn + pick(&[1.0, 64.0], random) * step);
+    set_float(session, Field::hmin, pick(&[0.0, 0.0, 0.5, 1.0], random) * step.abs());
+    let weight = SET.tesco[1 + 3 * (order - 1)] / correction * pick(&[0.25, 0.5, 1.0, 1.0, 1.0, 2.0], random);
+    lent.work[..13 * n].fill_with(|| (random.below(17) as f64 - 8.0) * 0.0625);
+    lent.work[13 * n..14 * n].fill(weight);
+    for at in 0..n * n {
+        lent.work[19 * n + at] = if at % (n + 1) == 0 { 1.0 } else { 0.0 };
+    }
+    (0..n).for_each(|k| lent.pivots[k] = k);
+    let mut state = mirror::state(&lent.session);
+    let mut predicted = lent.work[..13 * n].to_vec();
+    reach::stoda_get_predicted_values(&mut state, &mut predicted);
+    let slopes = (0..n).map(|i| (predicted[n + i] + correction) / step).collect();
+    let growth = pick(&[0.0, 0.5, 1.0, 2.0, -2.0, 1024.0, -1024.0], random);
+    let pull = growth / (step * SET.elco[13 * (order - 1)]);
+    Shape::Near { slopes, noise: 0.0, centre: predicted[..n].to_vec(), pull }
 }
 
 /// Factors near the identity, with a zero or a NaN on the diagonal now and then, and pivots below n.

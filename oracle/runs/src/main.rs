@@ -46,7 +46,7 @@ use std::process::ExitCode;
 const SEED: u64 = 20260309;
 /// Whole runs; there are twice as many crafted steps and ten times as many damaged calls.
 const COUNT: u64 = 102_000;
-const SAMPLE: u64 = 4_000;
+const SAMPLE: u64 = 10_000;
 /// How often each pair of refusals is provoked.
 const PAIRS: u64 = 100;
 

@@ -163,7 +163,7 @@ fn options(random: &mut Random, temper: Temper, n: usize, difference: f64) -> Op
     options.max_steps = match (temper, random.below(64)) {
         (Temper::Extreme, 0..=15) => random.within(1, 3),
         (Temper::Extreme, _) => random.within(1, 60),
-        _ if n > 8 => random.within(20, 60),
+        _ if n > 8 => random.within(20, 150),
         (_, 0) => random.within(400, 3000),
         (_, 1..=15) => random.within(100, 400),
         _ => random.within(20, 120),
