@@ -5,3 +5,4 @@ pub mod Roundtrip
 pub mod Examples
 pub mod Fractions
 pub mod Exact
+pub mod Refused

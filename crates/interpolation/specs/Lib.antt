@@ -3,3 +3,4 @@ pub mod Header
 pub mod Evaluate
 pub mod Fraction
 pub mod Published
+pub mod Refused
