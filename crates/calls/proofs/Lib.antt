@@ -17,3 +17,8 @@ pub mod Ends
 pub mod Capped
 pub mod Host
 pub mod Sums
+pub mod ReplyRefused
+pub mod ReplyGap
+pub mod ReplyTurns
+pub mod ReplyMeans
+pub mod ReplyFirst

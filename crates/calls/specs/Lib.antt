@@ -5,3 +5,6 @@ pub mod Follow
 pub mod Refused
 pub mod Demands
 pub mod Sums
+pub mod ReplyRefused
+pub mod ReplyMeans
+pub mod ReplyFirst

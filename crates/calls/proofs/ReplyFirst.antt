@@ -1,0 +1,189 @@
+-- After the first derivative: 12, then 11, then the first report, each exactly under its condition.
+--     first-derivative
+-- Assumes nothing.
+use mathlib.Core.Bool.{Bool, true, false, cond}
+use mathlib.Core.List.{List}
+use mathlib.Core.Path.{_≡_, refl, sym, ap, _∙_, subst}
+use Prim.Native.Nat.{ℕ, _+_, _≤_, _<_}
+use native.Mathlib.Omega.{arith}
+use lib.Dec.{eqb, ltb}
+use lib.ListN.{length, getD, set}
+use lib.Seq.{getD-set-other}
+use lib.Ieee as Ieee
+use lib.Ieee.{Float, nan}
+use borrow.Author.Count.{below-none, below-more}
+use borrow.Author.Tests.{eqb-false, ltb-true, ltb-false}
+use Rattle.loops.specs.Test.{differs}
+use Rattle.numbers.specs.Float.{_⊘_, zeroF, oneF}
+use Rattle.numbers.specs.Sign.{refused}
+use Rattle.vectors.specs.declared.Weights.{Weights}
+use Rattle.vectors.specs.declared.Weights.the-variants.{Inverted, Refused}
+use Rattle.vectors.specs.Weights.{Inversion, invertOne, invertAt, invertOf, outcomeOf}
+use Rattle.interpolation.proofs.Laws.{reaches}
+use Rattle.turns.specs.declared.Phase.the-variants as Phase
+use Rattle.turns.specs.declared.Session.{Session}
+use Rattle.reports.specs.Reports.{inverted, sizedAt, sizedOf, weightedAt, firstDerivativeOf}
+use Rattle.machine.specs.Resume.{With, takenOf}
+use Rattle.session.specs.Session.{decodeOf, rtolOf, atolOf}
+use Rattle.answers.specs.declared.Reply.{Reply}
+use Rattle.answers.specs.Answers.{plainOf, answerOf}
+use Rattle.answers.specs.Called.{Buffers, Called}
+use Rattle.replies.specs.Replies.{kindOf}
+use Rattle.raimsklo.specs.Calls.{replyOf}
+use Rattle.calls.specs.ReplyRefused.{phaseIn, Row, NoneHolds, replyRows}
+use Rattle.calls.specs.ReplyFirst.{FirstBad, AllGood, weighed, weightsOf, stepOf, FirstDerivative}
+use Rattle.calls.proofs.ReplyMeans.{answer-at}
+
+-- ---- the inversion stops at the first weight that is at most 0
+
+module _ (l : List Float) where
+  abbrev Good : ℕ → Type 0
+  Good j = Ieee.le (getD l j nan) zeroF ≡ false
+
+  -- the weights below k were tried
+  abbrev TriedIf : ℕ → Bool → Inversion → Type 0
+  TriedIf k true s = (s .index < k) × (Ieee.le (getD l (s .index) nan) zeroF ≡ true) × ((j : ℕ) → j < s .index → Good j)
+  TriedIf k false s = ((j : ℕ) → j < k → Good j) × ((j : ℕ) → k ≤ j → getD (s .ewt) j nan ≡ getD l j nan)
+
+  abbrev Tried : ℕ → Inversion → Type 0
+  Tried k s = TriedIf k (s .refused) s
+
+  tried-one : (k : ℕ) (s : Inversion) (t : Bool) → Ieee.le (getD (s .ewt) k nan) zeroF ≡ t → TriedIf k false s
+      → Tried (k + 1) (cond t (record { ewt = s .ewt; refused = true; index = k })
+      (record { ewt = set (s .ewt) k (oneF ⊘ getD (s .ewt) k nan); refused = false; index = 0 }))
+  tried-one k s true e p =
+      (omega arith, ap (λ (v : Float). Ieee.le v zeroF) (sym (p .1 k (omega arith))) ∙ e, λ j h. p .0 j h)
+  tried-one k s false e p =
+      (below-more Good k (p .0) (ap (λ (v : Float). Ieee.le v zeroF) (sym (p .1 k (omega arith))) ∙ e),
+      λ j h. getD-set-other (s .ewt) k j _ nan (λ q. omega arith) ∙ p .1 j (omega arith))
+
+  tried-at : (k : ℕ) (s : Inversion) (r : Bool) → s .refused ≡ r → TriedIf k r s
+      → Tried (k + 1) (cond r s (invertOne k s))
+  tried-at k s true e p = rw e (omega (arith, p .0), p .1, p .2)
+  tried-at k s false e p = tried-one k s (Ieee.le (getD (s .ewt) k nan) zeroF) refl p
+
+  tried : Tried (length l) (invertOf l)
+  unfolding invertOf
+  tried =
+      reaches Tried invertAt (length l) (λ k s h p. tried-at k s (s .refused) refl p) 0
+      (record { ewt = l; refused = false; index = 0 }) (omega arith) (below-none Good, λ j h. refl)
+
+  abbrev outcome : Weights
+  outcome = outcomeOf (invertOf l)
+
+  -- refused at an index, or all inverted
+  pub data Found (o : Weights) : Type 0 where
+    bad : (i : ℕ) → FirstBad l i → o ≡ Refused i → Found o
+    good : AllGood l → o ≡ Inverted → Found o
+
+  found-at : (r : Bool) → invertOf l .refused ≡ r → TriedIf (length l) r (invertOf l)
+      → Found (cond r (Refused (invertOf l .index)) Inverted)
+  found-at true e p = bad (invertOf l .index) (record { here = (p .0, p .1); before = p .2 }) refl
+  found-at false e p = good (p .0) refl
+
+  pub found : Found outcome
+  found = found-at (invertOf l .refused) refl tried
+
+  -- there is one such index, and then not all are good
+  bad-index : (i j : ℕ) → FirstBad l i → FirstBad l j → i ≡ j
+  bad-index i j p q = by (ltb i j) refl (ltb j i) refl
+    where
+      clash : {A : Type 0} (k : ℕ) → Ieee.le (getD l k nan) zeroF ≡ true → Good k → A
+      clash k e f = differs (sym f ∙ e)
+
+      by : (s : Bool) → ltb i j ≡ s → (t : Bool) → ltb j i ≡ t → i ≡ j
+      by true e t f = clash i (p .here .1) (q .before i (ltb-true i j e))
+      by false e true f = clash j (q .here .1) (p .before j (ltb-true j i f))
+      by false e false f =
+          let a : j ≤ i = ltb-false i j e in
+          let b : i ≤ j = ltb-false j i f in
+          omega arith
+
+  not-both : (i : ℕ) → FirstBad l i → AllGood l → ⊥
+  not-both i p g = differs (sym (g i (p .here .0)) ∙ p .here .1)
+
+-- ---- the reply
+
+module _ (kind : ℕ) (numbers : List Float) (time : Float) (b : Buffers) where
+  abbrev x : Session
+  x = decodeOf (b .session)
+
+  abbrev reply : Reply
+  reply = replyOf kind numbers time b .reply
+
+  abbrev weights : List Float
+  weights = weightsOf numbers b
+
+  abbrev isRefused : Bool
+  isRefused = refused (stepOf numbers b) (x .settings .direction)
+
+  abbrev said : Weights → Reply
+  said o =
+      answerOf (weightedAt (x .settings) (x .common) (rtolOf (b .session)) (atolOf (b .session)) o
+      (inverted (x .settings .n) (weighed numbers b)) .turn .question)
+
+  -- what is answered, and why
+  data Says : Type 0 where
+    weighty : (i : ℕ) → FirstBad weights i → reply ≡ plainOf 12 i zeroF zeroF → Says
+    stepped : AllGood weights → isRefused ≡ true → reply ≡ plainOf 11 0 (stepOf numbers b) zeroF → Says
+    reported : AllGood weights → isRefused ≡ false → reply .number ≡ 102 → Says
+
+  sized : (t : Bool) → isRefused ≡ t → AllGood weights → reply ≡ said Inverted → Says
+  unfolding weightedAt sizedOf sizedAt
+  sized true f g q = stepped g f (q ∙ rw f)
+  sized false f g q = reported g f (ap (λ (a : Reply). a .number) q ∙ rw f)
+
+  says-at : (o : Weights) → reply ≡ said o → Found weights o → Says
+  unfolding weightedAt
+  says-at o e (bad i p q) = weighty i p (e ∙ ap said q)
+  says-at o e (good g q) = sized isRefused refl g (e ∙ ap said q)
+
+  abbrev number-of : {a : Reply} → reply ≡ a → reply .number ≡ a .number
+  number-of q = ap (λ (r : Reply). r .number) q
+
+  weight-only : (i : ℕ) → reply ≡ plainOf 12 i zeroF zeroF → Says → FirstBad weights i
+  weight-only i q (weighty j p r) =
+      let same : j ≡ i = sym (ap (λ (r : Reply). r .index) r) ∙ ap (λ (r : Reply). r .index) q in
+      subst (FirstBad weights) same p
+  weight-only i q (stepped g f r) = absurd (eqb-false 12 11 refl (sym (number-of q) ∙ number-of r))
+  weight-only i q (reported g f r) = absurd (eqb-false 12 102 refl (sym (number-of q) ∙ r))
+
+  weight-then : (i : ℕ) → FirstBad weights i → Says → reply ≡ plainOf 12 i zeroF zeroF
+  weight-then i p (weighty j q r) = r ∙ ap (λ (j : ℕ). plainOf 12 j zeroF zeroF) (bad-index weights j i q p)
+  weight-then i p (stepped g f r) = absurd (not-both weights i p g)
+  weight-then i p (reported g f r) = absurd (not-both weights i p g)
+
+  step-only : reply .number ≡ 11 → Says → AllGood weights × (isRefused ≡ true)
+  step-only q (weighty j p r) = absurd (eqb-false 11 12 refl (sym q ∙ number-of r))
+  step-only q (stepped g f r) = (g, f)
+  step-only q (reported g f r) = absurd (eqb-false 11 102 refl (sym q ∙ r))
+
+  step-then : AllGood weights × (isRefused ≡ true) → Says → reply ≡ plainOf 11 0 (stepOf numbers b) zeroF
+  step-then s (weighty j p r) = absurd (not-both weights j p (s .0))
+  step-then s (stepped g f r) = r
+  step-then s (reported g f r) = differs (sym f ∙ s .1)
+
+  report-only : reply .number ≡ 102 → Says → AllGood weights × (isRefused ≡ false)
+  report-only q (weighty j p r) = absurd (eqb-false 102 12 refl (sym q ∙ number-of r))
+  report-only q (stepped g f r) = absurd (eqb-false 102 11 refl (sym q ∙ number-of r))
+  report-only q (reported g f r) = (g, f)
+
+  report-then : AllGood weights × (isRefused ≡ false) → Says → reply .number ≡ 102
+  report-then s (weighty j p r) = absurd (not-both weights j p (s .0))
+  report-then s (stepped g f r) = differs (sym (s .1) ∙ f)
+  report-then s (reported g f r) = r
+
+  module _ (h : NoneHolds (replyRows kind numbers b)) (e : phaseIn b ≡ Phase.FirstDerivative) where
+    reply-is : reply ≡ said (outcomeOf (invertOf weights))
+    unfolding takenOf firstDerivativeOf
+    reply-is = answer-at kind numbers time b Phase.FirstDerivative (kindOf kind) h e refl
+
+    says : Says
+    says = says-at (outcomeOf (invertOf weights)) reply-is (found weights)
+
+  pub first-derivative : FirstDerivative kind numbers time b
+  first-derivative = record {
+    weight = λ h e i. (λ q. weight-only i q (says h e), λ p. weight-then i p (says h e));
+    step = λ h e. (λ q. step-only (number-of q) (says h e), λ s. step-then s (says h e));
+    report = λ h e. (λ q. report-only q (says h e), λ s. report-then s (says h e));
+  }

@@ -1,0 +1,256 @@
+-- What each number that a reply answers means, of any reply and any contents.
+--     reply-means
+-- Assumes nothing.
+use mathlib.Core.Bool.{Bool, true, false, cond, _||_}
+use mathlib.Core.List.{List}
+use mathlib.Core.Logic.{_⊎_, inl, inr}
+use mathlib.Core.Path.{_≡_, refl, sym, ap, _∙_, subst}
+use Prim.Native.Nat.{ℕ, _≤_, _<_}
+use native.Mathlib.Omega.{arith}
+use lib.Dec.{eqb, leb, lit≤}
+use lib.Ieee.{Float}
+use lib.ListN.{length}
+use borrow.Author.Tests.{eqb-true, le-leb, lt-leb}
+use Rattle.loops.specs.Test.{differs}
+use Rattle.numbers.specs.Float.{_⊕_, zeroF}
+use Rattle.common.specs.declared.Settings.{Settings}
+use Rattle.common.specs.declared.Common.{Common}
+use Rattle.common.specs.Record.{with-tn}
+use Rattle.turns.specs.declared.Answer.{Answer}
+use Rattle.turns.specs.declared.Answer.the-variants.{Continue, Interrupt, Modified}
+use Rattle.turns.specs.declared.Kind.{Kind}
+use Rattle.turns.specs.declared.Kind.the-variants as Kind
+use Rattle.turns.specs.declared.Phase.{Phase}
+use Rattle.turns.specs.declared.Phase.the-variants as Phase
+use Rattle.turns.specs.declared.Question.{Question}
+use Rattle.turns.specs.declared.Question.the-variants as Question
+use Rattle.turns.specs.declared.Session.{Session}
+use Rattle.turns.specs.declared.Status.{Status}
+use Rattle.turns.specs.declared.Status.the-variants as Status
+use Rattle.turns.specs.declared.Turn.{Turn}
+use Rattle.turns.specs.Turns.{Left, askedOf, askedInStepOf, finishedOf}
+use Rattle.turns.specs.Begin.{openPassOf, beganOf, isGoing, goOnAt, goOnOf}
+use Rattle.reports.specs.Reports.{firstReportOf, afterReportOf}
+use Rattle.machine.specs.Resume.{With, isAsked, takenOf, resumeOf}
+use Rattle.session.specs.Session.{decodeOf, encodeOf, rtolOf, atolOf}
+use Rattle.answers.specs.declared.Reply.{Reply}
+use Rattle.answers.specs.Answers.{plainOf, statusNumber, answerOf}
+use Rattle.answers.specs.Called.{Buffers, Called}
+use Rattle.replies.specs.Replies.{kindOf, isUnasked, settledOf, turned, goOf}
+use Rattle.raimsklo.specs.Calls.{replyOf}
+use Rattle.calls.specs.Run.{isRefusal}
+use Rattle.calls.specs.ReplyRefused.{phaseIn, Row, NoneHolds, replyRows}
+use Rattle.calls.specs.ReplyMeans.{Listed, endedBy, AtReport, Ended, Meant, ReplyMeans}
+use Rattle.calls.proofs.ReplyRefused.{isRefusing, stored-phase, gone, is-now, went, reply-refused}
+use Rattle.calls.proofs.ReplyTurns.{kinds, one-of, resume-means}
+
+-- ---- of a question
+
+module _ (s : Settings) (before : Phase) (kind : Kind) where
+  question-listed : (q : Question) (after : Phase) (c : Common) → Meant s before kind q after c
+      → Listed (answerOf q .number)
+  question-listed (Question.Derivative a) after c m = inr (inr (inl (lit≤ tt, lit≤ tt)))
+  question-listed (Question.Jacobian a) after c m = inr (inr (inl (lit≤ tt, lit≤ tt)))
+  question-listed (Question.FirstReport a) after c m = inr (inr (inl (lit≤ tt, lit≤ tt)))
+  question-listed (Question.Report r) after c m = inr (inr (inl (lit≤ tt, lit≤ tt)))
+  question-listed (Question.Finished e) after c m = inr (inr (inr (by (e .status))))
+    where
+      by : (status : Status) → (110 ≤ statusNumber status) × (statusNumber status ≤ 115)
+      by Status.Success = (lit≤ tt, lit≤ tt)
+      by Status.Interrupted = (lit≤ tt, lit≤ tt)
+      by Status.NeedsMoreSteps = (lit≤ tt, lit≤ tt)
+      by Status.StepTooSmall = (lit≤ tt, lit≤ tt)
+      by Status.PoorConvergence = (lit≤ tt, lit≤ tt)
+      by Status.CoefficientGap = (lit≤ tt, lit≤ tt)
+  question-listed (Question.StepRefused h) after c m = inr (inl (lit≤ tt, lit≤ tt))
+  question-listed (Question.WeightRefused i) after c m = inr (inl (lit≤ tt, lit≤ tt))
+  question-listed Question.Unasked after c m = absurd m
+
+  asks : (q : Question) (after : Phase) (c : Common) → Meant s before kind q after c → isUnasked q ≡ false
+  asks (Question.Derivative a) after c m = refl
+  asks (Question.Jacobian a) after c m = refl
+  asks (Question.FirstReport a) after c m = refl
+  asks (Question.Report r) after c m = refl
+  asks (Question.Finished e) after c m = refl
+  asks (Question.StepRefused h) after c m = refl
+  asks (Question.WeightRefused i) after c m = refl
+  asks Question.Unasked after c m = absurd m
+
+  -- 111 is an interrupt at a report
+  only-interrupt : (q : Question) (after : Phase) (c : Common) → Meant s before kind q after c
+      → eqb (answerOf q .number) 111 ≡ true → AtReport before × (kind ≡ Kind.Report Interrupt)
+  only-interrupt (Question.Derivative a) after c m e = differs e
+  only-interrupt (Question.Jacobian a) after c m e = differs e
+  only-interrupt (Question.FirstReport a) after c m e = differs e
+  only-interrupt (Question.Report r) after c m e = differs e
+  only-interrupt (Question.Finished e) after c m i = by (e .status) (m .2) i
+    where
+      by : (status : Status) → Ended s before kind status c → eqb (statusNumber status) 111 ≡ true
+          → AtReport before × (kind ≡ Kind.Report Interrupt)
+      by Status.Success h i = differs i
+      by Status.Interrupted h i = h
+      by Status.NeedsMoreSteps h i = differs i
+      by Status.StepTooSmall h i = differs i
+      by Status.PoorConvergence h i = differs i
+      by Status.CoefficientGap h i = differs i
+  only-interrupt (Question.StepRefused h) after c m e = differs e
+  only-interrupt (Question.WeightRefused i) after c m e = differs e
+  only-interrupt Question.Unasked after c m e = absurd m
+
+-- ---- of a kind
+
+abbrev isInterrupt : Kind → Bool
+isInterrupt Kind.Derivative = false
+isInterrupt Kind.Jacobian = false
+isInterrupt (Kind.Report Continue) = false
+isInterrupt (Kind.Report Interrupt) = true
+isInterrupt (Kind.Report Modified) = false
+
+kind-four : (k : ℕ) → kindOf k ≡ Kind.Report Interrupt → k ≡ 4
+unfolding kindOf
+kind-four k e = eqb-true k 4 (by (eqb k 1) (eqb k 2) (eqb k 3) (eqb k 4) (ap isInterrupt e))
+  where
+    by : (p q r t : Bool)
+        → isInterrupt (cond p Kind.Derivative (cond q Kind.Jacobian (cond r (Kind.Report Continue)
+        (cond t (Kind.Report Interrupt) (Kind.Report Modified))))) ≡ true → t ≡ true
+    by true q r t i = differs i
+    by false true r t i = differs i
+    by false false true t i = differs i
+    by false false false true i = refl
+    by false false false false i = differs i
+
+-- ---- on continue
+
+module _ (s : Settings) (c : Common) (work : List Float) where
+  abbrev next : Reply
+  next = answerOf (goOnOf s c work .turn .question)
+
+  on-done : isGoing s c ≡ false → next ≡ endedBy 110 c
+  unfolding goOnOf goOnAt finishedOf
+  on-done e = rw e
+
+  on-more : isGoing s c ≡ true → s .maxsteps ≤ c .nst → next ≡ endedBy 112 c
+  unfolding goOnOf goOnAt finishedOf
+  on-more e h = rw (e, le-leb (s .maxsteps) (c .nst) h)
+
+  on-step : isGoing s c ≡ true → c .nst < s .maxsteps → next .number ≡ 100
+  unfolding goOnOf goOnAt beganOf openPassOf askedInStepOf
+  on-step e h = rw (e, lt-leb (s .maxsteps) (c .nst) h)
+
+-- ---- the calls
+
+module _ (kind : ℕ) (numbers : List Float) (time : Float) (b : Buffers) where
+  abbrev x : Session
+  x = decodeOf (b .session)
+
+  abbrev with-it : With
+  with-it = record {
+    rtol = rtolOf (b .session);
+    atol = atolOf (b .session);
+    work = b .work;
+    ipiv = b .pivots;
+  }
+
+  abbrev rows : List Row
+  rows = replyRows kind numbers b
+
+  abbrev reply : Called
+  reply = replyOf kind numbers time b
+
+  abbrev turn : Turn
+  turn = turned (kindOf kind) numbers time b .turn
+
+  meant : NoneHolds rows → Meant (x .settings) (phaseIn b) (kindOf kind) (turn .question) (turn .phase) (turn .common)
+  meant h =
+      subst (λ (p : Phase). Meant (x .settings) p (kindOf kind) (turn .question) (turn .phase) (turn .common))
+      (stored-phase (b .session))
+      (resume-means x numbers time with-it (kindOf kind) (is-now kind numbers time b h))
+
+  kept : NoneHolds rows
+      → reply .lent .session
+      ≡ encodeOf (record { settings = x .settings; common = turn .common; phase = turn .phase }) (b .session)
+  unfolding goOf settledOf
+  kept h =
+      ap (λ (c : Called). c .lent .session) (gone kind numbers time b h)
+      ∙ rw (asks (x .settings) (phaseIn b) (kindOf kind) (turn .question) (turn .phase) (turn .common) (meant h))
+
+  listed-at : (r : Bool) → isRefusal (reply .reply) ≡ r → Listed (reply .reply .number)
+  listed-at true e = by (one-of _ _ e)
+    where
+      rest : (eqb (reply .reply .number) 13 ≡ true) ⊎ (eqb (reply .reply .number) 14 ≡ true)
+          → Listed (reply .reply .number)
+      rest (inl i) = subst Listed (sym (eqb-true (reply .reply .number) 13 i)) (inr (inl (lit≤ tt, lit≤ tt)))
+      rest (inr i) = subst Listed (sym (eqb-true (reply .reply .number) 14 i)) (inr (inl (lit≤ tt, lit≤ tt)))
+
+      by : (eqb (reply .reply .number) 3 ≡ true)
+          ⊎ ((eqb (reply .reply .number) 13 || eqb (reply .reply .number) 14) ≡ true) → Listed (reply .reply .number)
+      by (inl i) = inl (eqb-true _ _ i)
+      by (inr i) = rest (one-of _ _ i)
+  listed-at false e =
+      let h = reply-refused kind numbers time b .taken .0 e in
+      subst (λ (a : Reply). Listed (a .number)) (sym (went kind numbers time b h))
+      (question-listed (x .settings) (phaseIn b) (kindOf kind) (turn .question) (turn .phase) (turn .common) (meant h))
+
+  -- the answer, of a phase and a kind that are known
+  pub answer-at : (p : Phase) (k : Kind) → NoneHolds rows → phaseIn b ≡ p → kindOf kind ≡ k
+      → reply .reply ≡ answerOf (takenOf x p k numbers time with-it .turn .question)
+  unfolding resumeOf
+  answer-at p k h e f =
+      went kind numbers time b h
+      ∙ rw (is-now kind numbers time b h)
+      (ap (λ (q : Phase). answerOf (takenOf x q (kindOf kind) numbers time with-it .turn .question))
+      (stored-phase (b .session) ∙ e)
+      ∙ ap (λ (j : Kind). answerOf (takenOf x p j numbers time with-it .turn .question)) f)
+
+  kind-is : (k : ℕ) → kind ≡ k → kindOf kind ≡ kindOf k
+  kind-is k e = ap kindOf e
+
+  interruption : NoneHolds rows → AtReport (phaseIn b) → kind ≡ 4 → reply .reply ≡ endedBy 111 (x .common)
+  unfolding takenOf firstReportOf afterReportOf finishedOf
+  interruption h (inl e) f = answer-at Phase.FirstReport (Kind.Report Interrupt) h e (kind-is 4 f ∙ kinds .interrupts)
+  interruption h (inr e) f = answer-at Phase.Report (Kind.Report Interrupt) h e (kind-is 4 f ∙ kinds .interrupts)
+
+  only-then : reply .reply .number ≡ 111 → NoneHolds rows × AtReport (phaseIn b) × (kind ≡ 4)
+  only-then e =
+      let h = reply-refused kind numbers time b .taken .0 (ap isRefusing e) in
+      let o = only-interrupt (x .settings) (phaseIn b) (kindOf kind) (turn .question) (turn .phase) (turn .common)
+      (meant h) (ap (λ (a : Reply). eqb (a .number) 111) (sym (went kind numbers time b h)) ∙ rw e) in
+      (h, o .0, kind-four kind (o .1))
+
+  first-modified : NoneHolds rows → phaseIn b ≡ Phase.FirstReport → kind ≡ 5
+      → reply .reply ≡ plainOf 100 0 zeroF time
+  unfolding takenOf firstReportOf askedOf
+  first-modified h e f = answer-at Phase.FirstReport (Kind.Report Modified) h e (kind-is 5 f ∙ kinds .modifies)
+
+  modified : NoneHolds rows → phaseIn b ≡ Phase.Report → kind ≡ 5
+      → reply .reply ≡ plainOf 100 0 zeroF (x .common .told ⊕ x .common .hu)
+  unfolding takenOf afterReportOf askedOf
+  modified h e f = answer-at Phase.Report (Kind.Report Modified) h e (kind-is 5 f ∙ kinds .modifies)
+
+  abbrev given : Common
+  given = with-tn time (x .common)
+
+  -- continue goes on, from one work or another
+  continued : NoneHolds rows → AtReport (phaseIn b) → kind ≡ 3
+      → (work : List Float) × (reply .reply ≡ next (x .settings) given work)
+  unfolding takenOf firstReportOf afterReportOf
+  continued h (inl e) f =
+      (_, answer-at Phase.FirstReport (Kind.Report Continue) h e (kind-is 3 f ∙ kinds .continues))
+  continued h (inr e) f = (_, answer-at Phase.Report (Kind.Report Continue) h e (kind-is 3 f ∙ kinds .continues))
+
+  pub reply-means : ReplyMeans kind numbers time b
+  reply-means = record {
+    listed = listed-at (isRefusal (reply .reply)) refl;
+    answered = went kind numbers time b;
+    kept = kept;
+    meant = meant;
+    interrupted = (only-then, λ h. ap (λ (a : Reply). a .number) (interruption (h .0) (h .1) (h .2)));
+    interruption = interruption;
+    first-modified = first-modified;
+    modified = modified;
+    done = λ h p f e. let c = continued h p f in c .1 ∙ on-done (x .settings) given (c .0) e;
+    more = λ h p f e l. let c = continued h p f in c .1 ∙ on-more (x .settings) given (c .0) e l;
+    goes-on = λ h p f e l.
+        let c = continued h p f in
+        ap (λ (a : Reply). a .number) (c .1) ∙ on-step (x .settings) given (c .0) e l;
+  }

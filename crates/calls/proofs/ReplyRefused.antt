@@ -1,0 +1,400 @@
+-- The refusals of a reply, row by row: each test of the code decides the condition of its row.
+--     reply-refused
+--     gone, is-now, went     a reply that is taken is what was asked, and is answered by the machine
+--     stored-phase           the phase as it is decoded
+-- Assumes nothing.
+use mathlib.Core.Bool.{Bool, true, false, cond, not, _&&_, _||_, true≢false}
+use mathlib.Core.List.{List, [], _∷_}
+use mathlib.Core.Logic.{_⊎_, inl, inr, ⊎-elim, _≢_, _↔_}
+use mathlib.Core.Path.{_≡_, refl, sym, ap, _∙_, subst}
+use Prim.Native.Nat.{ℕ, zero, suc, _+_, _*_, _≤_, _<_}
+use native.Mathlib.Omega.{arith}
+use lib.Dec.{eqb, ltb, leb, lit<}
+use lib.Ieee.{Float}
+use lib.ListN.{length}
+use borrow.Author.Tests.{eqb-true, eqb-false, ltb-true, ltb-false, lt-leb}
+use Rattle.loops.specs.Test.{differs, both}
+use Rattle.numbers.specs.Float.{zeroF}
+use Rattle.common.specs.declared.Settings.{Settings}
+use Rattle.turns.specs.declared.Phase.{Phase}
+use Rattle.turns.specs.declared.Phase.the-variants as Phase
+use Rattle.turns.specs.declared.Turn.{Turn}
+use Rattle.machine.specs.Resume.{With, isDerivative, isJacobian, isAnswer, isAsked}
+use Rattle.words.specs.Words.{countsIn}
+use Rattle.words.proofs.Rows.{counts-at}
+use Rattle.fields.specs.States.{phaseOf}
+use Rattle.session.specs.Session.{decodeOf, rtolOf, atolOf, storedN, finishedIn, inRangeOf}
+use Rattle.session.specs.Names as Word
+use Rattle.session.specs.InRange.{InRange}
+use Rattle.session.proofs.InRange.{in-range}
+use Rattle.session.proofs.Back.{stored-n}
+use Rattle.refusals.specs.declared.Refusal.{Refusal}
+use Rattle.refusals.specs.Refusal.{none, plain, alsoOf, inOrder, orElse}
+use Rattle.answers.specs.Answers.{plainOf, answerOf}
+use Rattle.answers.specs.Called.{Buffers, Called}
+use Rattle.replies.specs.Replies.{isKind, kindOf, lengthsRefusal, storedRefusal, replyRefusalOf}
+use Rattle.replies.specs.Replies.{isUnasked, Settled, settledOf, turned, goOf}
+use Rattle.raimsklo.specs.Calls.{replyAt, replyOf}
+use Rattle.fits.proofs.Floats.{either}
+use Rattle.calls.specs.Run.{isRefusal}
+use Rattle.calls.specs.ReplyRefused.{Row, row, FirstIs, NoneHolds, Awaited, awaits, Asked}
+use Rattle.calls.specs.ReplyRefused.{derivative, jacobian, answer, phaseIn, replyRows, ReplyRefused}
+use Rattle.calls.proofs.Turns.{resume-well, resume-same}
+use Rattle.calls.proofs.Follow.{not-refusal}
+
+-- ---- a test that decides a condition
+
+abbrev Decides : Bool → Type 0 → Type 0
+Decides t P = (t ≡ true → P) × (t ≡ false → P → ⊥)
+
+denied : {P : Type 0} (t : Bool) → Decides t P → Decides (not t) (P → ⊥)
+denied true d = (λ e. differs e, λ e n. n (d .0 refl))
+denied false d = (λ e. d .1 refl, λ e n. differs (sym e))
+
+or : {P Q : Type 0} (s t : Bool) → Decides s P → Decides t Q → Decides (s || t) (P ⊎ Q)
+or {P} {Q} true t d f = (λ e. inl (d .0 refl), λ e. differs (sym e))
+or {P} {Q} false t d f = (λ e. inr (f .0 e), neither)
+  where
+    neither : t ≡ false → P ⊎ Q → ⊥
+    neither e (inl p) = d .1 refl p
+    neither e (inr q) = f .1 e q
+
+equal : (a b : ℕ) → Decides (eqb a b) (a ≡ b)
+equal a b = (eqb-true a b, eqb-false a b)
+
+smaller : (a b : ℕ) → Decides (ltb a b) (a < b)
+smaller a b = (ltb-true a b, λ e h. let q : b ≤ a = ltb-false a b e in omega arith)
+
+-- ---- rows in order
+
+first-unique : (rs : List Row) (j k : ℕ) → FirstIs j rs → FirstIs k rs → j ≡ k
+first-unique [] j k p q = absurd p
+first-unique (r ∷ rs) j k (inl p) (inl q) = sym (p .1) ∙ q .1
+first-unique (r ∷ rs) j k (inl p) (inr q) = absurd (q .0 (p .0))
+first-unique (r ∷ rs) j k (inr p) (inl q) = absurd (p .0 (q .0))
+first-unique (r ∷ rs) j k (inr p) (inr q) = first-unique rs j k (p .1) (q .1)
+
+first-some : (rs : List Row) (k : ℕ) → FirstIs k rs → NoneHolds rs → ⊥
+first-some [] k p n = p
+first-some (r ∷ rs) k (inl p) n = n .0 (p .0)
+first-some (r ∷ rs) k (inr p) n = first-some rs k (p .1) (n .1)
+
+-- what is answered is the first row's, or none holds and the reply is taken
+data SaysBy (leaves : ℕ → Called) (go x : Called) (rs : List Row) : Type 0 where
+  refuses : (k : ℕ) → FirstIs k rs → x ≡ leaves k → SaysBy leaves go x rs
+  takes : NoneHolds rs → x ≡ go → SaysBy leaves go x rs
+
+-- what every row's number has, the first one's has
+abbrev Numbered : (ℕ → Type 0) → List Row → Type 0
+Numbered P [] = Unit {0}
+Numbered P (r ∷ rs) = P (r .number) × Numbered P rs
+
+numbered : (P : ℕ → Type 0) (rs : List Row) (k : ℕ) → Numbered P rs → FirstIs k rs → P k
+numbered P [] k ns f = absurd f
+numbered P (r ∷ rs) k ns (inl f) = subst P (f .1) (ns .0)
+numbered P (r ∷ rs) k ns (inr f) = numbered P rs k (ns .1) (f .1)
+
+-- a number that refuses
+abbrev pub isRefusing : ℕ → Bool
+isRefusing k = eqb k 3 || (eqb k 13 || eqb k 14)
+
+-- ---- what is asked
+
+abbrev DecidesKind : (ℕ → Bool) → (ℕ → Type 0) → Type 0
+DecidesKind t P = (kind : ℕ) → Decides (t kind) (P kind)
+
+none-of : {P : Type 0} → (P → ⊥) → Decides false P
+none-of n = (λ e. differs e, λ e. n)
+
+with-length : {P : Type 0} (a b : ℕ) → P → Decides (eqb a b) (P × (a ≡ b))
+with-length a b p = (λ e. (p, eqb-true a b e), λ e q. eqb-false a b e (q .1))
+
+no-kind : (k : ℕ) → isKind (suc (suc (suc (suc (suc (suc k)))))) ≡ false
+no-kind k = by (not (eqb (suc (suc (suc (suc (suc (suc k)))))) 0)) (lt-leb (suc (suc (suc (suc (suc (suc k)))))) 5 (omega arith))
+  where
+    by : (t : Bool) {u : Bool} → u ≡ false → t && u ≡ false
+    by true e = e
+    by false e = refl
+
+module _ (n len : ℕ) where
+  a-derivative : DecidesKind (λ k. isKind k && isDerivative (kindOf k) len n) (λ k. Asked derivative n k len)
+  unfolding kindOf
+  a-derivative zero = none-of (λ q. omega arith)
+  a-derivative (suc zero) = with-length len n refl
+  a-derivative (suc (suc zero)) = none-of (λ q. omega arith)
+  a-derivative (suc (suc (suc zero))) = none-of (λ q. omega arith)
+  a-derivative (suc (suc (suc (suc zero)))) = none-of (λ q. omega arith)
+  a-derivative (suc (suc (suc (suc (suc zero))))) = none-of (λ q. omega arith)
+  a-derivative (suc (suc (suc (suc (suc (suc k)))))) = rw (no-kind k) (none-of (λ q. omega arith))
+
+  a-jacobian : DecidesKind (λ k. isKind k && isJacobian (kindOf k) len n) (λ k. Asked jacobian n k len)
+  unfolding kindOf
+  a-jacobian zero = none-of (λ q. omega arith)
+  a-jacobian (suc zero) = none-of (λ q. omega arith)
+  a-jacobian (suc (suc zero)) = with-length len (n * n) refl
+  a-jacobian (suc (suc (suc zero))) = none-of (λ q. omega arith)
+  a-jacobian (suc (suc (suc (suc zero)))) = none-of (λ q. omega arith)
+  a-jacobian (suc (suc (suc (suc (suc zero))))) = none-of (λ q. omega arith)
+  a-jacobian (suc (suc (suc (suc (suc (suc k)))))) = rw (no-kind k) (none-of (λ q. omega arith))
+
+  other : (k : ℕ) → (k ≡ 3 → ⊥) → (k ≡ 4 → ⊥) → (k ≡ 5 → ⊥) → Asked answer n k len → ⊥
+  other k a b c q = ⊎-elim a (λ r. ⊎-elim b c r) (q .0)
+
+  an-answer : DecidesKind (λ k. isKind k && isAnswer (kindOf k) len n) (λ k. Asked answer n k len)
+  unfolding kindOf
+  an-answer zero = none-of (other 0 (λ q. omega arith) (λ q. omega arith) (λ q. omega arith))
+  an-answer (suc zero) = none-of (other 1 (λ q. omega arith) (λ q. omega arith) (λ q. omega arith))
+  an-answer (suc (suc zero)) = none-of (other 2 (λ q. omega arith) (λ q. omega arith) (λ q. omega arith))
+  an-answer (suc (suc (suc zero))) = with-length len n (inl refl)
+  an-answer (suc (suc (suc (suc zero)))) = with-length len n (inr (inl refl))
+  an-answer (suc (suc (suc (suc (suc zero))))) = with-length len n (inr (inr refl))
+  an-answer (suc (suc (suc (suc (suc (suc k)))))) =
+      rw (no-kind k)
+      (none-of (other (suc (suc (suc (suc (suc (suc k)))))) (λ q. omega arith) (λ q. omega arith) (λ q. omega arith)))
+
+  asked : (phase : Phase) (kind : ℕ)
+      → Decides (isKind kind && isAsked phase (kindOf kind) len n) (Asked (awaits phase) n kind len)
+  asked Phase.FirstDerivative kind = a-derivative kind
+  asked Phase.FirstReport kind = an-answer kind
+  asked Phase.FirstModified kind = a-derivative kind
+  asked Phase.Opened kind = a-derivative kind
+  asked Phase.JacobianAsked kind = a-jacobian kind
+  asked Phase.DifferenceColumn kind = a-derivative kind
+  asked Phase.FurtherDerivative kind = a-derivative kind
+  asked Phase.Restep kind = a-derivative kind
+  asked Phase.Report kind = an-answer kind
+  asked Phase.Modified kind = a-derivative kind
+  asked Phase.Finished kind = never (isKind kind)
+    where
+      never : (t : Bool) → Decides (t && false) ⊥
+      never true = none-of (λ q. q)
+      never false = none-of (λ q. q)
+
+-- ---- the code's tests in order
+
+lengths-are : (n work pivots question : ℕ) (rest : Refusal)
+    → orElse (lengthsRefusal n work pivots question) rest
+    ≡ cond (not (eqb work (n * n + 19 * n)) || (not (eqb pivots n) || not (eqb question (14 * n + 6)))) (plain 3) rest
+unfolding lengthsRefusal inOrder alsoOf orElse
+lengths-are n work pivots question rest =
+    by (not (eqb work (n * n + 19 * n))) (not (eqb pivots n)) (not (eqb question (14 * n + 6)))
+  where
+    by : (s t u : Bool) → orElse (alsoOf (alsoOf (alsoOf none s 3) t 3) u 3) rest ≡ cond (s || (t || u)) (plain 3) rest
+    by true t u = refl
+    by false true u = refl
+    by false false true = refl
+    by false false false = refl
+
+stored-are : (known : Bool) (pivots bytes : List ℕ)
+    → storedRefusal known pivots bytes
+    ≡ cond (finishedIn bytes) (plain 14) (cond (not (inRangeOf bytes pivots)) (plain 13)
+    (cond (not known) (plain 14) none))
+unfolding storedRefusal inOrder alsoOf
+stored-are known pivots bytes = by (finishedIn bytes) (not (inRangeOf bytes pivots)) (not known)
+  where
+    by : (s t u : Bool) → alsoOf (alsoOf (alsoOf none s 14) t 13) u 14
+        ≡ cond s (plain 14) (cond t (plain 13) (cond u (plain 14) none))
+    by true t u = refl
+    by false true u = refl
+    by false false true = refl
+    by false false false = refl
+
+two : {A : Type 0} (s t : Bool) (a b : A) → cond s a (cond t a b) ≡ cond (s || t) a b
+two true t a b = refl
+two false t a b = refl
+
+pub stored-phase : (b : List ℕ) → decodeOf b .phase ≡ phaseOf (Word.phase b)
+unfolding decodeOf
+stored-phase b = ap phaseOf (counts-at b 0 (lit< tt))
+
+module _ (kind : ℕ) (numbers : List Float) (time : Float) (b : Buffers) where
+  abbrev n : ℕ
+  n = Word.n (b .session)
+
+  abbrev leaves : ℕ → Called
+  leaves k = record { reply = plainOf k 0 zeroF zeroF; lent = b }
+
+  abbrev go : Called
+  go = goOf (kindOf kind) numbers time b
+
+  -- the six tests
+  abbrev unlong : Bool
+  unlong = not (eqb (length (b .session)) 1448)
+
+  abbrev unstated : Bool
+  unstated = eqb n 0 || ltb 64 n
+
+  abbrev unsized : Bool
+  unsized = not (eqb (length (b .work)) (n * n + 19 * n))
+      || (not (eqb (length (b .pivots)) n) || not (eqb (length (b .question)) (14 * n + 6)))
+
+  abbrev outside : Bool
+  outside = not (inRangeOf (b .session) (b .pivots))
+
+  abbrev isNow : Bool
+  isNow = isAsked (decodeOf (b .session) .phase) (kindOf kind) (length numbers) (decodeOf (b .session) .settings .n)
+
+  abbrev refusal : Refusal
+  refusal = replyRefusalOf kind (length (b .work)) (b .pivots) (b .session) (length (b .question))
+
+  refusal-is : refusal
+      ≡ cond unlong (plain 3) (cond unstated (plain 13) (cond unsized (plain 3)
+      (cond (finishedIn (b .session)) (plain 14) (cond outside (plain 13) (cond (not (isKind kind)) (plain 14) none)))))
+  unfolding replyRefusalOf
+  refusal-is =
+      ap (λ (r : Refusal). cond unlong (plain 3) (cond (eqb n 0) (plain 13) (cond (ltb 64 n) (plain 13) r)))
+      (lengths-are n (length (b .work)) (length (b .pivots)) (length (b .question)) _
+      ∙ ap (cond unsized (plain 3)) (stored-are (isKind kind) (b .pivots) (b .session)))
+      ∙ ap (cond unlong (plain 3)) (two (eqb n 0) (ltb 64 n) (plain 13) _)
+
+  at-cond : (t : Bool) (k : ℕ) (r : Refusal) → eqb k 0 ≡ false
+      → replyAt (cond t (plain k) r) kind numbers time b ≡ cond t (leaves k) (replyAt r kind numbers time b)
+  unfolding replyAt
+  at-cond true k r e = rw e
+  at-cond false k r e = refl
+
+  abbrev with-it : With
+  with-it = record {
+    rtol = rtolOf (b .session);
+    atol = atolOf (b .session);
+    work = b .work;
+    ipiv = b .pivots;
+  }
+
+  unasked-leaves : isNow ≡ false → go ≡ leaves 14
+  unfolding goOf settledOf
+  unasked-leaves e = rw (resume-same (decodeOf (b .session)) (kindOf kind) numbers time with-it e)
+
+  last : (s t : Bool) → isNow ≡ t → cond (not s) (leaves 14) go ≡ cond (not (s && t)) (leaves 14) go
+  last false t e = refl
+  last true true e = refl
+  last true false e = unasked-leaves e
+
+  reply-is : replyOf kind numbers time b
+      ≡ cond unlong (leaves 3) (cond unstated (leaves 13) (cond unsized (leaves 3)
+      (cond (finishedIn (b .session)) (leaves 14) (cond outside (leaves 13)
+      (cond (not (isKind kind && isNow)) (leaves 14) go)))))
+  unfolding replyOf replyAt
+  reply-is =
+      ap (λ (r : Refusal). replyAt r kind numbers time b) refusal-is
+      ∙ at-cond unlong 3 _ refl
+      ∙ ap (cond unlong (leaves 3)) (at-cond unstated 13 _ refl
+      ∙ ap (cond unstated (leaves 13)) (at-cond unsized 3 _ refl
+      ∙ ap (cond unsized (leaves 3)) (at-cond (finishedIn (b .session)) 14 _ refl
+      ∙ ap (cond (finishedIn (b .session)) (leaves 14)) (at-cond outside 13 _ refl
+      ∙ ap (cond outside (leaves 13)) (at-cond (not (isKind kind)) 14 none refl ∙ last (isKind kind) isNow refl)))))
+
+  -- ---- each test decides its row
+
+  abbrev Says : Called → List Row → Type 0
+  Says x rs = SaysBy leaves go x rs
+
+  says-row : {P : Type 0} (t : Bool) (k : ℕ) {x : Called} {rs : List Row} → Decides t P → Says x rs
+      → Says (cond t (leaves k) x) (row k P ∷ rs)
+  says-row true k d s = refuses k (inl (d .0 refl, refl)) refl
+  says-row false k d (refuses j f e) = refuses j (inr (d .1 refl, f)) e
+  says-row false k d (takes n e) = takes (d .1 refl, n) e
+
+  in-ranges : Decides (inRangeOf (b .session) (b .pivots)) (InRange (b .session) (b .pivots))
+  in-ranges =
+      let i = in-range (b .session) (b .pivots) in
+      (i .0, λ e r. differs (sym e ∙ i .1 r))
+
+  abbrev AskedNow : Type 0
+  AskedNow = Asked (awaits (phaseIn b)) n kind (length numbers)
+
+  asked-now : Decides (isKind kind && isNow) AskedNow
+  asked-now =
+      rw (stored-phase (b .session), stored-n (b .session))
+      (asked n (length numbers) (phaseIn b) kind)
+
+  outcome : Says (replyOf kind numbers time b) (replyRows kind numbers b)
+  outcome =
+      rw reply-is
+      (says-row unlong 3 (denied _ (equal (length (b .session)) 1448))
+      (says-row unstated 13 (or (eqb n 0) (ltb 64 n) (equal n 0) (smaller 64 n))
+      (says-row unsized 3 (or _ _ (denied _ (equal (length (b .work)) (n * n + 19 * n)))
+      (or _ _ (denied _ (equal (length (b .pivots)) n)) (denied _ (equal (length (b .question)) (14 * n + 6)))))
+      (says-row (finishedIn (b .session)) 14 (equal (Word.phase (b .session)) 10)
+      (says-row outside 13 (denied _ in-ranges)
+      (says-row (not (isKind kind && isNow)) 14 (denied _ asked-now) (takes tt refl)))))))
+
+  -- ---- a reply that is taken
+
+  settled-reply : (s : Settings) (t : Turn) (work : List Float)
+      → settledOf s t work (b .session) (b .question) .reply ≡ answerOf (t .question)
+  unfolding settledOf
+  settled-reply s t work =
+      either (λ (y : Settled). y .reply ≡ answerOf (t .question)) (isUnasked (t .question)) _ _ refl refl
+
+  now-asked : (t : Bool) → Decides t AskedNow → ((AskedNow → ⊥) → ⊥) → t ≡ true
+  now-asked true d h = refl
+  now-asked false d h = absurd (h (d .1 refl))
+
+  pub gone : NoneHolds (replyRows kind numbers b) → replyOf kind numbers time b ≡ go
+  gone h = by outcome
+    where
+      by : Says (replyOf kind numbers time b) (replyRows kind numbers b) → replyOf kind numbers time b ≡ go
+      by (refuses k f e) = absurd (first-some (replyRows kind numbers b) k f h)
+      by (takes n e) = e
+
+  pub is-now : NoneHolds (replyRows kind numbers b) → isNow ≡ true
+  is-now h = both (isKind kind) isNow (now-asked _ asked-now (h .1 .1 .1 .1 .1 .0)) .1
+
+  pub went : NoneHolds (replyRows kind numbers b)
+      → replyOf kind numbers time b .reply ≡ answerOf (turned (kindOf kind) numbers time b .turn .question)
+  unfolding goOf
+  went h =
+      let m = turned (kindOf kind) numbers time b in
+      ap (λ (x : Called). x .reply) (gone h) ∙ settled-reply (decodeOf (b .session) .settings) (m .turn) (m .work)
+
+  taken-not : NoneHolds (replyRows kind numbers b) → isRefusal (replyOf kind numbers time b .reply) ≡ false
+  taken-not h =
+      let x = decodeOf (b .session) in
+      let m = turned (kindOf kind) numbers time b in
+      let w = resume-well (x .common .ialth) x numbers time with-it (omega arith) (kindOf kind) (is-now h) in
+      ap isRefusal (went h) ∙ not-refusal (m .turn .question) (m .turn .phase) (m .turn .common) (w .agrees)
+
+  -- ---- the claim
+
+  abbrev rows : List Row
+  rows = replyRows kind numbers b
+
+  abbrev reply : Called
+  reply = replyOf kind numbers time b
+
+  abbrev Refuses : ℕ → Type 0
+  Refuses k = isRefusal (plainOf k 0 zeroF zeroF) ≡ true
+
+  first-refuses : (k : ℕ) → FirstIs k rows → Refuses k
+  first-refuses k f = numbered Refuses rows k (refl, (refl, (refl, (refl, (refl, (refl, tt)))))) f
+
+  left-at : (k : ℕ) → FirstIs k rows → Says reply rows → reply ≡ leaves k
+  left-at k f (refuses j g e) = e ∙ ap leaves (first-unique rows j k g f)
+  left-at k f (takes n e) = absurd (first-some rows k f n)
+
+  left : (k : ℕ) → FirstIs k rows → reply ≡ leaves k
+  left k f = left-at k f outcome
+
+  first-at : (k : ℕ) → Refuses k → reply .reply .number ≡ k → Says reply rows → FirstIs k rows
+  first-at k h e (refuses j g l) =
+      let same : j ≡ k = sym (ap (λ (x : Called). x .reply .number) l) ∙ e in
+      subst (λ (i : ℕ). FirstIs i rows) same g
+  first-at k h e (takes n l) = absurd (true≢false (sym h ∙ ap isRefusing (sym e) ∙ taken-not n))
+
+  exactly : (k : ℕ) → Refuses k → (reply .reply .number ≡ k) ↔ FirstIs k rows
+  exactly k h = (λ e. first-at k h e outcome, λ f. ap (λ (x : Called). x .reply .number) (left k f))
+
+  none-at : isRefusal (reply .reply) ≡ false → Says reply rows → NoneHolds rows
+  none-at h (refuses k f e) =
+      absurd (true≢false (sym (first-refuses k f) ∙ ap (λ (x : Called). isRefusal (x .reply)) (sym e) ∙ h))
+  none-at h (takes n e) = n
+
+  pub reply-refused : ReplyRefused kind numbers time b
+  reply-refused = record {
+    three = exactly 3 refl;
+    thirteen = exactly 13 refl;
+    fourteen = exactly 14 refl;
+    unchanged = left;
+    taken = (λ h. none-at h outcome, taken-not);
+  }

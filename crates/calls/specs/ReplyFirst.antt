@@ -1,0 +1,58 @@
+-- After the first derivative (01-scope, 'Limits and refusals'): 12 with the index of the first weight rtol·abs(y)+atol
+-- that is at most 0; then 11 with the first step, given or computed, that is zero, a NaN or of another sign; else the
+-- first report, 102. `first-derivative` (proofs/ReplyFirst.antt).
+use mathlib.Core.Bool.{true, false}
+use mathlib.Core.List.{List}
+use mathlib.Core.Logic.{_↔_}
+use mathlib.Core.Path.{_≡_}
+use Prim.Native.Nat.{ℕ, _*_, _<_}
+use lib.ListN.{length, getD}
+use lib.Ieee as Ieee
+use lib.Ieee.{Float, nan}
+use Rattle.numbers.specs.Float.{zeroF}
+use Rattle.numbers.specs.Sign.{refused}
+use Rattle.vectors.specs.Weights.{ewsetOf}
+use Rattle.common.specs.Layout.{ewt}
+use Rattle.history.specs.Columns.{copyOf}
+use Rattle.turns.specs.declared.Phase.the-variants as Phase
+use Rattle.turns.specs.Turns.{withDerivative}
+use Rattle.reports.specs.Reports.{inverted, firstStepOf}
+use Rattle.session.specs.Session.{decodeOf, rtolOf, atolOf}
+use Rattle.answers.specs.Answers.{plainOf}
+use Rattle.answers.specs.Called.{Buffers}
+use Rattle.raimsklo.specs.Calls.{replyOf}
+use Rattle.calls.specs.ReplyRefused.{phaseIn, NoneHolds, replyRows}
+
+-- weight i is the first that is at most 0; a NaN is not
+pub record FirstBad (weights : List Float) (i : ℕ) : Type 0 where
+  pub here : (i < length weights) × (Ieee.le (getD weights i nan) zeroF ≡ true)
+  pub before : (j : ℕ) → j < i → Ieee.le (getD weights j nan) zeroF ≡ false
+
+abbrev pub AllGood : List Float → Type 0
+AllGood weights = (j : ℕ) → j < length weights → Ieee.le (getD weights j nan) zeroF ≡ false
+
+-- the work with the derivative and the weights of the state in it
+abbrev pub weighed : List Float → Buffers → List Float
+weighed f b =
+    let n = decodeOf (b .session) .settings .n in
+    ewsetOf (rtolOf (b .session)) (atolOf (b .session)) n (13 * n) (copyOf n 0 (17 * n) (withDerivative n f (b .work)))
+
+abbrev pub weightsOf : List Float → Buffers → List Float
+weightsOf f b = ewt (decodeOf (b .session) .settings .n) (weighed f b)
+
+-- the first step: the given one, or computed with the weights inverted
+abbrev pub stepOf : List Float → Buffers → Float
+stepOf f b =
+    let x = decodeOf (b .session) in
+    firstStepOf (x .settings) (x .common) (rtolOf (b .session)) (atolOf (b .session))
+    (inverted (x .settings .n) (weighed f b))
+
+pub record FirstDerivative (kind : ℕ) (numbers : List Float) (time : Float) (b : Buffers) : Type 0 where
+  pub weight : NoneHolds (replyRows kind numbers b) → phaseIn b ≡ Phase.FirstDerivative → (i : ℕ)
+      → (replyOf kind numbers time b .reply ≡ plainOf 12 i zeroF zeroF) ↔ FirstBad (weightsOf numbers b) i
+  pub step : NoneHolds (replyRows kind numbers b) → phaseIn b ≡ Phase.FirstDerivative
+      → (replyOf kind numbers time b .reply ≡ plainOf 11 0 (stepOf numbers b) zeroF)
+      ↔ (AllGood (weightsOf numbers b) × (refused (stepOf numbers b) (decodeOf (b .session) .settings .direction) ≡ true))
+  pub report : NoneHolds (replyRows kind numbers b) → phaseIn b ≡ Phase.FirstDerivative
+      → (replyOf kind numbers time b .reply .number ≡ 102)
+      ↔ (AllGood (weightsOf numbers b) × (refused (stepOf numbers b) (decodeOf (b .session) .settings .direction) ≡ false))

@@ -1,0 +1,99 @@
+-- What a reply is refused for, whatever is lent: the rows of 01-scope's table for a reply ('Limits and refusals'), in
+-- the order in which they are looked at, each condition as a proposition; and what each phase asks for.
+-- `reply-refused` (proofs/ReplyRefused.antt): the first row whose condition holds is the answer.
+use mathlib.Core.Bool.{false}
+use mathlib.Core.List.{List, [], _∷_}
+use mathlib.Core.Logic.{_⊎_, _≢_, _↔_}
+use mathlib.Core.Path.{_≡_}
+use Prim.Native.Nat.{ℕ, _+_, _*_, _≤_, _<_}
+use lib.ListN.{length}
+use lib.Ieee.{Float}
+use Rattle.numbers.specs.Float.{zeroF}
+use Rattle.turns.specs.declared.Phase.{Phase}
+use Rattle.turns.specs.declared.Phase.the-variants as Phase
+use Rattle.fields.specs.States.{phaseOf}
+use Rattle.session.specs.Names as Word
+use Rattle.session.specs.InRange.{InRange}
+use Rattle.answers.specs.Answers.{plainOf}
+use Rattle.answers.specs.Called.{Buffers}
+use Rattle.raimsklo.specs.Calls.{replyOf}
+use Rattle.calls.specs.Run.{isRefusal}
+
+-- ---- rows in order
+
+pub record Row : Type 1 where
+  pub number : ℕ
+  pub holds : Type 0
+
+abbrev pub row : ℕ → Type 0 → Row
+row k condition = record { number = k; holds = condition }
+
+-- the first row whose condition holds has this number
+abbrev pub FirstIs : ℕ → List Row → Type 0
+FirstIs k [] = ⊥
+FirstIs k (r ∷ rs) = (r .holds × (r .number ≡ k)) ⊎ ((r .holds → ⊥) × FirstIs k rs)
+
+abbrev pub NoneHolds : List Row → Type 0
+NoneHolds [] = Unit {0}
+NoneHolds (r ∷ rs) = (r .holds → ⊥) × NoneHolds rs
+
+-- ---- what is asked
+
+pub data Awaited : Type 0 where
+  derivative jacobian answer nothing : Awaited
+
+-- the phases of docs/SESSION.md
+abbrev pub awaits : Phase → Awaited
+awaits Phase.FirstDerivative = derivative
+awaits Phase.FirstReport = answer
+awaits Phase.FirstModified = derivative
+awaits Phase.Opened = derivative
+awaits Phase.JacobianAsked = jacobian
+awaits Phase.DifferenceColumn = derivative
+awaits Phase.FurtherDerivative = derivative
+awaits Phase.Restep = derivative
+awaits Phase.Report = answer
+awaits Phase.Modified = derivative
+awaits Phase.Finished = nothing
+
+-- the kind of a reply and how many numbers it has, of n states: 1 derivative, 2 Jacobian; 3 continue, 4 interrupt and
+-- 5 modified answer a report
+abbrev pub Asked : Awaited → ℕ → ℕ → ℕ → Type 0
+Asked derivative n kind len = (kind ≡ 1) × (len ≡ n)
+Asked jacobian n kind len = (kind ≡ 2) × (len ≡ n * n)
+Asked answer n kind len = ((kind ≡ 3) ⊎ (kind ≡ 4) ⊎ (kind ≡ 5)) × (len ≡ n)
+Asked nothing n kind len = ⊥
+
+-- what the stored session waits for
+abbrev pub phaseIn : Buffers → Phase
+phaseIn b = phaseOf (Word.phase (b .session))
+
+-- ---- the rows of a reply
+
+abbrev pub replyRows : ℕ → List Float → Buffers → List Row
+replyRows kind numbers b =
+    let n = Word.n (b .session) in
+    -- the session's length; a stored n outside 1 to 64; the lengths that need n
+    row 3 (length (b .session) ≢ 1448)
+    ∷ row 13 ((n ≡ 0) ⊎ (64 < n))
+    ∷ row 3 ((length (b .work) ≢ n * n + 19 * n) ⊎ (length (b .pivots) ≢ n) ⊎ (length (b .question) ≢ 14 * n + 6))
+    -- finished: the other values always pass 13
+    ∷ row 14 (Word.phase (b .session) ≡ 10)
+    -- a value out of range
+    ∷ row 13 (InRange (b .session) (b .pivots) → ⊥)
+    -- of another kind or length than asked
+    ∷ row 14 (Asked (awaits (phaseIn b)) n kind (length numbers) → ⊥)
+    ∷ []
+
+-- ---- the claim, of any reply and any contents
+
+pub record ReplyRefused (kind : ℕ) (numbers : List Float) (time : Float) (b : Buffers) : Type 0 where
+  -- by this number exactly if the first row that holds has it
+  pub three : (replyOf kind numbers time b .reply .number ≡ 3) ↔ FirstIs 3 (replyRows kind numbers b)
+  pub thirteen : (replyOf kind numbers time b .reply .number ≡ 13) ↔ FirstIs 13 (replyRows kind numbers b)
+  pub fourteen : (replyOf kind numbers time b .reply .number ≡ 14) ↔ FirstIs 14 (replyRows kind numbers b)
+  -- the number alone is answered, and all that was lent is as it was
+  pub unchanged : (k : ℕ) → FirstIs k (replyRows kind numbers b)
+      → replyOf kind numbers time b ≡ record { reply = plainOf k 0 zeroF zeroF; lent = b }
+  -- not refused exactly if no row holds
+  pub taken : (isRefusal (replyOf kind numbers time b .reply) ≡ false) ↔ NoneHolds (replyRows kind numbers b)
