@@ -8,3 +8,4 @@ pub mod Paths
 pub mod Few
 pub mod Demands
 pub mod Attained
+pub mod Said

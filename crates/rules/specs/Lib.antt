@@ -6,3 +6,4 @@ pub mod Caps
 pub mod Replies
 pub mod Demands
 pub mod Counts
+pub mod Said
