@@ -116,15 +116,15 @@ retried (goes-on d m l j u) p = differs (cc)
 
 -- what is said beside the fields of `Unconverged`
 pub record Ends (s : Settings) (c : Common) (work : List Float) (a : Attempt) : Type 0 where
-  pub poor : Exactly (a .next ≡ Poor) (Tiny s c ⊎ (c .ncf + 1 ≡ mxncfOf s))
-  pub again : Exactly (a .next ≡ Pass) ((Tiny s c → ⊥) × (c .ncf + 1 ≡ mxncfOf s → ⊥))
+  pub poor : Exactly (a .next ≡ Poor) (Tiny c ⊎ (c .ncf + 1 ≡ mxncfOf s))
+  pub again : Exactly (a .next ≡ Pass) ((Tiny c → ⊥) × (c .ncf + 1 ≡ mxncfOf s → ⊥))
   pub time : a .next ≡ Poor → a .common .tn ≡ c .told
   pub retracted : a .next ≡ Poor → a .work ≡ retractColumnsOf (s .n) (c .nq) (c .nqnyh) work
-  pub quarter : a .next ≡ Pass → a .common .h ≡ c .h ⊗ limitedOf s (with-rmax d2 c) (maxOf d0·25 (floorOf s c))
+  pub quarter : a .next ≡ Pass → a .common .h ≡ c .h ⊗ limitedOf (with-rmax d2 c) (maxOf d0·25 (floorOf c))
   pub predicted : a .next ≡ Pass → a .common .tn ≡ c .told ⊕ a .common .h
 
 module _ (s : Settings) (c : Common) (work : List Float) where
-  ends-at : (tiny last : Bool) → tinyOf s c ≡ tiny → eqb (c .ncf + 1) (mxncfOf s) ≡ last
+  ends-at : (tiny last : Bool) → tinyOf c ≡ tiny → eqb (c .ncf + 1) (mxncfOf s) ≡ last
       → Ends s c work (noConvergenceAt s (tiny || last) (unconvergedOf c) (retractedWork s c work))
   unfolding noConvergenceAt unconvergedOf retractedOf quarteredOf repredictOf adjustOf predictedOf limitedOf
   ends-at true last e l =
@@ -146,7 +146,7 @@ module _ (s : Settings) (c : Common) (work : List Float) where
         predicted = λ p. differs (cc);
       }
   ends-at false false e l =
-      let large : Tiny s c → ⊥ = never (tinyOf s c) e in
+      let large : Tiny c → ⊥ = never (tinyOf c) e in
       let fewer : c .ncf + 1 ≡ mxncfOf s → ⊥ = eqb-false (c .ncf + 1) (mxncfOf s) l in
       record {
         poor = ((λ p. differs (cc)), (λ p. absurd (neither large fewer p)));
@@ -159,7 +159,7 @@ module _ (s : Settings) (c : Common) (work : List Float) where
 
   ends : Ends s c work (noConvergenceOf s c work)
   unfolding noConvergenceOf unconvergedOf retractedOf
-  ends = ends-at (tinyOf s c) (eqb (c .ncf + 1) (mxncfOf s)) refl refl
+  ends = ends-at (tinyOf c) (eqb (c .ncf + 1) (mxncfOf s)) refl refl
 
   no-convergence : NoConvergenceSaid s c work (noConvergenceOf s c work)
   no-convergence =
@@ -180,7 +180,7 @@ module _ (s : Settings) (c : Common) (work : List Float) where
 -- ---- the error is above 1
 
 module _ (s : Settings) (c : Common) (dsm : Float) (work : List Float) (few : c .kflag ≤ 9) where
-  stopped : Tiny s c ⊎ (c .kflag + 1 ≡ 10)
+  stopped : Tiny c ⊎ (c .kflag + 1 ≡ 10)
       → ErrorSaid s c work (record { next = TooSmall; common = overshotOf c; work = retractedWork s c work })
   unfolding overshotOf retractedOf
   stopped why =
@@ -197,12 +197,12 @@ module _ (s : Settings) (c : Common) (dsm : Float) (work : List Float) (few : c 
         predicted = λ p. differs (cc);
       }
 
-  error-at : (tiny early last : Bool) → tinyOf s c ≡ tiny → ltb (c .kflag + 1) 3 ≡ early → eqb (c .kflag + 1) 10 ≡ last
+  error-at : (tiny early last : Bool) → tinyOf c ≡ tiny → ltb (c .kflag + 1) 3 ≡ early → eqb (c .kflag + 1) 10 ≡ last
       → ErrorSaid s c work (missedAt s dsm tiny early last (overshotOf c) (retractedWork s c work))
   unfolding missedAt overshotOf retractedOf repredictOf adjustOf predictedOf tenthOf
   error-at true early last e b l = stopped (inl e)
   error-at false true last e b l =
-      let large : Tiny s c → ⊥ = never (tinyOf s c) e in
+      let large : Tiny c → ⊥ = never (tinyOf c) e in
       let early = ltb-true (c .kflag + 1) 3 b in
       record {
         small = ((λ p. differs (cc)), (λ p. absurd (neither large (λ t. omega arith) p)));
@@ -218,7 +218,7 @@ module _ (s : Settings) (c : Common) (dsm : Float) (work : List Float) (few : c 
       }
   error-at false false true e b l = stopped (inr (eqb-true (c .kflag + 1) 10 l))
   error-at false false false e b l =
-      let large : Tiny s c → ⊥ = never (tinyOf s c) e in
+      let large : Tiny c → ⊥ = never (tinyOf c) e in
       let third = ltb-false (c .kflag + 1) 3 b in
       let other = eqb-false (c .kflag + 1) 10 l in
       record {
@@ -236,7 +236,7 @@ module _ (s : Settings) (c : Common) (dsm : Float) (work : List Float) (few : c 
 
   error : ErrorSaid s c work (failedOf s c dsm work)
   unfolding failedOf missedOf overshotOf retractedOf
-  error = error-at (tinyOf s c) (ltb (c .kflag + 1) 3) (eqb (c .kflag + 1) 10) refl refl refl
+  error = error-at (tinyOf c) (ltb (c .kflag + 1) 3) (eqb (c .kflag + 1) 10) refl refl refl
 
 -- ---- after the single derivative
 

@@ -36,12 +36,12 @@ abbrev pub Exactly : Type 0 → Type 0 → Type 0
 Exactly P Q = (P → Q) × (Q → P)
 
 -- |h| ≤ hmin·1.00001
-abbrev pub Tiny : Settings → Common → Type 0
-Tiny s c = Ieee.le (absOf (c .h)) (s .hmin ⊗ d1·00001) ≡ true
+abbrev pub Tiny : Common → Type 0
+Tiny c = Ieee.le (absOf (c .h)) (c .hmin ⊗ d1·00001) ≡ true
 
 -- hmin / |h|
-abbrev pub floorOf : Settings → Common → Float
-floorOf s c = s .hmin ⊘ absOf (c .h)
+abbrev pub floorOf : Common → Float
+floorOf c = c .hmin ⊘ absOf (c .h)
 
 -- the second family, with a Jacobian that was not made in this pass
 abbrev pub Old : Common → Type 0
@@ -56,12 +56,12 @@ pub record RetrySaid (c : Common) (v : Verdict) : Type 0 where
 -- Jacobian due; it ends poor at the mxncf-th such pass or when |h| ≤ hmin·1.00001, and that last pass isn't counted
 -- rejected'
 pub record NoConvergenceSaid (s : Settings) (c : Common) (work : List Float) (a : Attempt) : Type 0 where
-  pub poor : Exactly (a .next ≡ Poor) (Tiny s c ⊎ (c .ncf + 1 ≡ mxncfOf s))
-  pub again : Exactly (a .next ≡ Pass) ((Tiny s c → ⊥) × (c .ncf + 1 ≡ mxncfOf s → ⊥))
+  pub poor : Exactly (a .next ≡ Poor) (Tiny c ⊎ (c .ncf + 1 ≡ mxncfOf s))
+  pub again : Exactly (a .next ≡ Pass) ((Tiny c → ⊥) × (c .ncf + 1 ≡ mxncfOf s → ⊥))
   pub count : a .common .ncf ≡ c .ncf + 1
   pub time : a .next ≡ Poor → a .common .tn ≡ c .told
   pub retracted : a .next ≡ Poor → a .work ≡ retractColumnsOf (s .n) (c .nq) (c .nqnyh) work
-  pub quarter : a .next ≡ Pass → a .common .h ≡ c .h ⊗ limitedOf s (with-rmax d2 c) (maxOf d0·25 (floorOf s c))
+  pub quarter : a .next ≡ Pass → a .common .h ≡ c .h ⊗ limitedOf (with-rmax d2 c) (maxOf d0·25 (floorOf c))
   pub predicted : a .next ≡ Pass → a .common .tn ≡ c .told ⊕ a .common .h
   pub due : a .next ≡ Pass → a .common .due ≡ isBdf (c .meth)
   pub rejected : a .next ≡ Pass → a .common .rejected ≡ c .rejected + 1
@@ -70,15 +70,15 @@ pub record NoConvergenceSaid (s : Settings) (c : Common) (work : List Float) (a 
 -- 'Error above 1 retracts and lowers kflag; it ends too small at |h| ≤ hmin·1.00001 or -10. From -3 to -9 h falls to a
 -- tenth (not below hmin), one derivative is requested'
 pub record ErrorSaid (s : Settings) (c : Common) (work : List Float) (a : Attempt) : Type 0 where
-  pub small : Exactly (a .next ≡ TooSmall) (Tiny s c ⊎ (c .kflag + 1 ≡ 10))
-  pub single : Exactly (a .next ≡ Restep) ((Tiny s c → ⊥) × (3 ≤ c .kflag + 1) × (c .kflag + 1 ≤ 9))
-  pub again : Exactly (a .next ≡ Pass) ((Tiny s c → ⊥) × (c .kflag + 1 < 3))
+  pub small : Exactly (a .next ≡ TooSmall) (Tiny c ⊎ (c .kflag + 1 ≡ 10))
+  pub single : Exactly (a .next ≡ Restep) ((Tiny c → ⊥) × (3 ≤ c .kflag + 1) × (c .kflag + 1 ≤ 9))
+  pub again : Exactly (a .next ≡ Pass) ((Tiny c → ⊥) × (c .kflag + 1 < 3))
   pub count : a .common .kflag ≡ c .kflag + 1
   pub rejected : a .common .rejected ≡ c .rejected + 1
   pub order : a .common .nq ≡ c .nq
   pub time : (a .next ≡ Pass → ⊥) → a .common .tn ≡ c .told
   pub retracted : a .next ≡ TooSmall → a .work ≡ retractColumnsOf (s .n) (c .nq) (c .nqnyh) work
-  pub tenth : a .next ≡ Restep → a .common .h ≡ c .h ⊗ maxOf d0·1 (floorOf s c)
+  pub tenth : a .next ≡ Restep → a .common .h ≡ c .h ⊗ maxOf d0·1 (floorOf c)
   pub predicted : a .next ≡ Pass → a .common .tn ≡ c .told ⊕ a .common .h
 
 -- '.. order is 1 and in the second family a Jacobian is due'
