@@ -5,9 +5,9 @@ pub mod Phases
 pub mod Slots
 pub mod Keeps
 pub mod Answers
-pub mod Numbers
 pub mod WellFormed
 pub mod Start
+pub mod Fresh
 pub mod Walk
 pub mod Follow
 pub mod Refused

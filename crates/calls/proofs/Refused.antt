@@ -18,6 +18,7 @@ use Rattle.machine.specs.Resume.{With, isAsked}
 use Rattle.session.specs.Session.{decodeOf, rtolOf, atolOf}
 use Rattle.refusals.specs.declared.Refusal.{Refusal}
 use Rattle.refusals.specs.Start.{startRefusalOf}
+use Rattle.refusals.proofs.Table.{at-most-eleven}
 use Rattle.answers.specs.Answers.{plainOf, answerOf}
 use Rattle.answers.specs.Called.{Buffers, Called}
 use Rattle.replies.specs.Replies.{kindOf, isUnasked, replyRefusalOf, Settled, settledOf, turned, goOf}
@@ -27,7 +28,6 @@ use Rattle.fits.proofs.Floats.{either}
 use Rattle.calls.specs.Run.{isRefusal}
 use Rattle.calls.specs.Refused.{RefusedUnchanged}
 use Rattle.calls.proofs.Turns.{resume-well, resume-same}
-use Rattle.calls.proofs.Numbers.{start-number}
 use Rattle.calls.proofs.Follow.{not-refusal}
 
 -- ---- start
@@ -41,7 +41,7 @@ module _ (p : Problem) (b : Buffers) where
   refusal = startRefusalOf (p .x0) (p .xend) (p .options) (lengthsOf p b) (p .rtol) (p .atol)
 
   small : refusal .number ≤ 11
-  small = start-number (p .x0) (p .xend) (p .options) (lengthsOf p b) (p .rtol) (p .atol)
+  small = at-most-eleven (p .x0) (p .xend) (p .options) (lengthsOf p b) (p .rtol) (p .atol)
 
   abbrev Starts : Called → Type 0
   Starts x = ((x .reply .number ≡ 100) ⊎ ((1 ≤ x .reply .number) × (x .reply .number ≤ 11)))

@@ -63,13 +63,13 @@ filled {A} x f e (y ∷ l) p =
     ap (λ (w : List A). times f (length l) (length p + 1) w) (e (length p) (p ++ y ∷ l) ∙ set-append-seam p y l x)
     ∙ (rw (long, append-snoc p x l, append-snoc p x (replicate (length l) x)) at (filled x f e l (p ++ (x ∷ []))))
 
-fill-all : (l : List Float) → fillOf (length l) 0 zeroF l ≡ replicate (length l) zeroF
+pub fill-all : (l : List Float) → fillOf (length l) 0 zeroF l ≡ replicate (length l) zeroF
 unfolding fillOf
 fill-all l =
     let z : length l - 0 ≡ length l = omega arith in
     rw z (filled zeroF (fillAt 0 zeroF) (λ i w. rw (zero-add i)) l [])
 
-clear-all : (l : List ℕ) → clearedOf l ≡ replicate (length l) 0
+pub clear-all : (l : List ℕ) → clearedOf l ≡ replicate (length l) 0
 unfolding clearedOf
 clear-all l =
     let z : length l - 0 ≡ length l = omega arith in

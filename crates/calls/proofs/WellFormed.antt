@@ -26,12 +26,11 @@ use Rattle.refusals.specs.Table.{Row, NotOneOrN, WrongList, WrongSlice, LargeSe
 use Rattle.refusals.specs.Table.{stepRow, startRows}
 use Rattle.refusals.proofs.Accepted.{accepted}
 use Rattle.refusals.proofs.FirstStep.{step-taken, taken-not-refused}
-use Rattle.refusals.proofs.Table.{NoneHolds, none-holds, none-tolerances, first-row}
+use Rattle.refusals.proofs.Table.{NoneHolds, none-holds, none-tolerances, first-row, at-most-eleven}
 use Rattle.answers.specs.Called.{Buffers, Called}
 use Rattle.starts.specs.Starts.{beganOf}
 use Rattle.raimsklo.specs.Calls.{Problem, lengthsOf, startAt, startOf}
 use Rattle.calls.specs.WellFormed.{WellFormed}
-use Rattle.calls.proofs.Numbers.{start-number}
 
 abbrev pub refusalOf : Problem → Buffers → Refusal
 refusalOf p b = startRefusalOf (p .x0) (p .xend) (p .options) (lengthsOf p b) (p .rtol) (p .atol)
@@ -43,7 +42,7 @@ rowsOf p b = startRows (p .x0) (p .xend) (p .options) (lengthsOf p b) (p .rtol) 
 
 module _ (p : Problem) (b : Buffers) where
   small : refusalOf p b .number ≤ 11
-  small = start-number (p .x0) (p .xend) (p .options) (lengthsOf p b) (p .rtol) (p .atol)
+  small = at-most-eleven (p .x0) (p .xend) (p .options) (lengthsOf p b) (p .rtol) (p .atol)
 
   pub some-start : 1 ≤ length (p .y0) → startOf p b ≡ startAt p b (refusalOf p b)
   unfolding startOf

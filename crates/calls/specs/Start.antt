@@ -1,13 +1,15 @@
--- What a start answers, for any problem and whatever is lent (`starts-exactly` in proofs/Exactly.antt). The order of the
--- refusals is that of the rows.
+-- What a start answers and leaves, for any problem and whatever is lent (`starts-exactly` in proofs/Exactly.antt,
+-- `starts-fresh` in proofs/Fresh.antt). The order of the refusals is that of the rows.
 use mathlib.Core.List.{List, _∷_}
 use mathlib.Core.Path.{_≡_}
 use lib.ListN.{length}
+use Rattle.loops.specs.Part.{putPart}
 use Rattle.refusals.specs.declared.Refusal.{Refusal}
 use Rattle.refusals.specs.Table.{Row, row, ExactlyFirst, startRows}
 use Rattle.answers.specs.Answers.{refusedOf}
 use Rattle.answers.specs.Called.{Buffers}
 use Rattle.raimsklo.specs.Calls.{Problem, lengthsOf, startOf}
+use Rattle.calls.specs.WellFormed.{WellFormed}
 
 -- an empty y0 is success (110) before everything; then 1 to 11
 abbrev pub rowsOf : Problem → Buffers → List Row
@@ -23,3 +25,12 @@ Returned p b r = startOf p b ≡ record { reply = refusedOf r; lent = b }
 -- exactly if none holds
 abbrev pub StartsExactly : Problem → Buffers → Type 0
 StartsExactly p b = ExactlyFirst (Returned p b) (startOf p b .reply .number ≡ 100) (Unit {0}) (rowsOf p b)
+
+-- an accepted start answers and leaves the same whatever the slices held, but for the question, where y stands first and
+-- the rest is as lent
+pub record StartsFresh (p : Problem) (b c : Buffers) : Type 0 where
+  pub reply : startOf p b .reply ≡ startOf p c .reply
+  pub work : startOf p b .lent .work ≡ startOf p c .lent .work
+  pub pivots : startOf p b .lent .pivots ≡ startOf p c .lent .pivots
+  pub session : startOf p b .lent .session ≡ startOf p c .lent .session
+  pub question : startOf p b .lent .question ≡ putPart 0 (length (p .y0)) (b .question) (p .y0)

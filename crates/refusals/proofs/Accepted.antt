@@ -1,24 +1,31 @@
--- A start that no condition refuses was given what `Started` says: each condition of the ordered list fails.
+-- A start that no row of the table refuses was given what `Started` says: each condition of the table fails.
+--     accepted
+-- and what a refusal that is none says of the conditions that it was made of:
+--     also-none, else-none
 -- Assumes nothing.
-use mathlib.Core.Bool.{Bool, true, false, cond, not, _||_}
-use mathlib.Core.List.{List}
+use mathlib.Core.Bool.{Bool, true, false, cond, not}
+use mathlib.Core.List.{List, [], _∷_}
 use mathlib.Core.Path.{_≡_, refl, sym}
-use mathlib.Core.Logic.{_⊎_, inl, inr}
-use Prim.Native.Nat.{ℕ, zero, suc, _+_, _-_, _≤_, _<_}
+use mathlib.Core.Logic.{_⊎_, inl, inr, _≢_}
+use Prim.Native.Nat.{ℕ, zero, suc, _+_, _≤_, _<_}
 use native.Mathlib.Omega.{arith}
-use borrow.Author.Tests.{eqb-true, eqb-false, ltb-false}
-use lib.Dec.{eqb, ltb}
+use borrow.Author.Tests.{eqb-true, eqb-false}
+use lib.Dec.{eqb}
 use lib.Ieee.{Float}
 use Rattle.loops.specs.Test.{differs}
-use Rattle.loops.specs.For.{times}
-use Rattle.numbers.specs.Float.{_⊖_, zeroF}
+use Rattle.numbers.specs.Float.{_⊖_}
 use Rattle.numbers.specs.Sign.{signumOf, refused}
 use Rattle.refusals.specs.declared.Options.{Options}
 use Rattle.refusals.specs.declared.Lengths.{Lengths}
 use Rattle.refusals.specs.declared.Refusal.{Refusal}
-use Rattle.refusals.specs.Refusal.{none, plain, alsoOf, inOrder, orElse}
-use Rattle.refusals.specs.Start.{isList, listsOf, sizesOf, largeOf, limitsOf, isNegative, toleranceAt, tolerancesOf, stepOf, startRefusalOf}
+use Rattle.refusals.specs.Refusal.{plain, alsoOf, orElse}
+use Rattle.refusals.specs.Start.{isNegative, startRefusalOf}
+use Rattle.refusals.specs.Table.{Row, NotOneOrN, WrongList, WrongSlice, LargeSetting, BelowZero, toleranceRows}
+use Rattle.refusals.specs.Table.{stepRow, startRows}
 use Rattle.refusals.specs.Accepted.{Sizes, Limits, Started}
+use Rattle.refusals.proofs.Decides.{Decides, decided, equal}
+use Rattle.refusals.proofs.FirstStep.{step-decides}
+use Rattle.refusals.proofs.Table.{NoneHolds, below, first-row, numbered-rows, holds-none}
 
 -- ---- one condition
 
@@ -47,129 +54,98 @@ not-false false p = differs (sym p)
 pub same : (a b : ℕ) → not (eqb a b) ≡ false → a ≡ b
 same a b p = eqb-true a b (not-false (eqb a b) p)
 
-list-at : (len n : ℕ) (e : Bool) → eqb len 1 ≡ e → not (e || eqb len n) ≡ false → (len ≡ 1) ⊎ (len ≡ n)
-list-at len n true p q = inl (eqb-true _ _ p)
-list-at len n false p q = inr (same len n q)
+-- ---- where a condition fails
 
-listed : (len n : ℕ) → not (isList len n) ≡ false → (len ≡ 1) ⊎ (len ≡ n)
-listed len n q = list-at len n (eqb len 1) refl q
+not-decided : {P : Type 0} (t : Bool) → Decides t P → (P → ⊥) → t ≡ false
+not-decided true d n = absurd (n (d .0 refl))
+not-decided false d n = refl
 
-positive : (a : ℕ) → eqb a 0 ≡ false → 1 ≤ a
-positive zero p = differs (sym p)
-positive (suc a) p = omega arith
+is-equal : (a b : ℕ) → (a ≢ b → ⊥) → a ≡ b
+is-equal a b n = by (decided (eqb a b) (equal a b))
+  where
+    by : (a ≡ b) ⊎ (a ≢ b) → a ≡ b
+    by (inl e) = e
+    by (inr e) = absurd (n e)
 
--- ---- lengths and settings
+one-or-n : (len n : ℕ) → (NotOneOrN len n → ⊥) → (len ≡ 1) ⊎ (len ≡ n)
+one-or-n len n h = by (decided (eqb len 1) (equal len 1))
+  where
+    by : (len ≡ 1) ⊎ (len ≢ 1) → (len ≡ 1) ⊎ (len ≡ n)
+    by (inl e) = inl e
+    by (inr e) = inr (is-equal len n (λ d. h (e, d)))
 
-lists-hold : (l : Lengths) → l .n ≤ 64 → listsOf l (l .n) .number ≡ 0 → Sizes l
-unfolding listsOf inOrder
-lists-hold l h q =
-    let q6 = also-none _ _ 3 (omega arith) q in
-    let q5 = also-none _ _ 3 (omega arith) (q6 .0) in
-    let q4 = also-none _ _ 3 (omega arith) (q5 .0) in
-    let q3 = also-none _ _ 3 (omega arith) (q4 .0) in
-    let q2 = also-none _ _ 2 (omega arith) (q3 .0) in
-    let q1 = also-none _ _ 2 (omega arith) (q2 .0) in
-    record {
-      n = h;
-      rtol = listed _ _ (q1 .1);
-      atol = listed _ _ (q2 .1);
-      work = same _ _ (q3 .1);
-      pivots = same _ _ (q4 .1);
-      session = same _ _ (q5 .1);
-      question = same _ _ (q6 .1);
-    }
+sizes-hold : (l : Lengths) → (64 < l .n → ⊥) → (WrongList l → ⊥) → (WrongSlice l → ⊥) → Sizes l
+sizes-hold l one two three = record {
+  n = omega (arith, one);
+  rtol = one-or-n _ _ (λ h. two (inl h));
+  atol = one-or-n _ _ (λ h. two (inr h));
+  work = is-equal _ _ (λ h. three (inl h));
+  pivots = is-equal _ _ (λ h. three (inr (inl h)));
+  session = is-equal _ _ (λ h. three (inr (inr (inl h))));
+  question = is-equal _ _ (λ h. three (inr (inr (inr h))));
+}
 
-sizes-at : (l : Lengths) (e : Bool) → ltb 64 (l .n) ≡ e → cond e (plain 1) (listsOf l (l .n)) .number ≡ 0 → Sizes l
-sizes-at l true p q = absurd (omega arith)
-sizes-at l false p q = lists-hold l (ltb-false _ _ p) q
+at-most : (a m : ℕ) → (m < a → ⊥) → a ≤ m
+at-most a m h = omega arith
 
-pub sizes-hold : (l : Lengths) → sizesOf l .number ≡ 0 → Sizes l
-unfolding sizesOf
-sizes-hold l q = sizes-at l (ltb 64 (l .n)) refl q
+at-least : (a : ℕ) → a ≢ 0 → 1 ≤ a
+at-least a h = omega arith
 
-pub limits-hold : (o : Options) → limitsOf o .number ≡ 0 → Limits o
-unfolding limitsOf largeOf inOrder
-limits-hold o q =
-    let q11 = also-none _ _ 8 (omega arith) q in
-    let q10 = also-none _ _ 7 (omega arith) (q11 .0) in
-    let q9 = also-none _ _ 7 (omega arith) (q10 .0) in
-    let q8 = also-none _ _ 6 (omega arith) (q9 .0) in
-    let q7 = also-none _ _ 5 (omega arith) (q8 .0) in
-    let q6 = also-none _ _ 4 (omega arith) (q7 .0) in
-    let q5 = also-none _ _ 4 (omega arith) (q6 .0) in
-    let q4 = also-none _ _ 4 (omega arith) (q5 .0) in
-    let q3 = also-none _ _ 4 (omega arith) (q4 .0) in
-    let q2 = also-none _ _ 4 (omega arith) (q3 .0) in
-    let q1 = also-none _ _ 4 (omega arith) (q2 .0) in
-    record {
-      maxsteps = (positive _ (q7 .1), ltb-false _ _ (q1 .1));
-      mxordn = (positive _ (q9 .1), ltb-false _ _ (q2 .1));
-      mxords = (positive _ (q10 .1), ltb-false _ _ (q3 .1));
-      maxcor = (positive _ (q8 .1), ltb-false _ _ (q4 .1));
-      msbp = ltb-false _ _ (q5 .1);
-      mxncf = ltb-false _ _ (q6 .1);
-      banded = same _ _ (q11 .1);
-    }
+limits-hold : (o : Options) → (LargeSetting o → ⊥) → o .«max_steps» ≢ 0 → o .maxcor ≢ 0
+    → ((o .mxordn ≡ 0) ⊎ (o .mxords ≡ 0) → ⊥) → (o .banded ≢ 0 → ⊥) → Limits o
+limits-hold o four five six seven eight = record {
+  maxsteps = (at-least _ five, at-most _ _ (λ h. four (inl h)));
+  mxordn = (at-least _ (λ e. seven (inl e)), at-most _ _ (λ h. four (inr (inl h))));
+  mxords = (at-least _ (λ e. seven (inr e)), at-most _ _ (λ h. four (inr (inr (inl h)))));
+  maxcor = (at-least _ six, at-most _ _ (λ h. four (inr (inr (inr (inl h))))));
+  msbp = at-most _ _ (λ h. four (inr (inr (inr (inr (inl h))))));
+  mxncf = at-most _ _ (λ h. four (inr (inr (inr (inr (inr h))))));
+  banded = is-equal _ _ eight;
+}
 
--- ---- tolerances
+-- ---- tolerances, and the rows after them
 
-module _ (rtol atol : List Float) where
-  -- neither is below 0 at this index
-  abbrev Both : ℕ → Type 0
-  Both i = (isNegative rtol i ≡ false) × (isNegative atol i ≡ false)
+module _ (rtol atol : List Float) (rest : List Row) where
+  none-after : (k i : ℕ) → NoneHolds (toleranceRows rtol atol k i rest) → NoneHolds rest
+  none-after zero i h = h
+  none-after (suc k) i h = none-after k (i + 1) (h .1 .1)
 
-  both-at : (i : ℕ) (r : Refusal) (a b : Bool) → isNegative rtol i ≡ a → isNegative atol i ≡ b
-      → cond a (record { number = 9; index = i; value = zeroF })
-      (cond b (record { number = 10; index = i; value = zeroF }) r) .number ≡ 0 → Both i
-  both-at i r true b p q z = absurd (omega arith)
-  both-at i r false true p q z = absurd (omega arith)
-  both-at i r false false p q z = (p, q)
+  abbrev Neither : ℕ → Type 0
+  Neither j = (BelowZero rtol j → ⊥) × (BelowZero atol j → ⊥)
 
-  tolerance-none : (i : ℕ) (r : Refusal) → toleranceAt rtol atol i r .number ≡ 0 → (r .number ≡ 0) × Both i
-  tolerance-none i r q =
-      let z = else-none r _ q in
-      (z .0, both-at i r (isNegative rtol i) (isNegative atol i) refl refl (z .1))
-
-  tolerances-times : (k i : ℕ) (r : Refusal) → times (toleranceAt rtol atol) k i r .number ≡ 0
-      → (r .number ≡ 0) × ((j : ℕ) → i ≤ j → j < i + k → Both j)
-  unfolding times
-  tolerances-times zero i r q = (q, λ j a b. absurd (omega arith))
-  tolerances-times (suc k) i r q =
-      let z = tolerances-times k (i + 1) (toleranceAt rtol atol i r) q in
-      let t = tolerance-none i r (z .0) in
-      (t .0, λ j a b. at j a b (eqb j i) refl (t .1) (z .1))
+  neither-below : (k i j : ℕ) → NoneHolds (toleranceRows rtol atol k i rest) → i ≤ j → j < i + k → Neither j
+  neither-below zero i j h a b = absurd (omega arith)
+  neither-below (suc k) i j h a b = by (eqb j i) refl (h .0, h .1 .0) (λ c d. neither-below k (i + 1) j (h .1 .1) c d)
     where
-      at : (j : ℕ) → i ≤ j → j < i + suc k → (e : Bool) → eqb j i ≡ e → Both i
-          → ((j : ℕ) → i + 1 ≤ j → j < i + 1 + k → Both j) → Both j
-      at j a b true p here on = let s : j ≡ i = eqb-true _ _ p in rw s here
-      at j a b false p here on =
+      by : (e : Bool) → eqb j i ≡ e → Neither i → (i + 1 ≤ j → j < i + 1 + k → Neither j) → Neither j
+      by true p here on = let s : j ≡ i = eqb-true _ _ p in rw s here
+      by false p here on =
           let s : j ≡ i → ⊥ = eqb-false _ _ p in
-          on j (omega arith) (omega arith)
+          on (omega arith) (omega arith)
 
--- ---- the first step
-
-step-at : (x0 xend : Float) (o : Options) (e b : Bool) → eqb (o .«has_first_step») 0 ≡ e
-    → refused (o .«first_step») (signumOf (xend ⊖ x0)) ≡ b
-    → cond e none (cond b (record { number = 11; index = 0; value = o .«first_step» }) none) .number ≡ 0
-    → (o .«has_first_step» ≡ 0) ⊎ (refused (o .«first_step») (signumOf (xend ⊖ x0)) ≡ false)
-step-at x0 xend o true b p q z = inl (eqb-true _ _ p)
-step-at x0 xend o false true p q z = absurd (omega arith)
-step-at x0 xend o false false p q z = inr q
-
--- ---- the whole list
+-- ---- the whole table
 
 pub accepted : (x0 xend : Float) (o : Options) (l : Lengths) (rtol atol : List Float)
     → startRefusalOf x0 xend o l rtol atol .number ≡ 0 → Started x0 xend o l rtol atol
-unfolding startRefusalOf tolerancesOf stepOf
 accepted x0 xend o l rtol atol q =
-    let a = else-none _ _ q in
-    let b = else-none _ _ (a .1) in
-    let c = else-none _ _ (b .1) in
-    let t = tolerances-times rtol atol (l .n - 0) 0 none (c .0) in
+    let h : NoneHolds (startRows x0 xend o l rtol atol) =
+    holds-none (startRows x0 xend o l rtol atol) (startRefusalOf x0 xend o l rtol atol)
+    (numbered-rows x0 xend o l rtol atol) (first-row x0 xend o l rtol atol) q in
+    let t = h .1 .1 .1 .1 .1 .1 .1 .1 in
+    let step = stepRow x0 xend o ∷ [] in
     record {
-      sizes = sizes-hold l (a .0);
-      limits = limits-hold o (b .0);
-      relative = λ i h. t .1 i (omega arith) (omega arith) .0;
-      absolute = λ i h. t .1 i (omega arith) (omega arith) .1;
-      step = step-at x0 xend o (eqb (o .«has_first_step») 0) (refused (o .«first_step») (signumOf (xend ⊖ x0))) refl refl (c .1);
+      sizes = sizes-hold l (h .0) (h .1 .0) (h .1 .1 .0);
+      limits = limits-hold o (h .1 .1 .1 .0) (h .1 .1 .1 .1 .0) (h .1 .1 .1 .1 .1 .0) (h .1 .1 .1 .1 .1 .1 .0)
+          (h .1 .1 .1 .1 .1 .1 .1 .0);
+      relative = λ i m.
+          not-decided _ (below rtol i) (neither-below rtol atol step (l .n) 0 i t (omega arith) (omega arith) .0);
+      absolute = λ i m.
+          not-decided _ (below atol i) (neither-below rtol atol step (l .n) 0 i t (omega arith) (omega arith) .1);
+      step = by (decided (eqb (o .«has_first_step») 0) (equal (o .«has_first_step») 0))
+          (none-after rtol atol step (l .n) 0 t .0);
     }
+  where
+    by : (o .«has_first_step» ≡ 0) ⊎ (o .«has_first_step» ≢ 0) → (stepRow x0 xend o .holds → ⊥)
+        → (o .«has_first_step» ≡ 0) ⊎ (refused (o .«first_step») (signumOf (xend ⊖ x0)) ≡ false)
+    by (inl e) n = inl e
+    by (inr e) n = inr (not-decided _ (step-decides (o .«first_step») (xend ⊖ x0)) (λ h. n (e, h)))

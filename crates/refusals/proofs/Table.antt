@@ -1,5 +1,7 @@
 -- A start is refused by the first row of the table whose condition holds, and each row is returned exactly then.
---     first-row, exactly-first
+--     first-row         the refusal of a start is that of the first row that holds
+--     exactly-first     each row is returned exactly if it holds and no earlier one does
+--     holds-none, none-holds, at-most-eleven
 -- Assumes nothing.
 use mathlib.Core.Bool.{Bool, true, false, cond, not, _||_}
 use mathlib.Core.List.{List, [], _∷_, _++_}
@@ -177,15 +179,15 @@ module _ (o : Options) where
 
 -- ---- tolerances
 
-module _ (rtol atol : List Float) where
-  below : (list : List Float) (i : ℕ) → Decides (isNegative list i) (BelowZero list i)
-  below list i = by (ltb i (length list)) (smaller i (length list))
-    where
-      by : (t : Bool) → Decides t (i < length list)
-          → Decides (cond t (Ieee.lt (getD list i nan) zeroF) false) (BelowZero list i)
-      by true d = (λ e. (d .0 refl, e), λ e h. differs (sym e ∙ h .1))
-      by false d = (λ e. differs e, λ e h. d .1 refl (h .0))
+pub below : (list : List Float) (i : ℕ) → Decides (isNegative list i) (BelowZero list i)
+below list i = by (ltb i (length list)) (smaller i (length list))
+  where
+    by : (t : Bool) → Decides t (i < length list)
+        → Decides (cond t (Ieee.lt (getD list i nan) zeroF) false) (BelowZero list i)
+    by true d = (λ e. (d .0 refl, e), λ e h. differs (sym e ∙ h .1))
+    by false d = (λ e. differs e, λ e h. d .1 refl (h .0))
 
+module _ (rtol atol : List Float) where
   abbrev rows : ℕ → ℕ → List Row → List Row
   rows k i rest = toleranceRows rtol atol k i rest
 
@@ -258,10 +260,58 @@ none-holds [] x f h = rw f
 none-holds (r ∷ rows) x (inl (y, e)) h = absurd (h .0 y)
 none-holds (r ∷ rows) x (inr (n, f)) h = none-holds rows x f (h .1)
 
+pub holds-none : (rows : List Row) (x : Refusal) → Numbered rows → IsFirst rows x → x .number ≡ 0 → NoneHolds rows
+holds-none [] x m f z = tt
+holds-none (r ∷ rows) x m (inl (y, e)) z = absurd (m .0 (ap (λ (q : Refusal). q .number) (sym e) ∙ z))
+holds-none (r ∷ rows) x m (inr (n, f)) z = (n, holds-none rows x (m .1) f z)
+
 pub none-tolerances : (rtol atol : List Float) (rest : List Row) → ((i : ℕ) → BelowZero rtol i → ⊥)
     → ((i : ℕ) → BelowZero atol i → ⊥) → NoneHolds rest → (k i : ℕ) → NoneHolds (toleranceRows rtol atol k i rest)
 none-tolerances rtol atol rest r a h zero i = h
 none-tolerances rtol atol rest r a h (suc k) i = (r i, (a i, none-tolerances rtol atol rest r a h k (i + 1)))
+
+-- ---- what holds of every refusal by 1 to 11 holds of each row's
+
+abbrev pub Each : (Refusal → Type 0) → List Row → Type 0
+Each P [] = Unit {0}
+Each P (r ∷ rs) = P (r .refusal) × Each P rs
+
+module _ (P : Refusal → Type 0) (h : (r : Refusal) → 1 ≤ r .number → r .number ≤ 11 → P r) where
+  each-tolerance : (rtol atol : List Float) (rest : List Row) → Each P rest → (k i : ℕ)
+      → Each P (toleranceRows rtol atol k i rest)
+  each-tolerance rtol atol rest e zero i = e
+  each-tolerance rtol atol rest e (suc k) i =
+      (h _ (lit≤ tt) (lit≤ tt), (h _ (lit≤ tt) (lit≤ tt), each-tolerance rtol atol rest e k (i + 1)))
+
+  pub each-row : (x0 xend : Float) (o : Options) (l : Lengths) (rtol atol : List Float)
+      → Each P (startRows x0 xend o l rtol atol)
+  each-row x0 xend o l rtol atol = (
+        h _ (lit≤ tt) (lit≤ tt), (h _ (lit≤ tt) (lit≤ tt), (h _ (lit≤ tt) (lit≤ tt), (h _ (lit≤ tt) (lit≤ tt),
+        (h _ (lit≤ tt) (lit≤ tt), (h _ (lit≤ tt) (lit≤ tt), (h _ (lit≤ tt) (lit≤ tt), (h _ (lit≤ tt) (lit≤ tt),
+        each-tolerance rtol atol _ (h _ (lit≤ tt) (lit≤ tt), tt) (l .n) 0)))))))
+      )
+
+-- and, if it holds where there is none, of the one that is returned
+pub of-first : (P : Refusal → Type 0) → P none → (rows : List Row) (x : Refusal) → Each P rows → IsFirst rows x → P x
+of-first P z [] x e f = rw f z
+of-first P z (r ∷ rows) x e (inl (h, q)) = rw q (e .0)
+of-first P z (r ∷ rows) x e (inr (n, f)) = of-first P z rows x (e .1) f
+
+pub at-most-eleven : (x0 xend : Float) (o : Options) (l : Lengths) (rtol atol : List Float)
+    → startRefusalOf x0 xend o l rtol atol .number ≤ 11
+at-most-eleven x0 xend o l rtol atol =
+    of-first (λ r. r .number ≤ 11) (lit≤ tt) (startRows x0 xend o l rtol atol) (startRefusalOf x0 xend o l rtol atol)
+    (each-row (λ r. r .number ≤ 11) (λ r low small. small) x0 xend o l rtol atol) (first-row x0 xend o l rtol atol)
+
+numbered : (rows : List Row) → Each (λ r. 1 ≤ r .number) rows → Numbered rows
+numbered [] e = tt
+numbered (r ∷ rows) e = (λ z. omega (arith, z, e .0), numbered rows (e .1))
+
+pub numbered-rows : (x0 xend : Float) (o : Options) (l : Lengths) (rtol atol : List Float)
+    → Numbered (startRows x0 xend o l rtol atol)
+numbered-rows x0 xend o l rtol atol =
+    numbered (startRows x0 xend o l rtol atol)
+    (each-row (λ r. 1 ≤ r .number) (λ r low small. low) x0 xend o l rtol atol)
 
 -- ---- each row exactly if
 
@@ -317,45 +367,18 @@ module _ (n : ℕ) where
           let p : place n x ≡ place n (r .refusal) = ap (place n) e in
           omega (arith, p, q)
 
-  numbered-tolerances : (rtol atol : List Float) (rest : List Row) → Numbered rest → (k i : ℕ)
-      → Numbered (toleranceRows rtol atol k i rest)
-  numbered-tolerances rtol atol rest m zero i = m
-  numbered-tolerances rtol atol rest m (suc k) i =
-      (positive 8, (positive 9, numbered-tolerances rtol atol rest m k (i + 1)))
-
   after-tolerances : (rtol atol : List Float) (r : Row) → r .refusal .number ≡ 11 → (k i j : ℕ) → i + k ≡ n
       → j < 9 + (i + i) → After n j (toleranceRows rtol atol k i (r ∷ []))
   after-tolerances rtol atol r e zero i j h q = rw e (omega arith, tt)
   after-tolerances rtol atol r e (suc k) i j h q =
       (q, (omega arith, after-tolerances rtol atol r e k (i + 1) (10 + (i + i)) (omega arith) (omega arith)))
 
--- what holds of every refusal by 1 to 11 holds of each row's
-abbrev pub Each : (Refusal → Type 0) → List Row → Type 0
-Each P [] = Unit {0}
-Each P (r ∷ rs) = P (r .refusal) × Each P rs
-
-module _ (P : Refusal → Type 0) (h : (r : Refusal) → 1 ≤ r .number → r .number ≤ 11 → P r) where
-  each-tolerance : (rtol atol : List Float) (rest : List Row) → Each P rest → (k i : ℕ)
-      → Each P (toleranceRows rtol atol k i rest)
-  each-tolerance rtol atol rest e zero i = e
-  each-tolerance rtol atol rest e (suc k) i =
-      (h _ (lit≤ tt) (lit≤ tt), (h _ (lit≤ tt) (lit≤ tt), each-tolerance rtol atol rest e k (i + 1)))
-
-  pub each-row : (x0 xend : Float) (o : Options) (l : Lengths) (rtol atol : List Float)
-      → Each P (startRows x0 xend o l rtol atol)
-  each-row x0 xend o l rtol atol = (
-        h _ (lit≤ tt) (lit≤ tt), (h _ (lit≤ tt) (lit≤ tt), (h _ (lit≤ tt) (lit≤ tt), (h _ (lit≤ tt) (lit≤ tt),
-        (h _ (lit≤ tt) (lit≤ tt), (h _ (lit≤ tt) (lit≤ tt), (h _ (lit≤ tt) (lit≤ tt), (h _ (lit≤ tt) (lit≤ tt),
-        each-tolerance rtol atol _ (h _ (lit≤ tt) (lit≤ tt), tt) (l .n) 0)))))))
-      )
-
 pub exactly-first : (x0 xend : Float) (o : Options) (l : Lengths) (rtol atol : List Float)
     → let x = startRefusalOf x0 xend o l rtol atol in
     ExactlyFirst (λ r. x ≡ r) (x .number ≡ 0) (Unit {0}) (startRows x0 xend o l rtol atol)
 exactly-first x0 xend o l rtol atol =
     exactly (l .n) (startRows x0 xend o l rtol atol) 0 (startRefusalOf x0 xend o l rtol atol) (Unit {0}) tt
-    (positive 0, (positive 1, (positive 2, (positive 3, (positive 4, (positive 5, (positive 6, (positive 7,
-    numbered-tolerances (l .n) rtol atol _ (positive 10, tt) (l .n) 0))))))))
+    (numbered-rows x0 xend o l rtol atol)
     (lit< tt, (lit< tt, (lit< tt, (lit< tt, (lit< tt, (lit< tt, (lit< tt, (lit< tt,
     after-tolerances (l .n) rtol atol _ refl (l .n) 0 8 (omega arith) (omega arith)))))))))
     (first-row x0 xend o l rtol atol)

@@ -1,0 +1,162 @@
+-- What an accepted start leaves does not depend on what the slices held: work and pivots are filled, and of the session
+-- every byte is written, word after word.
+--     starts-fresh
+-- Assumes nothing.
+use mathlib.Core.Bool.{Bool, true, false}
+use mathlib.Core.List.{List}
+use mathlib.Core.Logic.{_≢_}
+use mathlib.Core.Path.{_≡_, refl, sym, ap, _∙_}
+use Prim.Native.Nat.{ℕ, zero, suc, _+_, _*_, _≤_, _<_}
+use native.Mathlib.Omega.{arith}
+use native.Mathlib.Nat.{zero-add}
+use lib.Dec.{eqb, lit≤}
+use lib.Ieee.{Float}
+use lib.ListN.{length, getD, set, replicate, length-set}
+use lib.Seq.{getD-set-same, getD-set-other, ext-getD}
+use borrow.Author.Tests.{eqb-true, eqb-false, eq-eqb}
+use Rattle.loops.specs.For.{times}
+use Rattle.loops.specs.Part.{putPart}
+use Rattle.numbers.specs.Float.{zeroF}
+use Rattle.common.specs.declared.Settings.{Settings}
+use Rattle.common.specs.declared.Common.{Common}
+use Rattle.turns.specs.declared.Phase.the-variants as Phase
+use Rattle.turns.specs.declared.Session.{Session}
+use Rattle.reports.specs.Reports.{initialOf}
+use Rattle.words.specs.Words.{putWord, putCountAt, putCountsOf, slotOf, putFloatAt, putFloatsOf}
+use Rattle.fields.specs.Fields.{countsOf, floatsOf}
+use Rattle.session.specs.Session.{encodeOf, putTolerancesOf}
+use Rattle.session.proofs.Back.{length-encode, length-put-tolerances}
+use Rattle.refusals.specs.Start.{settingsOf, firstStepOf}
+use Rattle.answers.specs.Answers.{plainOf}
+use Rattle.answers.specs.Called.{Buffers, Called}
+use Rattle.starts.specs.Starts.{keptOf, beganOf}
+use Rattle.raimsklo.specs.Calls.{Problem, lengthsOf, startAt, startOf}
+use Rattle.calls.specs.WellFormed.{WellFormed}
+use Rattle.calls.specs.Start.{StartsFresh}
+use Rattle.calls.proofs.WellFormed.{refusalOf, some-start, start-number-is, well-formed}
+use Rattle.calls.proofs.Start.{fill-all, clear-all}
+
+-- ---- bytes that agree below k, of at least m each
+
+record Agree (m k : ℕ) (a b : List ℕ) : Type 0 where
+  room : m ≤ length a
+  long : length a ≡ length b
+  same : (i : ℕ) → i < k → getD a i 0 ≡ getD b i 0
+
+module _ (m : ℕ) where
+  agree-less : {k : ℕ} {a b : List ℕ} (j : ℕ) → j ≤ k → Agree m k a b → Agree m j a b
+  agree-less j h g = record { room = g .room; long = g .long; same = λ i l. g .same i (omega arith) }
+
+  agree-set : (k j v : ℕ) {a b : List ℕ} → j ≤ k + 1 → k < m → Agree m k a b → Agree m j (set a k v) (set b k v)
+  agree-set k j v {a} {b} h less g = record {
+    room = rw length-set (g .room);
+    long = length-set a k v ∙ g .long ∙ sym (length-set b k v);
+    same = λ i l. by i (eqb i k) refl l;
+  }
+    where
+      by : (i : ℕ) (t : Bool) → eqb i k ≡ t → i < j → getD (set a k v) i 0 ≡ getD (set b k v) i 0
+      by i true e l =
+          let q : i ≡ k = eqb-true i k e in
+          rw q (getD-set-same a k v 0 (omega (arith, g .room)) ∙ sym (getD-set-same b k v 0 (omega (arith, g .room, g .long))))
+      by i false e l =
+          let n : i ≢ k = eqb-false i k e in
+          getD-set-other a k i v 0 n ∙ g .same i (omega arith) ∙ sym (getD-set-other b k i v 0 n)
+
+  agree-word : (at w : ℕ) {a b : List ℕ} → at + 8 ≤ m → Agree m at a b → Agree m (at + 8) (putWord a at w) (putWord b at w)
+  unfolding putWord
+  agree-word at w h g =
+      agree-set (at + 7) (at + 8) _ (omega arith) (omega arith)
+      (agree-set (at + 6) (at + 7) _ (omega arith) (omega arith)
+      (agree-set (at + 5) (at + 6) _ (omega arith) (omega arith)
+      (agree-set (at + 4) (at + 5) _ (omega arith) (omega arith)
+      (agree-set (at + 3) (at + 4) _ (omega arith) (omega arith)
+      (agree-set (at + 2) (at + 3) _ (omega arith) (omega arith)
+      (agree-set (at + 1) (at + 2) _ (omega arith) (omega arith)
+      (agree-set at (at + 1) _ (omega arith) (omega arith) g)))))))
+
+  -- a row of words, word `at + i` being w i
+  module _ (at : ℕ) (w : ℕ → ℕ) (f : ℕ → List ℕ → List ℕ) (is : (i : ℕ) (b : List ℕ) → f i b ≡ putWord b (8 * (at + i)) (w i)) where
+    agree-row : (n i : ℕ) {a b : List ℕ} → 8 * (at + i + n) ≤ m → Agree m (8 * (at + i)) a b
+        → Agree m (8 * (at + i + n)) (times f n i a) (times f n i b)
+    unfolding times
+    agree-row zero i h g = agree-less _ (omega arith) g
+    agree-row (suc n) i {a} {b} h g =
+        agree-less _ (omega arith)
+        (agree-row n (i + 1) (omega arith)
+        (rw (is i a, is i b) (agree-less _ (omega arith) (agree-word (8 * (at + i)) (w i) (omega arith) g))))
+
+-- ---- the session
+
+kept-long : (s : Settings) (c : Common) (rtol atol : List Float) (b : List ℕ)
+    → length (keptOf s c rtol atol b) ≡ length b
+unfolding keptOf
+kept-long s c rtol atol b =
+    let x : Session = record { settings = s; common = c; phase = Phase.FirstDerivative } in
+    length-put-tolerances rtol atol (encodeOf x b) ∙ length-encode x b
+
+kept-fresh : (s : Settings) (c : Common) (rtol atol : List Float) (a b : List ℕ) → length a ≡ 1448 → length b ≡ 1448
+    → keptOf s c rtol atol a ≡ keptOf s c rtol atol b
+unfolding keptOf putTolerancesOf encodeOf putCountsOf putFloatsOf
+kept-fresh s c rtol atol a b p q =
+    let x : Session = record { settings = s; common = c; phase = Phase.FirstDerivative } in
+    let none : Agree 1448 (8 * (0 + 0)) a b =
+    record { room = omega arith; long = p ∙ sym q; same = λ i l. absurd (omega arith) } in
+    let counts =
+        agree-row 1448 0 (λ i. getD (countsOf x) i 0) (putCountAt (countsOf x)) (λ i b. rw (zero-add i)) 34 0 (lit≤ tt) none in
+    let floats = agree-row 1448 34 (slotOf (floatsOf x)) (putFloatAt 34 (floatsOf x)) (λ i b. refl) 19 0 (lit≤ tt) counts in
+    let rtols = agree-row 1448 53 (slotOf rtol) (putFloatAt 53 rtol) (λ i b. refl) 64 0 (lit≤ tt) floats in
+    let all = agree-row 1448 117 (slotOf atol) (putFloatAt 117 atol) (λ i b. refl) 64 0 (lit≤ tt) rtols in
+    ext-getD 0 (keptOf s c rtol atol a) (keptOf s c rtol atol b) (all .long)
+    (λ i l. all .same i (omega (arith, kept-long s c rtol atol a, l)))
+
+-- ---- the call
+
+module _ (p : Problem) where
+  abbrev n : ℕ
+  n = length (p .y0)
+
+  module _ (b : Buffers) (w : WellFormed p b) where
+    not-refused : refusalOf p b .number ≡ 0
+    not-refused = start-number-is p b .0 (well-formed p b .0 w) .1
+
+    began : startOf p b ≡ beganOf (settingsOf (p .x0) (p .xend) (p .options) (lengthsOf p b)) (p .x0)
+        (firstStepOf (p .options)) (p .y0) (p .rtol) (p .atol) b
+    unfolding startAt
+    began = some-start p b (w .states .0) ∙ rw (eq-eqb (refusalOf p b .number) 0 not-refused)
+
+    work-is : startOf p b .lent .work ≡ putPart (17 * n) n (replicate (n * n + 19 * n) zeroF) (p .y0)
+    unfolding beganOf settingsOf
+    work-is = ap (λ (x : Called). x .lent .work) began ∙ rw (fill-all (b .work), w .work)
+
+    pivots-are : startOf p b .lent .pivots ≡ replicate n 0
+    unfolding beganOf
+    pivots-are = ap (λ (x : Called). x .lent .pivots) began ∙ rw (clear-all (b .pivots), w .pivots)
+
+    reply-is : startOf p b .reply ≡ plainOf 100 0 zeroF (p .x0)
+    unfolding beganOf
+    reply-is = ap (λ (x : Called). x .reply) began
+
+    question-is : startOf p b .lent .question ≡ putPart 0 n (b .question) (p .y0)
+    unfolding beganOf
+    question-is = ap (λ (x : Called). x .lent .question) began
+
+    session-is : startOf p b .lent .session
+        ≡ let s = settingsOf (p .x0) (p .xend) (p .options) (lengthsOf p b) in
+        keptOf s (initialOf s (p .x0) (firstStepOf (p .options))) (p .rtol) (p .atol) (b .session)
+    unfolding beganOf
+    session-is = ap (λ (x : Called). x .lent .session) began
+
+  same-settings : (b c : Buffers) → settingsOf (p .x0) (p .xend) (p .options) (lengthsOf p b)
+      ≡ settingsOf (p .x0) (p .xend) (p .options) (lengthsOf p c)
+  unfolding settingsOf
+  same-settings b c = refl
+
+  pub starts-fresh : (b c : Buffers) → WellFormed p b → WellFormed p c → StartsFresh p b c
+  starts-fresh b c v w = record {
+    reply = reply-is b v ∙ sym (reply-is c w);
+    work = work-is b v ∙ sym (work-is c w);
+    pivots = pivots-are b v ∙ sym (pivots-are c w);
+    session = session-is b v ∙ kept-fresh _ _ (p .rtol) (p .atol) (b .session) (c .session) (v .session) (w .session)
+        ∙ rw (same-settings b c) (sym (session-is c w));
+    question = question-is b v;
+  }
