@@ -6,7 +6,7 @@ use mathlib.Core.Logic.{_⊎_, inl, inr}
 use mathlib.Core.Path.{_≡_, refl, ap, _∙_}
 use Prim.Native.Nat.{ℕ, zero, suc, _+_, _-_, _≤_, _<_}
 use native.Mathlib.Omega.{arith}
-use borrow.Author.Tests.{ltb-true, ltb-false, lt-ltb, eqb-true, eqb-false, le-leb, lt-leb}
+use borrow.Author.Tests.{ltb-true, ltb-false, eqb-true, eqb-false, le-leb, lt-leb}
 use lib.Dec.{eqb, leb, ltb}
 use lib.Ieee as Ieee
 use lib.Ieee.{Float}
@@ -29,12 +29,11 @@ use Rattle.verdict.specs.Verdict.{ratedOf, dconOf, estimatedOf, convergedOf, ol
 use Rattle.verdict.specs.Verdict.{strays, furtherOf, testedOf, ratedVerdict, judgeOf}
 use Rattle.verdict.proofs.Shared.{chosen}
 use Rattle.verdict.proofs.Laws.{Ways, converges, retries, fails, goes-on, judge-ways}
-use Rattle.attempt.specs.declared.Next.the-variants.{Pass, Restep, TooSmall, Poor}
-use Rattle.attempt.specs.Attempt.{Attempt, Moved, retractedOf, retractedWork, repredictOf}
+use Rattle.attempt.specs.declared.Next.the-variants.{Pass, TooSmall, Poor}
+use Rattle.attempt.specs.Attempt.{Attempt, retractedOf, retractedWork, repredictOf}
 use Rattle.attempt.specs.Attempt.{unconvergedOf, quarteredOf, noConvergenceAt, noConvergenceOf}
 use Rattle.attempt.specs.Attempt.{tenthOf, missedAt, missedOf, overshotOf, failedOf, loweredOf, restepOf}
-use Rattle.attempt.proofs.Laws.{unconverged, failed, restepped}
-use Rattle.family.specs.declared.Change.{Change}
+use Rattle.attempt.proofs.Laws.{unconverged, restepped}
 use Rattle.family.specs.declared.Change.the-variants.{Gap}
 use Rattle.family.specs.Family.{moveIf, toBdfOf, toAdamsAt, toAdamsOf, adamsProposalOf, changeIn, changeOf}
 use Rattle.family.specs.declared.Proposal.{Proposal}
@@ -46,10 +45,10 @@ use Rattle.acceptance.specs.Accept.{correctedOf, keepFamilyOf, testedOf as test
 use Rattle.acceptance.proofs.Laws.{accept-keeps}
 use Rattle.turns.specs.declared.Status.the-variants as Status
 use Rattle.turns.specs.Begin.{isGoing, isCut, cutOf, setupOf, preparedAt, preparedOf, predictedAt}
-use Rattle.rules.specs.Play.{Given, State, Play, finished, ret}
-use Rattle.rules.specs.Rules.{step, solveAt, solve, predicted, reportedState, reportOf, modified, restarted}
-use Rattle.rules.specs.Said.{Exactly, Tiny, floorOf, Old, RetrySaid, NoConvergenceSaid, ErrorSaid, SingleSaid}
-use Rattle.rules.specs.Said.{GapSaid, Going, BetweenSaid, OpenedSaid, StepSaid}
+use Rattle.rules.specs.Play.{Given, State, finished, ret}
+use Rattle.rules.specs.Rules.{step, solveAt, solve, predicted}
+use Rattle.rules.specs.Said.{Exactly, Tiny, floorOf, Old, NoConvergenceSaid, ErrorSaid, SingleSaid}
+use Rattle.rules.specs.Said.{GapSaid, BetweenSaid, OpenedSaid, StepSaid}
 
 -- ---- small laws
 
