@@ -110,7 +110,7 @@ module _ (s : Settings) (before : Phase) (kind : Kind) where
   unfolding noConvergenceAt attemptedAt finishedOf
   poor-at true c work e = (refl, refl, why (one-of _ _ e))
     where
-      why : (tinyOf s c ≡ true) ⊎ (eqb (c .ncf) (mxncfOf s) ≡ true) → (tinyOf s c ≡ true) ⊎ (c .ncf ≡ mxncfOf s)
+      why : (tinyOf c ≡ true) ⊎ (eqb (c .ncf) (mxncfOf s) ≡ true) → (tinyOf c ≡ true) ⊎ (c .ncf ≡ mxncfOf s)
       why (inl t) = inl t
       why (inr t) = inr (eqb-true _ _ t)
   poor-at false c work e = open-pass (s .n) _ _
@@ -119,7 +119,7 @@ module _ (s : Settings) (before : Phase) (kind : Kind) where
   unfolding unconvergedOf noConvergenceOf
   unconverged c work = poor-at (poorOf s (Attempt.unconvergedOf c)) (Attempt.unconvergedOf c) (retractedWork s c work) refl
 
-  missed-at : (tiny early last : Bool) (c : Common) (dsm : Float) (work : List Float) → tinyOf s c ≡ tiny
+  missed-at : (tiny early last : Bool) (c : Common) (dsm : Float) (work : List Float) → tinyOf c ≡ tiny
       → eqb (c .kflag) 10 ≡ last → Good (attemptedOf (s .n) (missedAt s dsm tiny early last c work) .turn)
   unfolding missedAt attemptedAt finishedOf askedInStepOf
   missed-at true early last c dsm work e f = (refl, refl, inl e)
@@ -131,7 +131,7 @@ module _ (s : Settings) (before : Phase) (kind : Kind) where
   unfolding failedOf missedOf
   failed c dsm work =
       let d = overshotOf c in
-      missed-at (tinyOf s d) (ltb (d .kflag) 3) (eqb (d .kflag) 10) d dsm (retractedWork s c work) refl refl
+      missed-at (tinyOf d) (ltb (d .kflag) 3) (eqb (d .kflag) 10) d dsm (retractedWork s c work) refl refl
 
   -- ---- acceptance
 

@@ -97,8 +97,8 @@ abbrev pub Ended : Settings → Phase → Kind → Status → Common → Type 0
 Ended s before kind Status.Success c = isGoing s c ≡ false
 Ended s before kind Status.Interrupted c = AtReport before × (kind ≡ Kind.Report Answer.Interrupt)
 Ended s before kind Status.NeedsMoreSteps c = (isGoing s c ≡ true) × (s .maxsteps ≤ c .nst)
-Ended s before kind Status.StepTooSmall c = (tinyOf s c ≡ true) ⊎ (c .kflag ≡ 10)
-Ended s before kind Status.PoorConvergence c = (tinyOf s c ≡ true) ⊎ (c .ncf ≡ mxncfOf s)
+Ended s before kind Status.StepTooSmall c = (tinyOf c ≡ true) ⊎ (c .kflag ≡ 10)
+Ended s before kind Status.PoorConvergence c = (tinyOf c ≡ true) ⊎ (c .ncf ≡ mxncfOf s)
 Ended s before kind Status.CoefficientGap c = (c .meth ≡ Bdf) × (6 ≤ c .nq) × (c .icount < 1000000)
 
 -- the question, the phase that waits for its reply, and the record then
