@@ -2,7 +2,7 @@
 -- Assumes nothing.
 use mathlib.Core.Bool.{Bool, true, false, cond, not, _&&_, _||_}
 use mathlib.Core.List.{List}
-use mathlib.Core.Logic.{_⊎_, inl, inr}
+use mathlib.Core.Logic.{_⊎_, _↔_, inl, inr}
 use mathlib.Core.Path.{_≡_, refl, ap, _∙_}
 use Prim.Native.Nat.{ℕ, zero, suc, _+_, _-_, _≤_, _<_}
 use native.Mathlib.Omega.{arith}
@@ -47,7 +47,7 @@ use Rattle.turns.specs.declared.Status.the-variants as Status
 use Rattle.turns.specs.Begin.{isGoing, isCut, cutOf, setupOf, preparedAt, preparedOf, predictedAt}
 use Rattle.rules.specs.Play.{Given, State, finished, ret}
 use Rattle.rules.specs.Rules.{step, solveAt, solve, predicted}
-use Rattle.rules.specs.Said.{Exactly, Tiny, floorOf, Old, NoConvergenceSaid, ErrorSaid, SingleSaid}
+use Rattle.rules.specs.Said.{Tiny, floorOf, Old, NoConvergenceSaid, ErrorSaid, SingleSaid}
 use Rattle.rules.specs.Said.{GapSaid, BetweenSaid, OpenedSaid, StepSaid}
 
 -- ---- small laws
@@ -115,8 +115,8 @@ retried (goes-on d m l j u) p = differs (cc)
 
 -- what is said beside the fields of `Unconverged`
 pub record Ends (s : Settings) (c : Common) (work : List Float) (a : Attempt) : Type 0 where
-  pub poor : Exactly (a .next ≡ Poor) (Tiny c ⊎ (c .ncf + 1 ≡ mxncfOf s))
-  pub again : Exactly (a .next ≡ Pass) ((Tiny c → ⊥) × (c .ncf + 1 ≡ mxncfOf s → ⊥))
+  pub poor : (a .next ≡ Poor) ↔ (Tiny c ⊎ (c .ncf + 1 ≡ mxncfOf s))
+  pub again : (a .next ≡ Pass) ↔ ((Tiny c → ⊥) × (c .ncf + 1 ≡ mxncfOf s → ⊥))
   pub time : a .next ≡ Poor → a .common .tn ≡ c .told
   pub retracted : a .next ≡ Poor → a .work ≡ retractColumnsOf (s .n) (c .nq) (c .nqnyh) work
   pub quarter : a .next ≡ Pass → a .common .h ≡ c .h ⊗ limitedOf (with-rmax d2 c) (maxOf d0·25 (floorOf c))
@@ -297,18 +297,16 @@ module _ (s : Settings) where
   move-other c dsm work false d rh order e = keep-other c dsm work e
 
   gap-many : (c : Common) (dsm : Float) (work : List Float) (many : Bool) → ltb 5 (c .nq) ≡ many
-      → Exactly
-      (testedFamily s c dsm work (cond many Gap (toAdamsAt s c dsm (adamsProposalOf s c dsm work))) .branch
-      ≡ CoefficientGap)
-      (6 ≤ c .nq)
+      → (testedFamily s c dsm work (cond many Gap (toAdamsAt s c dsm (adamsProposalOf s c dsm work))) .branch
+      ≡ CoefficientGap) ↔ (6 ≤ c .nq)
   unfolding testedFamily
   gap-many c dsm work true e = ((λ p. omega (arith, ltb-true 5 (c .nq) e)), (λ p. refl))
   gap-many c dsm work false e =
       ((λ p. absurd (move-other c dsm work _ _ _ _ p)), (λ p. absurd (omega (arith, ltb-false 5 (c .nq) e))))
 
   gap-in : (c : Common) (dsm : Float) (work : List Float) (m : MethodFamily)
-      → Exactly (testedFamily s c dsm work (changeIn m s c dsm work) .branch ≡ CoefficientGap)
-      ((m ≡ Bdf) × (6 ≤ c .nq))
+      → (testedFamily s c dsm work (changeIn m s c dsm work) .branch ≡ CoefficientGap)
+      ↔ ((m ≡ Bdf) × (6 ≤ c .nq))
   unfolding toBdfOf toAdamsOf
   gap-in c dsm work Adams = ((λ p. absurd (move-other c dsm work _ _ _ _ p)), (λ p. differs (cc)))
   gap-in c dsm work Bdf =
@@ -316,10 +314,8 @@ module _ (s : Settings) where
       ((λ p. (refl, g .0 p)), (λ p. g .1 (p .1)))
 
   gap-below : (c : Common) (dsm : Float) (work : List Float) (below : Bool) → ltb (c .icount) 1000000 ≡ below
-      → Exactly
-      (cond below (testedFamily s c dsm work (changeOf s c dsm work)) (keepFamilyOf s c dsm work) .branch
-      ≡ CoefficientGap)
-      ((c .meth ≡ Bdf) × (6 ≤ c .nq) × (c .icount < 1000000))
+      → (cond below (testedFamily s c dsm work (changeOf s c dsm work)) (keepFamilyOf s c dsm work) .branch
+      ≡ CoefficientGap) ↔ ((c .meth ≡ Bdf) × (6 ≤ c .nq) × (c .icount < 1000000))
   unfolding changeOf
   gap-below c dsm work true e =
       let g = gap-in c dsm work (c .meth) in

@@ -4,7 +4,7 @@
 -- scope's -3 is 3), and icount is kept with 1,000,000 added.
 use mathlib.Core.Bool.{true, false}
 use mathlib.Core.List.{List}
-use mathlib.Core.Logic.{_⊎_}
+use mathlib.Core.Logic.{_⊎_, _↔_}
 use mathlib.Core.Path.{_≡_}
 use Prim.Native.Nat.{ℕ, suc, _+_, _-_, _≤_, _<_}
 use lib.Ieee as Ieee
@@ -32,9 +32,6 @@ use Rattle.turns.specs.declared.Status.the-variants as Status
 use Rattle.rules.specs.Play.{Given, State, Report, finished, ret}
 use Rattle.rules.specs.Rules.{predicted, step, solve, reportedState, reportOf, modified, restarted}
 
-abbrev pub Exactly : Type 0 → Type 0 → Type 0
-Exactly P Q = (P → Q) × (Q → P)
-
 -- |h| ≤ hmin·1.00001
 abbrev pub Tiny : Common → Type 0
 Tiny c = Ieee.le (absOf (c .h)) (c .hmin ⊗ d1·00001) ≡ true
@@ -56,8 +53,8 @@ pub record RetrySaid (c : Common) (v : Verdict) : Type 0 where
 -- Jacobian due; it ends poor at the mxncf-th such pass or when |h| ≤ hmin·1.00001, and that last pass isn't counted
 -- rejected'
 pub record NoConvergenceSaid (s : Settings) (c : Common) (work : List Float) (a : Attempt) : Type 0 where
-  pub poor : Exactly (a .next ≡ Poor) (Tiny c ⊎ (c .ncf + 1 ≡ mxncfOf s))
-  pub again : Exactly (a .next ≡ Pass) ((Tiny c → ⊥) × (c .ncf + 1 ≡ mxncfOf s → ⊥))
+  pub poor : (a .next ≡ Poor) ↔ (Tiny c ⊎ (c .ncf + 1 ≡ mxncfOf s))
+  pub again : (a .next ≡ Pass) ↔ ((Tiny c → ⊥) × (c .ncf + 1 ≡ mxncfOf s → ⊥))
   pub count : a .common .ncf ≡ c .ncf + 1
   pub time : a .next ≡ Poor → a .common .tn ≡ c .told
   pub retracted : a .next ≡ Poor → a .work ≡ retractColumnsOf (s .n) (c .nq) (c .nqnyh) work
@@ -70,9 +67,9 @@ pub record NoConvergenceSaid (s : Settings) (c : Common) (work : List Float) (a 
 -- 'Error above 1 retracts and lowers kflag; it ends too small at |h| ≤ hmin·1.00001 or -10. From -3 to -9 h falls to a
 -- tenth (not below hmin), one derivative is requested'
 pub record ErrorSaid (s : Settings) (c : Common) (work : List Float) (a : Attempt) : Type 0 where
-  pub small : Exactly (a .next ≡ TooSmall) (Tiny c ⊎ (c .kflag + 1 ≡ 10))
-  pub single : Exactly (a .next ≡ Restep) ((Tiny c → ⊥) × (3 ≤ c .kflag + 1) × (c .kflag + 1 ≤ 9))
-  pub again : Exactly (a .next ≡ Pass) ((Tiny c → ⊥) × (c .kflag + 1 < 3))
+  pub small : (a .next ≡ TooSmall) ↔ (Tiny c ⊎ (c .kflag + 1 ≡ 10))
+  pub single : (a .next ≡ Restep) ↔ ((Tiny c → ⊥) × (3 ≤ c .kflag + 1) × (c .kflag + 1 ≤ 9))
+  pub again : (a .next ≡ Pass) ↔ ((Tiny c → ⊥) × (c .kflag + 1 < 3))
   pub count : a .common .kflag ≡ c .kflag + 1
   pub rejected : a .common .rejected ≡ c .rejected + 1
   pub order : a .common .nq ≡ c .nq
@@ -91,7 +88,7 @@ pub record SingleSaid (c : Common) (m : Moved) : Type 0 where
 -- 'In family 2, accepted at order 6 or more with icount below 0 .. we end as coefficient gap, accepted count raised,
 -- total as before'
 pub record GapSaid (c : Common) (r : Settled) : Type 0 where
-  pub gap : Exactly (r .branch ≡ CoefficientGap) ((c .meth ≡ Bdf) × (6 ≤ c .nq) × (c .icount - 1 < 1000000))
+  pub gap : (r .branch ≡ CoefficientGap) ↔ ((c .meth ≡ Bdf) × (6 ≤ c .nq) × (c .icount - 1 < 1000000))
   pub accepted : r .common .nst ≡ c .nst + 1
   pub total : r .common .total ≡ c .total
 
