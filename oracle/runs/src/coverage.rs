@@ -53,6 +53,9 @@ pub enum Row {
 const IMPOSSIBLE: [Row; 2] =
     [Row::Choice { family: 1, branch: CoefficientGap }, Row::Choice { family: 2, branch: HeldBySm1 }];
 
+/// Rows that whole runs must reach: a crafted step has an icount and a Jacobian of any age without a run behind it.
+const IN_RUNS: [Row; 1] = [Row::EntersOnOldFactoring];
+
 impl Row {
     fn all() -> Vec<Row> {
         let branches = [Unchanged, SmallGain, Lowered, Kept, Raised, HeldBySm1, FamilyChanged, CoefficientGap];
@@ -134,17 +137,23 @@ impl Coverage {
         }
     }
 
+    /// How many runs and how many steps reached a row, and whether that is too little.
+    fn reached(&self, row: Row) -> ([u64; 2], bool) {
+        let [runs, steps] = self.0.get(&row).copied().unwrap_or_default();
+        ([runs, steps], runs + steps == 0 || (runs == 0 && IN_RUNS.contains(&row)))
+    }
+
     /// How many rows there are, and how many of them are empty.
     pub fn rows(&self) -> (usize, usize) {
         let all = Row::all();
-        (all.len(), all.iter().filter(|row| !self.0.contains_key(row)).count())
+        (all.len(), all.iter().filter(|&&row| self.reached(row).1).count())
     }
 
     pub fn print(&self) {
         println!("{:<48} {:>10} {:>10}", "reached by", "runs", "steps");
         for row in Row::all() {
-            let [runs, steps] = self.0.get(&row).copied().unwrap_or_default();
-            let remark = if runs + steps == 0 { "   EMPTY" } else { "" };
+            let ([runs, steps], empty) = self.reached(row);
+            let remark = if empty { "   EMPTY" } else { "" };
             println!("{:<48} {runs:>10} {steps:>10}{remark}", row.to_string());
         }
     }

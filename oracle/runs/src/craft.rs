@@ -239,8 +239,8 @@ fn near(random: &mut Random, lent: &mut Lent, n: usize, step: f64, correction: f
     Shape::Near { slopes, noise, centre: predicted[..n].to_vec(), pull }
 }
 
-/// A step whose numbers have few digits, at order 1 or 2, so that what the tests compare comes out at their bounds exactly:
-/// an error of 1, corrections that grow by 2 or by 1024.
+/// A step whose numbers have few digits, at order 1 or 2, so that what the tests compare comes out at their bounds
+/// exactly: an error of 1, corrections that grow by 2 or by 1024.
 fn even(random: &mut Random, lent: &mut Lent, n: usize) -> Shape {
     let power =
         |random: &mut Random, low: i32, high: i32| 2f64.powi(random.within(0, (high - low) as usize) as i32 + low);
