@@ -35,9 +35,9 @@ use Rattle.answers.specs.Answers.{statusNumber, answerOf}
 use Rattle.answers.specs.Called.{Buffers, Called}
 use Rattle.replies.specs.Replies.{isKind}
 use Rattle.raimsklo.specs.Calls.{Problem, startOf}
-use Rattle.calls.specs.Run.{Begins, ReplyCall, TimesFit, answered, lastOf}
+use Rattle.calls.specs.Run.{Begins, ReplyCall, TimesFit, lastBy, ours, answered, lastOf}
 use Rattle.calls.specs.Follow.{treeOf, isStep, saidAt, fedAs}
-use Rattle.calls.specs.Demands.{marks, countedBy, stepsOf, isReport, CappedAt, CallsCapped}
+use Rattle.calls.specs.Demands.{marks, countedBy, stepsBy, isReport, CappedAt, CallsCapped}
 use Rattle.calls.proofs.Said.{fits}
 use Rattle.calls.proofs.Keeps.{Runs}
 use Rattle.calls.proofs.Start.{given, from, begun-run}
@@ -187,11 +187,12 @@ module _ (g : Given) (a : Start) (run : Runs g a) where
 
   abbrev Stands : List ReplyCall → Type 0
   Stands rs = (t : Play) (l : Left) (x : Called) (zs : List Step) → At g a run t l x → Last t x → Here g t zs
-      → Stood (lastOf x rs) (stepsOf t zs x rs)
+      → Stood (lastOf x rs) (stepsBy ours t zs x rs)
 
   stands-by : (r : ReplyCall) (rs : List ReplyCall) → Stands rs → (t : Play) (l : Left) (x : Called) (zs : List Step)
-      → At g a run t l x → Here g t zs → Outcome g a run t l x r → Stood (lastOf x (r ∷ rs)) (stepsOf t zs x (r ∷ rs))
-  unfolding lastOf stepsOf
+      → At g a run t l x → Here g t zs → Outcome g a run t l x r
+      → Stood (lastOf x (r ∷ rs)) (stepsBy ours t zs x (r ∷ rs))
+  unfolding lastBy stepsBy
   stands-by r rs ih t l x zs at h (unsized s e) =
       rw e (ih t l (leaves g a run x r 3) zs (at-leaves g a run r 3 at) (inr (inl refl)) h)
   stands-by r rs ih t l x zs at h (refused s e q) =
@@ -207,7 +208,7 @@ module _ (g : Given) (a : Start) (run : Runs g a) where
       (arrives (Demand3At g) n u y zs spoken (leads (Demand3At g) n t (fedAs r) zs asked h)))
 
   stands-all : (rs : List ReplyCall) → TimesFit rs → Stands rs
-  unfolding lastOf stepsOf
+  unfolding lastBy stepsBy
   stands-all [] f t l x zs at k h = record { node = t; left = l; at = at; last = k; here = h }
   stands-all (r ∷ rs) f t l x zs at k h =
       stands-by r rs (stands-all rs (f .1)) t l x zs at h (call g a run t l x r (f .0) at)

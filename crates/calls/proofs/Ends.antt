@@ -24,7 +24,7 @@ use Rattle.follows.specs.Stands.{startedAt}
 use Rattle.answers.specs.Called.{Buffers, Called}
 use Rattle.replies.specs.Replies.{isKind}
 use Rattle.raimsklo.specs.Calls.{Problem, startOf}
-use Rattle.calls.specs.Run.{Begins, ReplyCall, TimesFit, answered, callsOf, lastOf}
+use Rattle.calls.specs.Run.{Begins, ReplyCall, TimesFit, callsBy, answered, callsOf, lastOf}
 use Rattle.calls.specs.Follow.{treeOf, fedAs, isAnswer, isSized, standsAt, Refused}
 use Rattle.calls.specs.Demands.{isEnd, hasEnd, wants, AllWanted, Unless, CallsEnd}
 use Rattle.calls.proofs.Keeps.{Runs}
@@ -142,7 +142,7 @@ module _ (g : Given) (a : Start) (run : Runs g a) where
       (xs : List Step) → At g a run t l x → Spoken n t x → (b : Bool) → isEnd (x .reply) ≡ b
       → Unless b ((wants n (x .reply .number) r ≡ true) × (isSized n r ≡ true) × AllWanted n (answered x r) rs)
       → HasEnded (fed n t xs (feds (r ∷ rs)) .play) → Ended x (r ∷ rs)
-  unfolding callsOf hasEnd
+  unfolding callsBy hasEnd
   ends-by r rs f ih t l x xs at k true e w h = rw e
   ends-by r rs f ih t l x xs at k false e w h =
       let o = wanted-onward t l x r f at k (w .0) (w .1) in
@@ -151,7 +151,7 @@ module _ (g : Given) (a : Start) (run : Runs g a) where
       (or-right (isEnd (x .reply)))
 
   ends-all : (rs : List ReplyCall) → TimesFit rs → Ends rs
-  unfolding callsOf hasEnd
+  unfolding callsBy hasEnd
   ends-all [] f t l x xs at k w h = rw (node-end n g t l x (at .stands) k (fed-none n t xs h))
   ends-all (r ∷ rs) f t l x xs at k w h =
       ends-by r rs (f .0) (ends-all rs (f .1)) t l x xs at k (isEnd (x .reply)) refl w h
@@ -174,7 +174,7 @@ module _ (g : Given) (a : Start) (run : Runs g a) where
 
   over-by : (r : ReplyCall) (rs : List ReplyCall) → Over rs → (t : Play) (l : Left) (x : Called) → At g a run t l x
       → Outcome g a run t l x r → hasEnd (callsOf x (r ∷ rs)) ≡ true → EndedAt (standsAt n t (r ∷ rs))
-  unfolding callsOf hasEnd standsAt
+  unfolding callsBy hasEnd standsAt
   over-by r rs ih t l x at (unsized s e) h =
       rw s (ih t l (leaves g a run x r 3) (at-leaves g a run r 3 at) (rw e at h))
   over-by r rs ih t l x at (refused s e q) h =
@@ -195,7 +195,7 @@ module _ (g : Given) (a : Start) (run : Runs g a) where
       by false i o = ih (step t (fedAs r)) (next g l (fedAs r)) (answered x r) on o
 
   over-all : (rs : List ReplyCall) → TimesFit rs → Over rs
-  unfolding callsOf hasEnd
+  unfolding callsBy hasEnd
   over-all [] f t l x at h = absurd (true≢false (sym h))
   over-all (r ∷ rs) f t l x at h =
       over-by r rs (over-all rs (f .1)) t l x at (call g a run t l x r (f .0) at) h

@@ -24,7 +24,8 @@ use Rattle.follows.specs.Stands.{startedAt}
 use Rattle.answers.specs.Answers.{statusNumber, answerOf}
 use Rattle.answers.specs.Called.{Buffers, Called}
 use Rattle.raimsklo.specs.Calls.{Problem, startOf}
-use Rattle.calls.specs.Run.{Begins, ReplyCall, TimesFit, answered, callsOf, lastOf, isRefusal, takenOf}
+use Rattle.calls.specs.Run.{Begins, ReplyCall, TimesFit, callsBy, lastBy, answered, callsOf, lastOf}
+use Rattle.calls.specs.Run.{isRefusal, takenOf}
 use Rattle.calls.specs.Follow.{treeOf, saidBy, fedAs, toldBy, fedTo, standsAt}
 use Rattle.calls.specs.Follow.{heardOf, Refused, CallsFollow}
 use Rattle.calls.proofs.Turns.{Agrees, Well}
@@ -78,14 +79,14 @@ module _ (g : Given) (a : Start) (run : Runs g a) where
 
   answers-one : (r : ReplyCall) (rs : List ReplyCall) (t : Play) (l : Left) (x : Called) → Run t l x → Answers rs
       → Next t l x r → map saidBy (callsOf x (r ∷ rs)) ≡ toldBy n t (r ∷ rs)
-  unfolding callsOf toldBy
+  unfolding callsBy toldBy
   answers-one r rs t l x at ih (unsized s e) = rw (e, s, ih t l (left x r 3) (at-leaves g a run r 3 at))
   answers-one r rs t l x at ih (refused s e q) = rw (q, s, e, ih t l (left x r 14) (at-leaves g a run r 14 at))
   answers-one r rs t l x at ih (taken s e on q w h) =
       rw (s, e, h, ih (step t (fedAs r)) (next g l (fedAs r)) (answered x r) on)
 
   answers-all : (rs : List ReplyCall) → TimesFit rs → Answers rs
-  unfolding callsOf toldBy
+  unfolding callsBy toldBy
   answers-all [] f t l x at = refl
   answers-all (r ∷ rs) f t l x at =
       answers-one r rs t l x at (answers-all rs (f .1)) (call g a run t l x r (f .0) at)
@@ -118,14 +119,14 @@ module _ (g : Given) (a : Start) (run : Runs g a) where
 
   stays-one : (r : ReplyCall) (rs : List ReplyCall) (t : Play) (l : Left) (x : Called) → Run t l x → Stays rs
       → Next t l x r → Ends (standsAt n t (r ∷ rs)) (lastOf x (r ∷ rs))
-  unfolding standsAt lastOf
+  unfolding standsAt lastBy
   stays-one r rs t l x at ih (unsized s e) = rw (e, s) (ih t l (left x r 3) (at-leaves g a run r 3 at))
   stays-one r rs t l x at ih (refused s e q) = rw (q, s, e) (ih t l (left x r 14) (at-leaves g a run r 14 at))
   stays-one r rs t l x at ih (taken s e on q w h) =
       rw (s, e) (ih (step t (fedAs r)) (next g l (fedAs r)) (answered x r) on)
 
   pub stays-all : (rs : List ReplyCall) → TimesFit rs → Stays rs
-  unfolding standsAt lastOf
+  unfolding standsAt lastBy
   stays-all [] f t l x at = (l, at)
   stays-all (r ∷ rs) f t l x at = stays-one r rs t l x at (stays-all rs (f .1)) (call g a run t l x r (f .0) at)
 
@@ -164,8 +165,24 @@ calls-follow p b begins =
     let run = begun-run p b begins in
     let at = begun-at p b begins in
     record {
-      first = begun-says p b begins;
-      answers = λ rs f. answers-all g a run rs f (treeOf p b) (startedAt g a) (startOf p b) at;
+      demand = record {
+        first = begun-says p b begins;
+        answers = λ rs f. answers-all g a run rs f (treeOf p b) (startedAt g a) (startOf p b) at;
+        session = λ rs f.
+            let z = stays-all g a run rs f (treeOf p b) (startedAt g a) (startOf p b) at in
+            let k = z .1 .keeps in
+            let h = fits g (standsAt (g .s .n) (treeOf p b) rs) (z .0) (z .1 .stands) .holds in
+            let phase = ap (λ (x : Session). x .phase) (k .decoded) in
+            record {
+              sized = k .long;
+              settings = ap (λ (x : Session). x .settings) (k .decoded);
+              common = ap (λ (x : Session). x .common) (k .decoded) ∙ h .common;
+              phase = rw phase (z .1 .phased);
+              takes = λ r. rw phase (h .takes r);
+              rtol = k .slots .0;
+              atol = k .slots .1;
+            };
+      };
       taken = λ rs f. taken-all g a run rs f (treeOf p b) (startedAt g a) (startOf p b) at;
       work = λ rs f.
           let z = stays-all g a run rs f (treeOf p b) (startedAt g a) (startOf p b) at in
@@ -173,20 +190,6 @@ calls-follow p b begins =
       pivots = λ rs f.
           let z = stays-all g a run rs f (treeOf p b) (startedAt g a) (startOf p b) at in
           z .1 .pivots ∙ fits g (standsAt (g .s .n) (treeOf p b) rs) (z .0) (z .1 .stands) .holds .ipiv;
-      session = λ rs f.
-          let z = stays-all g a run rs f (treeOf p b) (startedAt g a) (startOf p b) at in
-          let k = z .1 .keeps in
-          let h = fits g (standsAt (g .s .n) (treeOf p b) rs) (z .0) (z .1 .stands) .holds in
-          let phase = ap (λ (x : Session). x .phase) (k .decoded) in
-          record {
-            sized = k .long;
-            settings = ap (λ (x : Session). x .settings) (k .decoded);
-            common = ap (λ (x : Session). x .common) (k .decoded) ∙ h .common;
-            phase = rw phase (z .1 .phased);
-            takes = λ r. rw phase (h .takes r);
-            rtol = k .slots .0;
-            atol = k .slots .1;
-          };
       refused = λ rs r f t i.
           let z = stays-all g a run rs f (treeOf p b) (startedAt g a) (startOf p b) at in
           refused-one g a run r _ (z .0) _ (call g a run _ (z .0) _ r t (z .1)) i;

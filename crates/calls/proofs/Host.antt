@@ -1,4 +1,5 @@
 -- A host of one state through the calls does what it does to the machine, as long as each of its replies is asked for.
+--     hosted          what the machine leaves after a list of acts
 --     allowed         each reply is asked for, and `continues` comes at a report
 --     Host, hosts     where the calls stand, and after a list of acts
 -- Assumes nothing.
@@ -25,7 +26,6 @@ use Rattle.rules.specs.Rules.{Start}
 use Rattle.follows.specs.Seen.{Shown, snapshotOf, shownAs, isTaken, next, step}
 use Rattle.follows.specs.Stands.{derivative, answer}
 use Rattle.follows.specs.Follows.{stateAt}
-use Rattle.follows.specs.Sums.{Act, gives, continues, acted, hosted}
 use Rattle.answers.specs.declared.Reply.{Reply}
 use Rattle.answers.specs.Answers.{answerOf}
 use Rattle.answers.specs.Called.{Called}
@@ -35,13 +35,21 @@ use Rattle.fits.proofs.Floats.{literal}
 use Rattle.fits.proofs.Host.{fits-is-f64}
 use Rattle.calls.specs.Run.{ReplyCall, answered}
 use Rattle.calls.specs.Follow.{Said, saidBy, saidOf, saidAt, fedAs, isSized}
-use Rattle.calls.specs.Sums.{replyWith, actedBy, hostedBy}
+use Rattle.calls.specs.Sums.{Act, gives, continues, replyWith, actedBy, hostedBy}
 use Rattle.calls.proofs.Turns.{Agrees}
 use Rattle.calls.proofs.Said.{fits}
 use Rattle.calls.proofs.Keeps.{Runs}
 use Rattle.calls.proofs.Walk.{At, Outcome, unsized, refused, taken, call}
 
 -- ---- the acts
+
+abbrev pub acted : Given → Left → Act → Left
+acted g l (gives f) = next g l (derivative (f ∷ []) zeroF)
+acted g l continues = next g l (answer Continue (y (g .s .n) (l .work)) (l .turn .common .tn))
+
+unfoldable pub hosted : Given → Left → List Act → Left
+hosted g l [] = l
+hosted g l (a ∷ acts) = hosted g (acted g l a) acts
 
 abbrev pub isReported : Question → Bool
 isReported (Question.Derivative a) = false
@@ -117,8 +125,9 @@ module _ (g : Given) (a : Start) (run : Runs g a) (one : g .s .n ≡ 1) where
       ∙ ap (λ (v : Shown). saidOf (g .s .n) (stateAt (h .node) .c .nq) v (h .question))
       (sym (fits g (h .node) l (h .at .stands) .shows))
 
-  sized : (kind : ℕ) (numbers : List Float) (time : Float) → isSized (g .s .n) (replyWith kind numbers time) ≡ true
-  sized kind numbers time = rw one refl
+  sized : (kind : ℕ) (numbers : List Float) (time : Float) (q : List Float) → length q ≡ 20
+      → isSized (g .s .n) (replyWith kind numbers time q) ≡ true
+  sized kind numbers time q long = rw (one, long) refl
 
   goes-by : (l : Left) (x : Called) (r : ReplyCall) (h : Host l x) → isSized (g .s .n) r ≡ true
       → isKind (r .kind) ≡ true → isTaken g l (fedAs r) ≡ true → Outcome g a run (h .node) l x r
@@ -140,11 +149,12 @@ module _ (g : Given) (a : Start) (run : Runs g a) (one : g .s .n ≡ 1) where
       → isKind (r .kind) ≡ true → isTaken g l (fedAs r) ≡ true → Host (next g l (fedAs r)) (answered x r)
   goes l x r f h s k t = goes-by l x r h s k t (call g a run (h .node) l x r f (h .at))
 
-  acts : (l : Left) (x : Called) (v : Act) → Host l x → isFine g l v ≡ true → Host (acted g l v) (actedBy x v)
+  acts : (l : Left) (x : Called) (v : Act) (q : List Float) → length q ≡ 20 → Host l x → isFine g l v ≡ true
+      → Host (acted g l v) (actedBy x v q)
   unfolding kindOf
-  acts l x (gives f) h e =
-      goes l x (replyWith 1 (f ∷ []) zeroF) (fits-is-f64 _ (literal 0)) h (sized 1 (f ∷ []) zeroF) refl e
-  acts l x continues h e =
+  acts l x (gives f) q long h e =
+      goes l x (replyWith 1 (f ∷ []) zeroF q) (fits-is-f64 _ (literal 0)) h (sized 1 (f ∷ []) zeroF q long) refl e
+  acts l x continues q long h e =
       let w = both (isReported (l .turn .question)) _ e in
       let v = l .turn .question in
       let c = l .turn .common in
@@ -156,13 +166,13 @@ module _ (g : Given) (a : Start) (run : Runs g a) (one : g .s .n ≡ 1) where
       let time : x .reply .time ≡ c .tn =
       ap (λ (z : Reply). z .time) (h .answer) ∙ reads-time v (l .turn .phase) c (w .0) (h .agrees) in
       rw (ap (λ (k : ℕ). part 0 k (x .lent .question)) (sym one) ∙ first, time)
-      (goes l x (replyWith 3 state (c .tn)) (fits-is-f64 _ (h .at .keeps .floats .tn)) h (sized 3 state (c .tn)) refl
-      (w .1))
+      (goes l x (replyWith 3 state (c .tn) q) (fits-is-f64 _ (h .at .keeps .floats .tn)) h
+      (sized 3 state (c .tn) q long) refl (w .1))
 
-  pub hosts : (vs : List Act) (l : Left) (x : Called) → Host l x → allowed g l vs ≡ true
-      → Host (hosted g l vs) (hostedBy x vs)
+  pub hosts : (q : ℕ → List Float) → ((i : ℕ) → length (q i) ≡ 20) → (vs : List Act) (i : ℕ) (l : Left) (x : Called)
+      → Host l x → allowed g l vs ≡ true → Host (hosted g l vs) (hostedBy x i q vs)
   unfolding allowed hosted hostedBy
-  hosts [] l x h e = h
-  hosts (v ∷ vs) l x h e =
+  hosts q long [] i l x h e = h
+  hosts q long (v ∷ vs) i l x h e =
       let w = both (isFine g l v) (allowed g (acted g l v) vs) e in
-      hosts vs (acted g l v) (actedBy x v) (acts l x v h (w .0)) (w .1)
+      hosts q long vs (i + 1) (acted g l v) (actedBy x v (q i)) (acts l x v (q i) (long i) h (w .0)) (w .1)

@@ -22,3 +22,4 @@ pub mod ReplyGap
 pub mod ReplyTurns
 pub mod ReplyMeans
 pub mod ReplyFirst
+pub mod Fakes

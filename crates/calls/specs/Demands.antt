@@ -18,7 +18,7 @@ use Rattle.follows.specs.Seen.{step}
 use Rattle.answers.specs.declared.Reply.{Reply}
 use Rattle.answers.specs.Called.{Buffers, Called}
 use Rattle.raimsklo.specs.Calls.{Problem, startOf}
-use Rattle.calls.specs.Run.{ReplyCall, TimesFit, answered, callsOf, lastOf, isRefusal}
+use Rattle.calls.specs.Run.{ReplyCall, TimesFit, Solver, answeredBy, ours, answered, callsOf, lastOf, isRefusal}
 use Rattle.calls.specs.Follow.{givenOf, treeOf, fedAs, isSized, Refused}
 
 -- ---- demand 1
@@ -73,15 +73,21 @@ abbrev pub countedBy : Reply → List Step → List Step
 countedBy a xs = cond (eqb (a .number) 100) (noted (derivativeAt (a .time) []) xs) xs
 
 -- the steps after a list of calls; t is where the tree stands, xs the steps so far, x the call before
-unfoldable pub stepsOf : Play → List Step → Called → List ReplyCall → List Step
-stepsOf t xs x [] = xs
-stepsOf t xs x (r ∷ rs) =
-    cond (isRefusal (answered x r .reply)) (stepsOf t xs (answered x r) rs)
-    (stepsOf (step t (fedAs r)) (countedBy (answered x r .reply) (marks (step t (fedAs r)) xs)) (answered x r) rs)
+unfoldable pub stepsBy : Solver → Play → List Step → Called → List ReplyCall → List Step
+stepsBy f t xs x [] = xs
+stepsBy f t xs x (r ∷ rs) =
+    let y = answeredBy f x r in
+    cond (isRefusal (y .reply)) (stepsBy f t xs y rs)
+    (stepsBy f (step t (fedAs r)) (countedBy (y .reply) (marks (step t (fedAs r)) xs)) y rs)
 
--- the steps of a run
+-- the steps of a run of a solver, and of ours
+abbrev pub stepsSeen : Solver → Problem → Buffers → List ReplyCall → List Step
+stepsSeen f p b rs =
+    let x = f .start p b in
+    stepsBy f (treeOf p b) (countedBy (x .reply) (marks (treeOf p b) [])) x rs
+
 abbrev pub stepsIn : Problem → Buffers → List ReplyCall → List Step
-stepsIn p b rs = stepsOf (treeOf p b) (countedBy (startOf p b .reply) (marks (treeOf p b) [])) (startOf p b) rs
+stepsIn p b rs = stepsSeen ours p b rs
 
 abbrev pub isReport : Reply → Bool
 isReport a = eqb (a .number) 102 || eqb (a .number) 103

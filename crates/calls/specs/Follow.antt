@@ -30,7 +30,8 @@ use Rattle.answers.specs.Answers.{plainOf, endOf}
 use Rattle.answers.specs.Called.{Buffers, Called}
 use Rattle.replies.specs.Replies.{isKind, kindOf}
 use Rattle.raimsklo.specs.Calls.{Problem, lengthsOf, startOf}
-use Rattle.calls.specs.Run.{ReplyCall, TimesFit, lentFor, answered, callsOf, lastOf, isRefusal, takenOf}
+use Rattle.calls.specs.Run.{ReplyCall, TimesFit, Solver, lentFor, callsBy, lastBy, ours, answered, lastOf}
+use Rattle.calls.specs.Run.{isRefusal, takenOf}
 
 -- ---- the tree of a run, from the start's arguments
 
@@ -146,8 +147,8 @@ heardOf x (r ∷ rs) =
 abbrev pub TakesDerivative : Phase → Type 0
 TakesDerivative phase = (len n : ℕ) → isAsked phase Kind.Derivative len n ≡ eqb len n
 
--- the phase in which the node's reply is awaited. A derivative's asks for it at the node's state: in a difference column
--- at the perturbed one, else at y.
+-- the phase in which the node's reply is awaited. A derivative's asks for it at the node's state: in a difference
+-- column at the perturbed one, else at y.
 abbrev pub PhaseAt : ℕ → Play → Phase → Type 0
 PhaseAt n (ret e) phase = phase ≡ Phase.Finished
 PhaseAt n (ask (derivativeAt t v) x k) phase = TakesDerivative phase × (v ≡ wantedAt n phase (x .w))
@@ -177,12 +178,20 @@ pub record Refused (x : Called) (r : ReplyCall) : Type 0 where
   pub number : (answered x r .reply .number ≡ 3) ⊎ (answered x r .reply .number ≡ 14)
   pub unchanged : answered x r .lent ≡ lentFor x r
 
-pub record CallsFollow (p : Problem) (b : Buffers) : Type 0 where
+-- demand 2, for the calls of any solver
+pub record Demand2 (f : Solver) (p : Problem) (b : Buffers) : Type 0 where
   -- the start
-  pub first : saidBy (startOf p b) ≡ saidAt (length (p .y0)) (treeOf p b) (b .question)
+  pub first : saidBy (f .start p b) ≡ saidAt (length (p .y0)) (treeOf p b) (b .question)
   -- any replies, refused ones included
   pub answers : (rs : List ReplyCall) → TimesFit rs
-      → map saidBy (callsOf (startOf p b) rs) ≡ toldBy (length (p .y0)) (treeOf p b) rs
+      → map saidBy (callsBy f (f .start p b) rs) ≡ toldBy (length (p .y0)) (treeOf p b) rs
+  -- what the session decodes to, at an end too
+  pub session : (rs : List ReplyCall) → TimesFit rs
+      → SessionAt p b (standsAt (length (p .y0)) (treeOf p b) rs) (lastBy f (f .start p b) rs .lent .session)
+
+-- and for ours
+pub record CallsFollow (p : Problem) (b : Buffers) : Type 0 where
+  pub demand : Demand2 ours p b
   -- the replies not refused, fed to the tree
   pub taken : (rs : List ReplyCall) → TimesFit rs
       → heardOf (startOf p b) rs ≡ fedTo (length (p .y0)) (treeOf p b) (takenOf (startOf p b) rs)
@@ -191,9 +200,6 @@ pub record CallsFollow (p : Problem) (b : Buffers) : Type 0 where
       → lastOf (startOf p b) rs .lent .work ≡ stateAt (standsAt (length (p .y0)) (treeOf p b) rs) .w
   pub pivots : (rs : List ReplyCall) → TimesFit rs
       → lastOf (startOf p b) rs .lent .pivots ≡ stateAt (standsAt (length (p .y0)) (treeOf p b) rs) .p
-  -- and what the session decodes to, at an end too
-  pub session : (rs : List ReplyCall) → TimesFit rs
-      → SessionAt p b (standsAt (length (p .y0)) (treeOf p b) rs) (lastOf (startOf p b) rs .lent .session)
   -- refused ones change nothing
   pub refused : (rs : List ReplyCall) (r : ReplyCall) → TimesFit rs → IsF64 (r .time)
       → isRefusal (answered (lastOf (startOf p b) rs) r .reply) ≡ true → Refused (lastOf (startOf p b) rs) r

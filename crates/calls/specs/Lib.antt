@@ -8,3 +8,4 @@ pub mod Sums
 pub mod ReplyRefused
 pub mod ReplyMeans
 pub mod ReplyFirst
+pub mod Fakes

@@ -10,7 +10,7 @@ use Rattle.follows.specs.Seen.{keepIf}
 use Rattle.fits.specs.Host.{IsF64, AreF64}
 use Rattle.answers.specs.declared.Reply.{Reply}
 use Rattle.answers.specs.Called.{Buffers, Called}
-use Rattle.raimsklo.specs.Calls.{Problem, replyOf}
+use Rattle.raimsklo.specs.Calls.{Problem, startOf, replyOf}
 use Rattle.calls.specs.WellFormed.{WellFormed}
 
 -- ---- the start
@@ -43,7 +43,11 @@ abbrev pub TimesFit : List ReplyCall → Type 0
 TimesFit [] = Unit {0}
 TimesFit (r ∷ rs) = IsF64 (r .time) × TimesFit rs
 
--- ---- the calls; x is the call before
+-- ---- the calls of any solver that starts and replies so; x is the call before
+
+pub record Solver : Type 0 where
+  pub start : Problem → Buffers → Called
+  pub reply : ℕ → List Float → Float → Buffers → Called
 
 abbrev pub lentFor : Called → ReplyCall → Buffers
 lentFor x r = record {
@@ -53,16 +57,29 @@ lentFor x r = record {
   question = r .question;
 }
 
+abbrev pub answeredBy : Solver → Called → ReplyCall → Called
+answeredBy f x r = f .reply (r .kind) (r .numbers) (r .time) (lentFor x r)
+
+unfoldable pub callsBy : Solver → Called → List ReplyCall → List Called
+callsBy f x [] = []
+callsBy f x (r ∷ rs) = answeredBy f x r ∷ callsBy f (answeredBy f x r) rs
+
+unfoldable pub lastBy : Solver → Called → List ReplyCall → Called
+lastBy f x [] = x
+lastBy f x (r ∷ rs) = lastBy f (answeredBy f x r) rs
+
+-- ours
+abbrev pub ours : Solver
+ours = record { start = startOf; reply = replyOf }
+
 abbrev pub answered : Called → ReplyCall → Called
-answered x r = replyOf (r .kind) (r .numbers) (r .time) (lentFor x r)
+answered x r = answeredBy ours x r
 
-unfoldable pub callsOf : Called → List ReplyCall → List Called
-callsOf x [] = []
-callsOf x (r ∷ rs) = answered x r ∷ callsOf (answered x r) rs
+abbrev pub callsOf : Called → List ReplyCall → List Called
+callsOf x rs = callsBy ours x rs
 
-unfoldable pub lastOf : Called → List ReplyCall → Called
-lastOf x [] = x
-lastOf x (r ∷ rs) = lastOf (answered x r) rs
+abbrev pub lastOf : Called → List ReplyCall → Called
+lastOf x rs = lastBy ours x rs
 
 -- ---- without the refused ones
 

@@ -1,11 +1,11 @@
 -- The sums worked by hand of 01-scope, (1) to (12), as one table (`sums` in proofs/Sums.antt). (8) to (12) go through
--- the calls: a start on any slices of the right lengths, and a host that gives derivatives and continues at reports.
--- What a sum does not name has the Rust's default.
+-- the calls: a start on any slices of the right lengths, and a host that gives derivatives and continues at reports,
+-- each reply with any question slice of the right length. What a sum does not name has the Rust's default.
 use mathlib.Core.Bool.{true, false}
 use mathlib.Core.List.{List, [], _∷_}
 use mathlib.Core.Path.{_≡_}
-use Prim.Native.Nat.{ℕ}
-use lib.ListN.{length, replicate}
+use Prim.Native.Nat.{ℕ, _+_}
+use lib.ListN.{length}
 use lib.Ieee.{Float, nan}
 use Rattle.loops.specs.Part.{part}
 use Rattle.numbers.specs.Float.{lit, zeroF, oneF, uround, d0·5, d2, d5, d100}
@@ -17,8 +17,6 @@ use Rattle.dense.specs.Solve.{solveOf}
 use Rattle.interpolation.specs.Evaluate.{left, interpolateOf}
 use Rattle.common.specs.Layout.{column}
 use Rattle.refusals.specs.declared.Options.{Options}
-use Rattle.follows.specs.Sums.{problem8, problem10, problem11, problem12, Act, gives, continues}
-use Rattle.follows.specs.Sums as Follows
 use Rattle.answers.specs.declared.Reply.{Reply}
 use Rattle.answers.specs.Called.{Buffers, Called}
 use Rattle.raimsklo.specs.Calls.{Problem, startOf}
@@ -42,42 +40,88 @@ d0·75 = lit 0x3fe8_0000_0000_0000
 abbrev pub d1·75 : Float
 d1·75 = lit 0x3ffc_0000_0000_0000
 
--- ---- a problem of one state through the calls
+-- ---- a problem of one state, from time 0 on, by differences
 
 -- the smallest step is given where it is not 0, the first always is
-abbrev pub optionsOf : Follows.Problem → ℕ → Options
-optionsOf c smallest = record {
+pub record Single : Type 0 where
+  pub y0 : Float
+  pub rtol : Float
+  pub atol : Float
+  pub xend : Float
+  pub first : Float
+  pub smallest : ℕ
+  pub hmin : Float
+  pub maxsteps : ℕ
+  pub maxcor : ℕ
+  pub mxncf : ℕ
+
+abbrev pub optionsOf : Single → Options
+optionsOf c = record {
   «max_steps» = c .maxsteps; mxordn = 12; mxords = 5; maxcor = c .maxcor; msbp = 20; mxncf = c .mxncf; banded = 0;
-  supplied = 0; «has_max_step» = 0; «has_min_step» = smallest; «has_first_step» = 1;
+  supplied = 0; «has_max_step» = 0; «has_min_step» = c .smallest; «has_first_step» = 1;
   «max_step» = zeroF; «min_step» = c .hmin; «first_step» = c .first;
 }
 
-abbrev pub problemOf : Follows.Problem → ℕ → Problem
-problemOf c smallest = record {
-  x0 = zeroF; xend = c .xend; y0 = c .y0 ∷ []; rtol = c .rtol ∷ []; atol = c .atol ∷ [];
-  options = optionsOf c smallest;
+abbrev pub problemOf : Single → Problem
+problemOf c = record {
+  x0 = zeroF; xend = c .xend; y0 = c .y0 ∷ []; rtol = c .rtol ∷ []; atol = c .atol ∷ []; options = optionsOf c;
 }
 
--- slices for one state
-pub record Lent (b : Buffers) : Type 0 where
+-- y0 2, rtol 0.5, atol 0, interval 0 to 1, first step 1
+abbrev pub problem8 : Single
+problem8 = record {
+  y0 = d2; rtol = d0·5; atol = zeroF; xend = oneF; first = oneF; smallest = 0; hmin = zeroF;
+  maxsteps = 100000; maxcor = 3; mxncf = 10;
+}
+
+-- with end 2, max_steps 1
+abbrev pub problem10 : Single
+problem10 = record {
+  y0 = d2; rtol = d0·5; atol = zeroF; xend = d2; first = oneF; smallest = 0; hmin = zeroF;
+  maxsteps = 1; maxcor = 3; mxncf = 10;
+}
+
+-- y0 0, rtol 0, atol 1, interval 0 to 1, first step 1, maxcor 1, mxncf 1
+abbrev pub problem11 : Single
+problem11 = record {
+  y0 = zeroF; rtol = zeroF; atol = oneF; xend = oneF; first = oneF; smallest = 0; hmin = zeroF;
+  maxsteps = 100000; maxcor = 1; mxncf = 1;
+}
+
+-- the same with maxcor 3, minimum step 1
+abbrev pub problem12 : Single
+problem12 = record {
+  y0 = zeroF; rtol = zeroF; atol = oneF; xend = oneF; first = oneF; smallest = 1; hmin = oneF;
+  maxsteps = 100000; maxcor = 3; mxncf = 1;
+}
+
+-- ---- a host
+
+-- it gives a derivative, or continues at a report with the report's y and time
+pub data Act : Type 0 where
+  gives : Float → Act
+  continues : Act
+
+-- slices for one state: those of the start, and a question slice for each reply, with whatever they hold
+pub record Lent (b : Buffers) (q : ℕ → List Float) : Type 0 where
   pub work : length (b .work) ≡ 20
   pub pivots : length (b .pivots) ≡ 1
   pub session : length (b .session) ≡ 1448
   pub question : length (b .question) ≡ 20
+  pub replies : (i : ℕ) → length (q i) ≡ 20
 
-abbrev pub replyWith : ℕ → List Float → Float → ReplyCall
-replyWith kind numbers time = record {
-  kind = kind; numbers = numbers; time = time; question = replicate 20 zeroF;
-}
+abbrev pub replyWith : ℕ → List Float → Float → List Float → ReplyCall
+replyWith kind numbers time question = record { kind = kind; numbers = numbers; time = time; question = question }
 
 -- a derivative; or continue, with the state that stands first in the question and the report's time
-abbrev pub actedBy : Called → Act → Called
-actedBy x (gives f) = answered x (replyWith 1 (f ∷ []) zeroF)
-actedBy x continues = answered x (replyWith 3 (part 0 1 (x .lent .question)) (x .reply .time))
+abbrev pub actedBy : Called → Act → List Float → Called
+actedBy x (gives f) q = answered x (replyWith 1 (f ∷ []) zeroF q)
+actedBy x continues q = answered x (replyWith 3 (part 0 1 (x .lent .question)) (x .reply .time) q)
 
-unfoldable pub hostedBy : Called → List Act → Called
-hostedBy x [] = x
-hostedBy x (a ∷ acts) = hostedBy (actedBy x a) acts
+-- the i-th reply is lent q i
+unfoldable pub hostedBy : Called → ℕ → (ℕ → List Float) → List Act → Called
+hostedBy x i q [] = x
+hostedBy x i q (a ∷ acts) = hostedBy (actedBy x a (q i)) (i + 1) q acts
 
 -- ---- the table of (8) to (12)
 
@@ -87,14 +131,13 @@ pub record Result : Type 0 where
   pub y : List Float
 
 pub record Row : Type 0 where
-  pub problem : Follows.Problem
-  pub smallest : ℕ
+  pub problem : Single
   pub acts : List Act
   pub result : Result
 
-unfoldable pub resultOf : Buffers → Row → Result
-resultOf b r =
-    let x = hostedBy (startOf (problemOf (r .problem) (r .smallest)) b) (r .acts) in
+unfoldable pub resultOf : Buffers → (ℕ → List Float) → Row → Result
+resultOf b q r =
+    let x = hostedBy (startOf (problemOf (r .problem)) b) 0 q (r .acts) in
     record { reply = x .reply; y = column 1 0 (x .lent .work) }
 
 -- number, h, derivatives, steps (total, accepted, rejected), y; no Jacobian and no factoring
@@ -109,35 +152,35 @@ ended number h nfe total accepted rejected v = record {
 
 abbrev pub row8 : Row
 row8 = record {
-  problem = problem8; smallest = 0;
+  problem = problem8;
   acts = gives zeroF ∷ continues ∷ gives zeroF ∷ continues ∷ [];
   result = ended 110 oneF 2 1 1 0 d2;
 }
 
 abbrev pub row9 : Row
 row9 = record {
-  problem = problem8; smallest = 0;
+  problem = problem8;
   acts = gives zeroF ∷ continues ∷ gives nan ∷ continues ∷ [];
   result = ended 110 oneF 2 1 1 0 nan;
 }
 
 abbrev pub row10 : Row
 row10 = record {
-  problem = problem10; smallest = 0;
+  problem = problem10;
   acts = gives zeroF ∷ continues ∷ gives zeroF ∷ continues ∷ [];
   result = ended 112 oneF 2 1 1 0 d2;
 }
 
 abbrev pub row11 : Row
 row11 = record {
-  problem = problem11; smallest = 0;
+  problem = problem11;
   acts = gives zeroF ∷ continues ∷ gives d100 ∷ [];
   result = ended 114 oneF 2 0 0 0 zeroF;
 }
 
 abbrev pub row12 : Row
 row12 = record {
-  problem = problem12; smallest = 1;
+  problem = problem12;
   acts = gives zeroF ∷ continues ∷ gives d100 ∷ gives d100 ∷ [];
   result = ended 113 oneF 3 0 0 1 zeroF;
 }
@@ -170,12 +213,12 @@ pub record Sums : Type 0 where
   pub seven : (y : Float) → (interpolateOf d0·75 (snapshot d0·5) (y ∷ []) ≡ left 0 (d1·75 ∷ []))
       × (interpolateOf d0·75 (snapshot zeroF) (y ∷ []) ≡ left 17 (y ∷ []))
   -- (8) derivatives 0: success, h 1, 2 derivatives, steps 1, 1, 0
-  pub eight : (b : Buffers) → Lent b → resultOf b row8 ≡ row8 .result
+  pub eight : (b : Buffers) (q : ℕ → List Float) → Lent b q → resultOf b q row8 ≡ row8 .result
   -- (9) second derivative NaN there: success, y NaN
-  pub nine : (b : Buffers) → Lent b → resultOf b row9 ≡ row9 .result
+  pub nine : (b : Buffers) (q : ℕ → List Float) → Lent b q → resultOf b q row9 ≡ row9 .result
   -- (10) (8) with end 2, max_steps 1: needs more steps
-  pub ten : (b : Buffers) → Lent b → resultOf b row10 ≡ row10 .result
+  pub ten : (b : Buffers) (q : ℕ → List Float) → Lent b q → resultOf b q row10 ≡ row10 .result
   -- (11) derivatives 0, 100: poor, steps 0, 0, 0
-  pub eleven : (b : Buffers) → Lent b → resultOf b row11 ≡ row11 .result
+  pub eleven : (b : Buffers) (q : ℕ → List Float) → Lent b q → resultOf b q row11 ≡ row11 .result
   -- (12) derivatives 0, 100, 100: too small, steps 0, 0, 1
-  pub twelve : (b : Buffers) → Lent b → resultOf b row12 ≡ row12 .result
+  pub twelve : (b : Buffers) (q : ℕ → List Float) → Lent b q → resultOf b q row12 ≡ row12 .result

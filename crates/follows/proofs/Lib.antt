@@ -10,5 +10,3 @@ pub mod Closing
 pub mod Session
 pub mod Resumed
 pub mod Kept
-pub mod Sums
-pub mod Fakes

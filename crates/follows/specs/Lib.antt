@@ -2,5 +2,3 @@ pub mod Seen
 pub mod Stands
 pub mod Follows
 pub mod InRun
-pub mod Sums
-pub mod Fakes

@@ -1,0 +1,83 @@
+-- The six fake solvers of 01-scope's 'Held by every contract' (c), which the caps of demand 3 alone would pass, as
+-- properties that a host can see of any solver with a start and a reply of our shape. Demand 2 shuts out each
+-- (`fakes-fail` in proofs/Fakes.antt), and ours meets demand 2 (`ours-meets`).
+use mathlib.Core.Bool.{true, false}
+use mathlib.Core.List.{List, [], _∷_, _++_}
+use mathlib.Core.Logic.{_⊎_}
+use mathlib.Core.Path.{_≡_}
+use Prim.Native.Nat.{ℕ, _≤_}
+use lib.ListN.{length}
+use Rattle.fits.specs.Host.{IsF64}
+use Rattle.rules.specs.Demands.{latest}
+use Rattle.answers.specs.Called.{Buffers, Called}
+use Rattle.raimsklo.specs.Calls.{Problem}
+use Rattle.calls.specs.Run.{Begins, ReplyCall, TimesFit, Solver, answeredBy, lastBy, isRefusal}
+use Rattle.calls.specs.Follow.{isSized, Demand2}
+use Rattle.calls.specs.Demands.{wants, stepsSeen, isReport}
+
+-- for every problem that a start accepts
+abbrev pub Meets : Solver → Type 0
+Meets f = (p : Problem) (b : Buffers) → Begins p b → Demand2 f p b
+
+-- the last call of a run, and the number that it returns
+abbrev pub after : Solver → Problem → Buffers → List ReplyCall → Called
+after f p b rs = lastBy f (f .start p b) rs
+
+abbrev pub numberAfter : Solver → Problem → Buffers → List ReplyCall → ℕ
+numberAfter f p b rs = after f p b rs .reply .number
+
+-- ---- the six
+
+-- ends poor before its first pass: once the first derivative and continue have come as they are asked for, nothing
+-- being said of replies that are not
+abbrev pub EndsPoorAtOnce : Solver → Type 0
+EndsPoorAtOnce f =
+    (p : Problem) (b : Buffers) → Begins p b → (d c : ReplyCall) → TimesFit (d ∷ c ∷ [])
+    → wants (length (p .y0)) 100 d ≡ true → isSized (length (p .y0)) d ≡ true
+    → wants (length (p .y0)) 102 c ≡ true → isSized (length (p .y0)) c ≡ true → c .kind ≡ 3
+    → (numberAfter f p b [] ≡ 114)
+    ⊎ ((numberAfter f p b (d ∷ []) ≡ 114) ⊎ (numberAfter f p b (d ∷ c ∷ []) ≡ 114))
+
+-- refuses all problems: no start wants the first derivative
+abbrev pub RefusesAll : Solver → Type 0
+RefusesAll f = (p : Problem) (b : Buffers) → Begins p b → numberAfter f p b [] ≡ 100 → ⊥
+
+-- always finishes with one status
+abbrev pub OneStatus : Solver → Type 0
+OneStatus f =
+    (status : ℕ)
+    × ((p : Problem) (b : Buffers) → Begins p b → (rs : List ReplyCall) → TimesFit rs
+    → 110 ≤ numberAfter f p b rs → numberAfter f p b rs ≡ status)
+
+-- returns its session untouched by a reply that it takes, whatever it does to work and pivots
+abbrev pub Untouched : Solver → Type 0
+Untouched f =
+    (p : Problem) (b : Buffers) → Begins p b → (rs : List ReplyCall) (r : ReplyCall) → TimesFit rs
+    → IsF64 (r .time)
+    → isRefusal (answeredBy f (after f p b rs) r .reply) ≡ false
+    → answeredBy f (after f p b rs) r .lent .session ≡ after f p b rs .lent .session
+
+-- integrates the first step and repeats its report: whatever the question then holds
+abbrev pub RepeatsReport : Solver → Type 0
+RepeatsReport f =
+    (p : Problem) (b : Buffers) → Begins p b → (rs more : List ReplyCall) → TimesFit (rs ++ more)
+    → numberAfter f p b rs ≡ 103 → numberAfter f p b (rs ++ more) ≡ 103
+    → after f p b (rs ++ more) .reply ≡ after f p b rs .reply
+
+-- invents its derivative count: some report's differs from the derivatives requested in its step
+pub record InventsCount (f : Solver) : Type 0 where
+  pub p : Problem
+  pub b : Buffers
+  pub begins : Begins p b
+  pub rs : List ReplyCall
+  pub times : TimesFit rs
+  pub reported : isReport (after f p b rs .reply) ≡ true
+  pub differs : after f p b rs .reply .count ≡ latest (stepsSeen f p b rs) → ⊥
+
+pub record NoFake (f : Solver) : Type 0 where
+  pub poor : EndsPoorAtOnce f → ⊥
+  pub refusing : RefusesAll f → ⊥
+  pub status : OneStatus f → ⊥
+  pub untouched : Untouched f → ⊥
+  pub repeating : RepeatsReport f → ⊥
+  pub inventing : InventsCount f → ⊥
