@@ -1,6 +1,8 @@
 // A rig of 64 states from its first pose to the end of two seconds, through the calls: once with the Jacobian by
 // differences, once with the rig's own. The state of a run is 5312 floats of this program, lent to each call.
-// Prints the pose at each quarter of a second, what the run cost beside its cap, and the last pose bit by bit.
+// Prints the pose at each quarter of a second, what the run cost beside what was seen of it, and the last pose bit by
+// bit. Each report's count is held to the derivatives that were asked for since the one before, and to the cap of a step
+// with as many Jacobians as were begun in it; a report that is not so is counted as wrong.
 ghost use Prim.Native.Nat.{_+_, _*_, _≤_, _<_};
 ghost use mathlib.Core.Path.{_≡_};
 ghost use lib.ListN.{length};
@@ -11,20 +13,36 @@ mod show;
 use raimsklo::Reply;
 use refusals::Options;
 
-// The most derivatives that a step of the second family asks for with mxncf 10 and maxcor 3, beside those of its
-// Jacobians, of which there are at most 19: (mxncf + 12)·maxcor + 7, and mxncf + 9.
-const CAP: usize = 73;
+// The most derivatives that a step asks for with mxncf 10 and maxcor 3, beside the columns of its Jacobians:
+// (mxncf + 9)·maxcor + 7 where it begins in Adams, (mxncf + 12)·maxcor + 7 in the other family.
+const ADAMS: usize = 64;
 
+const BDF: usize = 73;
+
+// mxncf + 9.
 const JACOBIANS: usize = 19;
 
-// What was seen of the reports: how many, the largest count, how many were wrong, and the last one's time.
+// What was seen of a run.
 struct Watch {
+    // The reports, how many of them were wrong, the largest count with its cap, and the last one's time.
     reports: usize,
-    most: usize,
     wrong: usize,
+    most: usize,
+    capped: usize,
     time: f64,
+    // Since the last report: the derivatives asked for, the Jacobians begun, and how many columns these have by
+    // differences. The family is the one in force there.
+    asked: usize,
+    begun: usize,
+    columns: usize,
+    family: u8,
+    // In all, and the time of the last derivative.
+    derivatives: usize,
+    jacobians: usize,
+    at: f64,
 }
 
+// The last answer, at the end the one that ended the run, and what was seen up to it.
 struct Outcome {
     end: Reply,
     watch: Watch,
@@ -39,18 +57,42 @@ fn is_asked(number: usize) -> bool {
 
 // ---- reports
 
-// A report begins where the last one ended, goes forward unless it is the first, and its count is within the cap.
-fn is_right(w: Watch, cap: usize, r: Reply) -> bool {
+// A count and some more. It stops at a million.
+fn added(n: usize, more: usize) -> usize
+    requires { ⌜ more ≤ 100 ⌝ }
+{
+    if n < 1000000 {
+        return n + more;
+    }
+    n
+}
+
+fn cap(w: Watch) -> usize {
+    if w.family == 1 {
+        return added(w.columns, ADAMS);
+    }
+    added(w.columns, BDF)
+}
+
+// A report begins where the last one ended and its count is that of the derivatives seen since, but for the first: it
+// has none, and the one seen was the start's. Any other goes forward and keeps to both caps.
+fn is_right(w: Watch, r: Reply) -> bool {
     if r.previous != w.time {
         return false;
     }
     if r.number == 102 {
-        return r.count == 0;
+        return r.count == 0 && w.asked == 1;
     }
     if r.time <= r.previous {
         return false;
     }
-    r.count <= cap
+    if r.count != w.asked {
+        return false;
+    }
+    if w.begun > JACOBIANS {
+        return false;
+    }
+    r.count <= cap(w)
 }
 
 fn larger(a: usize, b: usize) -> usize {
@@ -60,22 +102,87 @@ fn larger(a: usize, b: usize) -> usize {
     a
 }
 
-// What was seen with this answer, which may be no report.
-fn watched(w: Watch, cap: usize, r: Reply) -> Watch
-    requires { ⌜ (w .reports ≤ 1000000) × (w .wrong ≤ 1000000) ⌝ }
-    ensures { λ v. ⌜ (v .reports ≤ w .reports + 1) × (v .wrong ≤ w .wrong + 1) ⌝ }
-{
-    if r.number < 102 {
-        return w;
+// The cap of the step with the largest count.
+fn capped(w: Watch, r: Reply) -> usize {
+    if w.most < r.count {
+        return cap(w);
     }
+    w.capped
+}
+
+// How many reports were wrong.
+fn wrong(w: Watch, r: Reply) -> usize {
+    if is_right(w, r) {
+        return w.wrong;
+    }
+    added(w.wrong, 1)
+}
+
+// What was seen with this report, at which the given family is in force.
+fn reported(w: Watch, r: Reply, family: u8) -> Watch {
     let mut v = w;
-    v.reports = w.reports + 1;
+    v.reports = added(w.reports, 1);
+    v.wrong = wrong(w, r);
     v.most = larger(w.most, r.count);
+    v.capped = capped(w, r);
     v.time = r.time;
-    if !is_right(w, cap, r) {
-        v.wrong = w.wrong + 1;
+    v.asked = 0;
+    v.begun = 0;
+    v.columns = 0;
+    v.family = family;
+    v
+}
+
+// What was seen with this request: a derivative, which may be the first of a Jacobian's columns, or a Jacobian.
+fn requested(w: Watch, r: Reply, first: bool) -> Watch {
+    let mut v = w;
+    if first || r.number == 101 {
+        v.begun = added(w.begun, 1);
+        v.jacobians = added(w.jacobians, 1);
+    }
+    if first {
+        v.columns = added(w.columns, 64);
+    }
+    if r.number == 100 {
+        v.asked = added(w.asked, 1);
+        v.derivatives = added(w.derivatives, 1);
+        v.at = r.time;
     }
     v
+}
+
+// Whether this request is for the first column of a Jacobian by differences: at the time of the last derivative, and at
+// the pose that it asked for but for the first state.
+fn is_first(r: Reply, at: f64, pose: &[f64], y: &[f64]) -> bool
+    requires { ⌜ (64 ≤ length (now pose)) × (64 ≤ length (now y)) ⌝ }
+{
+    if r.number != 100 {
+        return false;
+    }
+    if r.time != at {
+        return false;
+    }
+    if y[0] == pose[0] {
+        return false;
+    }
+    for i in 1..64usize {
+        if y[i] != pose[i] {
+            return false;
+        }
+    }
+    true
+}
+
+// What was seen with this question, whose pose is kept. The family is a byte of the session: docs/SESSION.md.
+fn watched(w: Watch, r: Reply, pose: &mut [f64], session: &[u8], y: &[f64]) -> Watch
+    requires { ⌜ (length (now pose) ≡ 64) × (length (now session) ≡ 1448) × (length (now y) ≡ 902) ⌝ }
+{
+    if r.number > 101 {
+        return reported(w, r, session[96]);
+    }
+    let first = is_first(r, w.at, pose, y);
+    copy(y, pose);
+    requested(w, r, first)
 }
 
 // The pose at time t, if it lies within the reported step.
@@ -188,9 +295,10 @@ fn start(
     )
 }
 
-fn drive(
-    cap: usize,
-    options: Options,
+// The question that stands is watched and replied to.
+fn turn(
+    o: Outcome,
+    pose: &mut [f64],
     numbers: &mut [f64],
     columns: &mut [f64],
     work: &mut [f64],
@@ -198,43 +306,79 @@ fn drive(
     session: &mut [u8],
     question: &mut [f64],
 ) -> Outcome
-    requires { ⌜ (length (now numbers) ≡ 64) × (length (now columns) ≡ 4096) × (length (now question) ≡ 902) ⌝ }
-{
-    let mut r = start(options, numbers, work, pivots, session, question);
-    let mut w = Watch {
-        reports: 0,
-        most: 0,
-        wrong: 0,
-        time: 0.0,
-    };
-    for _ in 0..100000usize {
-        if !is_asked(r.number) {
-            break;
-        }
-        w = watched(w, cap, r);
-        r = replied(r, numbers, columns, work, pivots, session, question);
+    requires {
+        ⌜ (length (now pose) ≡ 64) × (length (now numbers) ≡ 64) × (length (now columns) ≡ 4096)
+        × (length (now session) ≡ 1448) × (length (now question) ≡ 902) ⌝
     }
+{
+    let w = watched(o.watch, o.end, pose, session, question);
+    let r = replied(o.end, numbers, columns, work, pivots, session, question);
     Outcome { end: r, watch: w }
 }
 
-fn cost(end: Reply, w: Watch, cap: usize) {
+fn drive(
+    options: Options,
+    pose: &mut [f64],
+    numbers: &mut [f64],
+    columns: &mut [f64],
+    work: &mut [f64],
+    pivots: &mut [usize],
+    session: &mut [u8],
+    question: &mut [f64],
+) -> Outcome
+    requires {
+        ⌜ (length (now pose) ≡ 64) × (length (now numbers) ≡ 64) × (length (now columns) ≡ 4096)
+        × (length (now session) ≡ 1448) × (length (now question) ≡ 902) ⌝
+    }
+{
+    let w = Watch {
+        reports: 0,
+        wrong: 0,
+        most: 0,
+        capped: 0,
+        time: 0.0,
+        asked: 0,
+        begun: 0,
+        columns: 0,
+        family: 0,
+        derivatives: 0,
+        jacobians: 0,
+        at: 0.0,
+    };
+    let mut o = Outcome {
+        end: start(options, numbers, work, pivots, session, question),
+        watch: w,
+    };
+    for _ in 0..100000usize {
+        if !is_asked(o.end.number) {
+            break;
+        }
+        o = turn(o, pose, numbers, columns, work, pivots, session, question);
+    }
+    o
+}
+
+fn cost(end: Reply, w: Watch) {
     show::count(b"ended by ", end.number);
     io::write_all(1, b", h ");
     show::pattern(end.h);
     show::count(b"\nderivatives ", end.nfe);
     show::count(b", Jacobians ", end.nje);
     show::count(b", factorings ", end.nlu);
+    show::count(b"\nderivatives seen ", w.derivatives);
+    show::count(b", Jacobians seen ", w.jacobians);
     show::count(b"\nsteps ", end.total);
     show::count(b", accepted ", end.accepted);
     show::count(b", rejected ", end.rejected);
     show::count(b"\nreports ", w.reports);
     show::count(b", wrong ", w.wrong);
     show::count(b"\nmost derivatives in a step ", w.most);
-    show::count(b", capped at ", cap);
+    show::count(b", capped at ", w.capped);
     io::write_all(1, b"\n");
 }
 
-fn run(cap: usize, options: Options) {
+fn run(options: Options) {
+    let mut pose = [0.0; 64];
     let mut numbers = [0.0; 64];
     let mut columns = [0.0; 4096];
     let mut work = [0.0; 5312];
@@ -242,8 +386,8 @@ fn run(cap: usize, options: Options) {
     let mut session = [0u8; 1448];
     let mut question = [0.0; 902];
     let o = drive(
-        cap,
         options,
+        &mut pose,
         &mut numbers,
         &mut columns,
         &mut work,
@@ -251,15 +395,15 @@ fn run(cap: usize, options: Options) {
         &mut session,
         &mut question,
     );
-    cost(o.end, o.watch, cap);
+    cost(o.end, o.watch);
     show::pose(&question);
 }
 
 fn main() {
     let mut options = raimsklo::raimsklo_defaults();
     io::write_all(1, b"Jacobian by differences\n");
-    run(CAP + 64 * JACOBIANS, options);
+    run(options);
     options.supplied = 1;
     io::write_all(1, b"Jacobian supplied\n");
-    run(CAP, options);
+    run(options);
 }

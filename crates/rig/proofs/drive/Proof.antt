@@ -8,13 +8,14 @@ use Rattle.rig.proofs.drive.Statement.{statement}
 use Rattle.rig.proofs.drive.Tie as tie
 
 abbrev Inv-loop : tie.InvT-loop
-Inv-loop _ _ _ work₀ pivots₀ session₀ _ _ _ _ numbers columns work pivots session question _ w counter =
-    (counter ≤ 100000) × (w .reports ≤ counter) × (w .wrong ≤ counter)
-    × (length numbers ≡ 64) × (length columns ≡ 4096) × (length question ≡ 902)
-    × (length work ≡ length work₀) × (length pivots ≡ length pivots₀) × (length session ≡ length session₀)
+Inv-loop _ _ _ work₀ pivots₀ _ _ _ _ pose numbers columns work pivots session question _ counter =
+    (counter ≤ 100000)
+    × (length pose ≡ 64) × (length numbers ≡ 64) × (length columns ≡ 4096)
+    × (length session ≡ 1448) × (length question ≡ 902)
+    × (length work ≡ length work₀) × (length pivots ≡ length pivots₀)
 
 abbrev μ-loop : tie.MeasureT-loop
-μ-loop _ _ _ _ _ _ _ _ _ _ _ _ _ _ _ _ _ _ counter = 100000 - counter
+μ-loop _ _ _ _ _ _ _ _ _ _ _ _ _ _ _ _ _ counter = 100000 - counter
 
 start-requires : tie.Need-start-requires Inv-loop μ-loop
 start-requires c κs = search needs
@@ -25,11 +26,8 @@ loop-holds c = omega arith
 is-asked-requires : tie.Need-is-asked-requires Inv-loop μ-loop
 is-asked-requires c κs = search needs
 
-watched-requires : tie.Need-watched-requires Inv-loop μ-loop
-watched-requires c κs = search needs
-
-replied-requires : tie.Need-replied-requires Inv-loop μ-loop
-replied-requires c κs = omega arith
+turn-requires : tie.Need-turn-requires Inv-loop μ-loop
+turn-requires c κs = omega arith
 
 add-counter : tie.Need-add-counter Inv-loop μ-loop
 add-counter c = omega arith
@@ -58,11 +56,11 @@ same-length-5 c = omega arith
 same-length-6 : tie.Need-same-length-6 Inv-loop μ-loop
 same-length-6 c = omega arith
 
-returns : tie.Need-returns Inv-loop μ-loop
-returns c = search needs
-
 same-length-7 : tie.Need-same-length-7 Inv-loop μ-loop
 same-length-7 c = omega arith
+
+returns : tie.Need-returns Inv-loop μ-loop
+returns c = search needs
 
 same-length-8 : tie.Need-same-length-8 Inv-loop μ-loop
 same-length-8 c = omega arith
@@ -79,6 +77,12 @@ same-length-11 c = omega arith
 same-length-12 : tie.Need-same-length-12 Inv-loop μ-loop
 same-length-12 c = omega arith
 
+same-length-13 : tie.Need-same-length-13 Inv-loop μ-loop
+same-length-13 c = omega arith
+
+same-length-14 : tie.Need-same-length-14 Inv-loop μ-loop
+same-length-14 c = omega arith
+
 returns-2 : tie.Need-returns-2 Inv-loop μ-loop
 returns-2 c = search needs
 
@@ -91,8 +95,7 @@ drive-spec =
     start-requires
     loop-holds
     is-asked-requires
-    watched-requires
-    replied-requires
+    turn-requires
     add-counter
     loop-less
     loop-again
@@ -102,11 +105,13 @@ drive-spec =
     same-length-4
     same-length-5
     same-length-6
-    returns
     same-length-7
+    returns
     same-length-8
     same-length-9
     same-length-10
     same-length-11
     same-length-12
+    same-length-13
+    same-length-14
     returns-2)
