@@ -15,7 +15,6 @@ use borrow.Author.Count.{below-none, below-more}
 use borrow.Author.Tests.{eqb-false, ltb-true, ltb-false}
 use Rattle.loops.specs.Test.{differs}
 use Rattle.numbers.specs.Float.{_⊘_, zeroF, oneF}
-use Rattle.numbers.specs.Sign.{refused}
 use Rattle.vectors.specs.declared.Weights.{Weights}
 use Rattle.vectors.specs.declared.Weights.the-variants.{Inverted, Refused}
 use Rattle.vectors.specs.Weights.{Inversion, invertOne, invertAt, invertOf, outcomeOf}
@@ -31,7 +30,7 @@ use Rattle.answers.specs.Called.{Buffers, Called}
 use Rattle.replies.specs.Replies.{kindOf}
 use Rattle.raimsklo.specs.Calls.{replyOf}
 use Rattle.calls.specs.ReplyRefused.{phaseIn, Row, NoneHolds, replyRows}
-use Rattle.calls.specs.ReplyFirst.{FirstBad, AllGood, weighed, weightsOf, stepOf, FirstDerivative}
+use Rattle.calls.specs.ReplyFirst.{FirstBad, AllGood, weighed, weightsOf, stepOf, isRefused, FirstDerivative}
 use Rattle.calls.proofs.ReplyMeans.{answer-at}
 
 -- ---- the inversion stops at the first weight that is at most 0
@@ -114,8 +113,8 @@ module _ (kind : ℕ) (numbers : List Float) (time : Float) (b : Buffers) where
   abbrev weights : List Float
   weights = weightsOf numbers b
 
-  abbrev isRefused : Bool
-  isRefused = refused (stepOf numbers b) (x .settings .direction)
+  abbrev unfit : Bool
+  unfit = isRefused numbers b
 
   abbrev said : Weights → Reply
   said o =
@@ -125,10 +124,10 @@ module _ (kind : ℕ) (numbers : List Float) (time : Float) (b : Buffers) where
   -- what is answered, and why
   data Says : Type 0 where
     weighty : (i : ℕ) → FirstBad weights i → reply ≡ plainOf 12 i zeroF zeroF → Says
-    stepped : AllGood weights → isRefused ≡ true → reply ≡ plainOf 11 0 (stepOf numbers b) zeroF → Says
-    reported : AllGood weights → isRefused ≡ false → reply .number ≡ 102 → Says
+    stepped : AllGood weights → unfit ≡ true → reply ≡ plainOf 11 0 (stepOf numbers b) zeroF → Says
+    reported : AllGood weights → unfit ≡ false → reply .number ≡ 102 → Says
 
-  sized : (t : Bool) → isRefused ≡ t → AllGood weights → reply ≡ said Inverted → Says
+  sized : (t : Bool) → unfit ≡ t → AllGood weights → reply ≡ said Inverted → Says
   unfolding weightedAt sizedOf sizedAt
   sized true f g q = stepped g f (q ∙ rw f)
   sized false f g q = reported g f (ap (λ (a : Reply). a .number) q ∙ rw f)
@@ -136,7 +135,7 @@ module _ (kind : ℕ) (numbers : List Float) (time : Float) (b : Buffers) where
   says-at : (o : Weights) → reply ≡ said o → Found weights o → Says
   unfolding weightedAt
   says-at o e (bad i p q) = weighty i p (e ∙ ap said q)
-  says-at o e (good g q) = sized isRefused refl g (e ∙ ap said q)
+  says-at o e (good g q) = sized unfit refl g (e ∙ ap said q)
 
   abbrev number-of : {a : Reply} → reply ≡ a → reply .number ≡ a .number
   number-of q = ap (λ (r : Reply). r .number) q
@@ -153,22 +152,22 @@ module _ (kind : ℕ) (numbers : List Float) (time : Float) (b : Buffers) where
   weight-then i p (stepped g f r) = absurd (not-both weights i p g)
   weight-then i p (reported g f r) = absurd (not-both weights i p g)
 
-  step-only : reply .number ≡ 11 → Says → AllGood weights × (isRefused ≡ true)
+  step-only : reply .number ≡ 11 → Says → AllGood weights × (unfit ≡ true)
   step-only q (weighty j p r) = absurd (eqb-false 11 12 refl (sym q ∙ number-of r))
   step-only q (stepped g f r) = (g, f)
   step-only q (reported g f r) = absurd (eqb-false 11 102 refl (sym q ∙ r))
 
-  step-then : AllGood weights × (isRefused ≡ true) → Says → reply ≡ plainOf 11 0 (stepOf numbers b) zeroF
+  step-then : AllGood weights × (unfit ≡ true) → Says → reply ≡ plainOf 11 0 (stepOf numbers b) zeroF
   step-then s (weighty j p r) = absurd (not-both weights j p (s .0))
   step-then s (stepped g f r) = r
   step-then s (reported g f r) = differs (sym f ∙ s .1)
 
-  report-only : reply .number ≡ 102 → Says → AllGood weights × (isRefused ≡ false)
+  report-only : reply .number ≡ 102 → Says → AllGood weights × (unfit ≡ false)
   report-only q (weighty j p r) = absurd (eqb-false 102 12 refl (sym q ∙ number-of r))
   report-only q (stepped g f r) = absurd (eqb-false 102 11 refl (sym q ∙ number-of r))
   report-only q (reported g f r) = (g, f)
 
-  report-then : AllGood weights × (isRefused ≡ false) → Says → reply .number ≡ 102
+  report-then : AllGood weights × (unfit ≡ false) → Says → reply .number ≡ 102
   report-then s (weighty j p r) = absurd (not-both weights j p (s .0))
   report-then s (stepped g f r) = differs (sym (s .1) ∙ f)
   report-then s (reported g f r) = r

@@ -110,7 +110,9 @@ with-length : {P : Type 0} (a b : ℕ) → P → Decides (eqb a b) (P × (a ≡ 
 with-length a b p = (λ e. (p, eqb-true a b e), λ e q. eqb-false a b e (q .1))
 
 no-kind : (k : ℕ) → isKind (suc (suc (suc (suc (suc (suc k)))))) ≡ false
-no-kind k = by (not (eqb (suc (suc (suc (suc (suc (suc k)))))) 0)) (lt-leb (suc (suc (suc (suc (suc (suc k)))))) 5 (omega arith))
+no-kind k =
+    let six = suc (suc (suc (suc (suc (suc k))))) in
+    by (not (eqb six 0)) (lt-leb six 5 (omega arith))
   where
     by : (t : Bool) {u : Bool} → u ≡ false → t && u ≡ false
     by true e = e

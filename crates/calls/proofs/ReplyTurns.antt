@@ -27,8 +27,8 @@ use Rattle.jacobian.specs.Jacobian.{beginOf, suppliedOf, finishedOf as factorsO
 use Rattle.verdict.specs.declared.Pass.{Pass}
 use Rattle.verdict.specs.declared.Pass.the-variants as Pass
 use Rattle.corrector.specs.Iterate.{openOf, correctOf}
-use Rattle.attempt.specs.Attempt.{poorOf, noConvergenceAt, noConvergenceOf, errorOf, missedAt, missedOf, overshotOf, failedOf}
-use Rattle.attempt.specs.Attempt.{retractedWork}
+use Rattle.attempt.specs.Attempt.{poorOf, noConvergenceAt, noConvergenceOf, errorOf, missedAt, missedOf}
+use Rattle.attempt.specs.Attempt.{overshotOf, failedOf, retractedWork}
 use Rattle.attempt.specs.Attempt as Attempt
 use Rattle.order.specs.declared.Branch.{Branch}
 use Rattle.order.specs.declared.Branch.the-variants as Branch
@@ -47,10 +47,11 @@ use Rattle.turns.specs.declared.Status.the-variants as Status
 use Rattle.turns.specs.declared.Turn.{Turn}
 use Rattle.turns.specs.Turns.{Kept, Left, askedOf, askedInStepOf, finishedOf, withDerivative}
 use Rattle.turns.specs.Begin.{openPassOf, beganOf, isGoing, goOnAt, goOnOf}
-use Rattle.passes.specs.Pass.{attemptedAt, attemptedOf, reportedOf, closedAt, closeOf, acceptedAt, acceptedOf, convergedAt}
-use Rattle.passes.specs.Pass.{convergedOf, unconvergedOf, concludedAt, verdictOf, iterateOf, iterationsOf, factoredAt}
-use Rattle.passes.specs.Pass.{factoredOf, askColumnOf, isSupplied, beginJacobianAt, beginJacobianOf}
-use Rattle.passes.specs.Pass.{openedAt, openedOf, jacobianOf, columnAt, columnOf, furtherOf, restepOf}
+use Rattle.passes.specs.Pass.{attemptedAt, attemptedOf, reportedOf, closedAt, closeOf, acceptedAt, acceptedOf}
+use Rattle.passes.specs.Pass.{convergedAt, convergedOf, unconvergedOf, concludedAt, verdictOf, iterateOf}
+use Rattle.passes.specs.Pass.{iterationsOf, factoredAt, factoredOf, askColumnOf, isSupplied}
+use Rattle.passes.specs.Pass.{beginJacobianAt, beginJacobianOf, openedAt, openedOf, jacobianOf, columnAt, columnOf}
+use Rattle.passes.specs.Pass.{furtherOf, restepOf}
 use Rattle.reports.specs.Reports.{sizedAt, sizedOf, firstStepOf, weightedAt, firstDerivativeOf, firstReportOf}
 use Rattle.reports.specs.Reports.{firstModifiedOf, afterReportOf, restartOf, modifiedOf}
 use Rattle.machine.specs.Resume.{With, isAsked, takenOf, resumeOf}
@@ -117,7 +118,9 @@ module _ (s : Settings) (before : Phase) (kind : Kind) where
 
   unconverged : (c : Common) (work : List Float) → Good (unconvergedOf s c work .turn)
   unfolding unconvergedOf noConvergenceOf
-  unconverged c work = poor-at (poorOf s (Attempt.unconvergedOf c)) (Attempt.unconvergedOf c) (retractedWork s c work) refl
+  unconverged c work =
+      let d = Attempt.unconvergedOf c in
+      poor-at (poorOf s d) d (retractedWork s c work) refl
 
   missed-at : (tiny early last : Bool) (c : Common) (dsm : Float) (work : List Float) → tinyOf c ≡ tiny
       → eqb (c .kflag) 10 ≡ last → Good (attemptedOf (s .n) (missedAt s dsm tiny early last c work) .turn)

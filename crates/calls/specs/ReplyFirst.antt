@@ -1,7 +1,7 @@
 -- After the first derivative (01-scope, 'Limits and refusals'): 12 with the index of the first weight rtol·abs(y)+atol
 -- that is at most 0; then 11 with the first step, given or computed, that is zero, a NaN or of another sign; else the
 -- first report, 102. `first-derivative` (proofs/ReplyFirst.antt).
-use mathlib.Core.Bool.{true, false}
+use mathlib.Core.Bool.{Bool, true, false}
 use mathlib.Core.List.{List}
 use mathlib.Core.Logic.{_↔_}
 use mathlib.Core.Path.{_≡_}
@@ -47,12 +47,15 @@ stepOf f b =
     firstStepOf (x .settings) (x .common) (rtolOf (b .session)) (atolOf (b .session))
     (inverted (x .settings .n) (weighed f b))
 
+abbrev pub isRefused : List Float → Buffers → Bool
+isRefused f b = refused (stepOf f b) (decodeOf (b .session) .settings .direction)
+
 pub record FirstDerivative (kind : ℕ) (numbers : List Float) (time : Float) (b : Buffers) : Type 0 where
   pub weight : NoneHolds (replyRows kind numbers b) → phaseIn b ≡ Phase.FirstDerivative → (i : ℕ)
       → (replyOf kind numbers time b .reply ≡ plainOf 12 i zeroF zeroF) ↔ FirstBad (weightsOf numbers b) i
   pub step : NoneHolds (replyRows kind numbers b) → phaseIn b ≡ Phase.FirstDerivative
       → (replyOf kind numbers time b .reply ≡ plainOf 11 0 (stepOf numbers b) zeroF)
-      ↔ (AllGood (weightsOf numbers b) × (refused (stepOf numbers b) (decodeOf (b .session) .settings .direction) ≡ true))
+      ↔ (AllGood (weightsOf numbers b) × (isRefused numbers b ≡ true))
   pub report : NoneHolds (replyRows kind numbers b) → phaseIn b ≡ Phase.FirstDerivative
       → (replyOf kind numbers time b .reply .number ≡ 102)
-      ↔ (AllGood (weightsOf numbers b) × (refused (stepOf numbers b) (decodeOf (b .session) .settings .direction) ≡ false))
+      ↔ (AllGood (weightsOf numbers b) × (isRefused numbers b ≡ false))

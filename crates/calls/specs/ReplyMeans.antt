@@ -1,5 +1,6 @@
 -- What each number that a reply answers means, whatever is lent (01-scope, 'What the host sees', 'Limits and refusals',
--- 'A step'); 3, 13 and 14 are the rows of ReplyRefused. `reply-means` and `gap` (proofs/ReplyMeans.antt, proofs/ReplyGap.antt).
+-- 'A step'); 3, 13 and 14 are the rows of ReplyRefused. `reply-means` in proofs/ReplyMeans.antt, `kinds` and `numbers`
+-- in proofs/ReplyTurns.antt, `gap` in proofs/ReplyGap.antt.
 -- A reply that is taken is answered by the machine's turn, which is what the session then keeps.
 use mathlib.Core.Bool.{true, false}
 use mathlib.Core.List.{List}
@@ -126,8 +127,9 @@ pub record ReplyMeans (kind : ℕ) (numbers : List Float) (time : Float) (b : Bu
       → replyOf kind numbers time b .reply ≡ answerOf (turned (kindOf kind) numbers time b .turn .question)
   pub kept : NoneHolds (replyRows kind numbers b)
       → let t = turned (kindOf kind) numbers time b .turn in
+      let s = decodeOf (b .session) .settings in
       replyOf kind numbers time b .lent .session
-      ≡ encodeOf (record { settings = decodeOf (b .session) .settings; common = t .common; phase = t .phase }) (b .session)
+      ≡ encodeOf (record { settings = s; common = t .common; phase = t .phase }) (b .session)
   pub meant : NoneHolds (replyRows kind numbers b)
       → let t = turned (kindOf kind) numbers time b .turn in
       Meant (decodeOf (b .session) .settings) (phaseIn b) (kindOf kind) (t .question) (t .phase) (t .common)

@@ -1,5 +1,5 @@
--- The ranges of 13, in the words and the order of 01-scope, 'Limits and refusals': what every value of a session that is
--- not finished must be, and every lent pivot. `in-range` (proofs/InRange.antt): 13 tests just this, of any bytes.
+-- The ranges of 13, in the words and the order of 01-scope, 'Limits and refusals': what every value of a session that
+-- is not finished must be, and every lent pivot. `in-range` (proofs/InRange.antt): 13 tests just this, of any bytes.
 use mathlib.Core.Bool.{true, false}
 use mathlib.Core.List.{List}
 use mathlib.Core.Logic.{_↔_}

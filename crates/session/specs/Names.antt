@@ -1,4 +1,4 @@
--- Words 0 to 33 of a session by their names, as docs/SESSION.md lists them: the number that stands there, whatever it is.
+-- Words 0 to 33 of a session by the names of docs/SESSION.md: the number that stands there, whatever it is.
 -- icount is kept with 1,000,000 added, kflag as the number of error failures, a flag as 0 or 1.
 use mathlib.Core.List.{List}
 use Prim.Native.Nat.{ℕ}
