@@ -37,7 +37,8 @@ product-right x y z p =
     omega (arith, ap (λ (k : ℕ). k * (z .plus * z .bottom)) p, ap (λ (k : ℕ). k * (z .minus * z .bottom)) p)
 
 -- k times the numerators and the denominator
-scaled : (x y : Fraction) (k : ℕ) → y .plus ≡ x .plus * k → y .minus ≡ x .minus * k → y .bottom ≡ x .bottom * k → x ≈ y
+pub scaled : (x y : Fraction) (k : ℕ) → y .plus ≡ x .plus * k → y .minus ≡ x .minus * k → y .bottom ≡ x .bottom * k
+    → x ≈ y
 scaled x y k p q r = rw (p, q, r) (omega arith)
 
 distributes : (x y z : Fraction) → (x ⊞ y) ⊠ z ≈ x ⊠ z ⊞ y ⊠ z

@@ -6,3 +6,5 @@ pub mod Examples
 pub mod Fractions
 pub mod Exact
 pub mod Refused
+pub mod Moved
+pub mod Rounding

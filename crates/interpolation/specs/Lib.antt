@@ -4,3 +4,4 @@ pub mod Evaluate
 pub mod Fraction
 pub mod Published
 pub mod Refused
+pub mod Rounding
