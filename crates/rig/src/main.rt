@@ -1,9 +1,9 @@
 // A rig of 64 states from its first pose to the end of two seconds, through the calls: once with the Jacobian by
 // differences, once with the rig's own. The state of a run is 5312 floats of this program, lent to each call.
 // Prints the pose at each quarter of a second, what the run cost beside what was seen of it, and the last pose bit by
-// bit. Each report's count is held to the derivatives that were asked for since the one before, and to the cap of a step
-// with as many Jacobians as were begun in it; a report that is not so is counted as wrong.
-ghost use Prim.Native.Nat.{_+_, _*_, _≤_, _<_};
+// bit. Each report's count is held to the derivatives that were asked for since the one before, and to the cap of a
+// step with as many Jacobians as were begun in it; a report that is not so is counted as wrong.
+ghost use Prim.Native.Nat.{_≤_};
 ghost use mathlib.Core.Path.{_≡_};
 ghost use lib.ListN.{length};
 
