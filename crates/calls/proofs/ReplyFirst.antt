@@ -52,9 +52,10 @@ module _ (l : List Float) where
       (record { ewt = set (s .ewt) k (oneF ⊘ getD (s .ewt) k nan); refused = false; index = 0 }))
   tried-one k s true e p =
       (omega arith, ap (λ (v : Float). Ieee.le v zeroF) (sym (p .1 k (omega arith))) ∙ e, λ j h. p .0 j h)
-  tried-one k s false e p =
-      (below-more Good k (p .0) (ap (λ (v : Float). Ieee.le v zeroF) (sym (p .1 k (omega arith))) ∙ e),
-      λ j h. getD-set-other (s .ewt) k j _ nan (λ q. omega arith) ∙ p .1 j (omega arith))
+  tried-one k s false e p = (
+    below-more Good k (p .0) (ap (λ (v : Float). Ieee.le v zeroF) (sym (p .1 k (omega arith))) ∙ e),
+    λ j h. getD-set-other (s .ewt) k j _ nan (λ q. omega arith) ∙ p .1 j (omega arith),
+  )
 
   tried-at : (k : ℕ) (s : Inversion) (r : Bool) → s .refused ≡ r → TriedIf k r s
       → Tried (k + 1) (cond r s (invertOne k s))

@@ -59,13 +59,31 @@ pub record Kinds : Type 0 where
 -- what an end returns of a record: h, evaluations and steps
 abbrev pub endedBy : ℕ → Common → Reply
 endedBy number c = record {
-  number = number; index = 0; value = zeroF; time = zeroF; previous = zeroF; count = 0; order = 0;
-  h = c .h; nfe = c .nfe; nje = c .nje; nlu = c .nlu; total = c .total; accepted = c .nst; rejected = c .rejected;
+  number = number;
+  index = 0;
+  value = zeroF;
+  time = zeroF;
+  previous = zeroF;
+  count = 0;
+  order = 0;
+  h = c .h;
+  nfe = c .nfe;
+  nje = c .nje;
+  nlu = c .nlu;
+  total = c .total;
+  accepted = c .nst;
+  rejected = c .rejected;
 }
 
 abbrev pub endOf : Status → Common → End
 endOf status c = record {
-  h = c .h; status = status; nfe = c .nfe; nje = c .nje; nlu = c .nlu; total = c .total; accepted = c .nst;
+  h = c .h;
+  status = status;
+  nfe = c .nfe;
+  nje = c .nje;
+  nlu = c .nlu;
+  total = c .total;
+  accepted = c .nst;
   rejected = c .rejected;
 }
 
@@ -168,6 +186,12 @@ pub record GapExactly (s : Settings) (c : Common) (dsm : Float) (work : List Flo
   pub ends : (rtol atol : List Float) → acceptOf s c dsm work .branch ≡ CoefficientGap
       → acceptedOf s c dsm rtol atol work .turn .question
       ≡ Question.Finished (record {
-        h = c .h; status = Status.CoefficientGap; nfe = c .nfe; nje = c .nje; nlu = c .nlu; total = c .total;
-        accepted = c .nst + 1; rejected = c .rejected;
+        h = c .h;
+        status = Status.CoefficientGap;
+        nfe = c .nfe;
+        nje = c .nje;
+        nlu = c .nlu;
+        total = c .total;
+        accepted = c .nst + 1;
+        rejected = c .rejected;
       })
