@@ -26,7 +26,7 @@ use Rattle.words.specs.Words.{putWord, putCountAt, putCountsOf, slotOf, putFloa
 use Rattle.fields.specs.Fields.{countsOf, floatsOf}
 use Rattle.session.specs.Session.{encodeOf, putTolerancesOf}
 use Rattle.session.proofs.Back.{length-encode, length-put-tolerances}
-use Rattle.refusals.specs.Start.{settingsOf, firstStepOf}
+use Rattle.refusals.specs.Start.{settingsOf, firstStepOf, smallestOf, inverseLargestOf}
 use Rattle.answers.specs.Answers.{plainOf}
 use Rattle.answers.specs.Called.{Buffers, Called}
 use Rattle.starts.specs.Starts.{keptOf, beganOf}
@@ -120,7 +120,8 @@ module _ (p : Problem) where
     not-refused = start-number-is p b .0 (well-formed p b .0 w) .1
 
     began : startOf p b ≡ beganOf (settingsOf (p .x0) (p .xend) (p .options) (lengthsOf p b)) (p .x0)
-        (firstStepOf (p .options)) (p .y0) (p .rtol) (p .atol) b
+        (firstStepOf (p .options)) (smallestOf (p .options)) (inverseLargestOf (p .x0) (p .xend) (p .options))
+        (p .y0) (p .rtol) (p .atol) b
     unfolding startAt
     began = some-start p b (w .states .0) ∙ rw (eq-eqb (refusalOf p b .number) 0 not-refused)
 
@@ -142,7 +143,9 @@ module _ (p : Problem) where
 
     session-is : startOf p b .lent .session
         ≡ let s = settingsOf (p .x0) (p .xend) (p .options) (lengthsOf p b) in
-        keptOf s (initialOf s (p .x0) (firstStepOf (p .options))) (p .rtol) (p .atol) (b .session)
+        keptOf s
+        (initialOf s (p .x0) (firstStepOf (p .options)) (smallestOf (p .options))
+        (inverseLargestOf (p .x0) (p .xend) (p .options))) (p .rtol) (p .atol) (b .session)
     unfolding beganOf
     session-is = ap (λ (x : Called). x .lent .session) began
 

@@ -291,13 +291,13 @@ module _ (s : Settings) where
       chosen NoGap (eqb (c .ialth - 1) 0) (choose-other _ _ _) (λ e. differs (cc))
 
   move-other : (c : Common) (dsm : Float) (work : List Float) (t : Bool) (d : Common) (rh : Float) (order : ℕ)
-      → NoGap (testedFamily s c dsm work (moveIf t s d rh order))
+      → NoGap (testedFamily s c dsm work (moveIf t d rh order))
   unfolding moveIf testedFamily
   move-other c dsm work true d rh order e = differs (cc)
   move-other c dsm work false d rh order e = keep-other c dsm work e
 
   gap-many : (c : Common) (dsm : Float) (work : List Float) (many : Bool) → ltb 5 (c .nq) ≡ many
-      → (testedFamily s c dsm work (cond many Gap (toAdamsAt s c dsm (adamsProposalOf s c dsm work))) .branch
+      → (testedFamily s c dsm work (cond many Gap (toAdamsAt c dsm (adamsProposalOf s c dsm work))) .branch
       ≡ CoefficientGap) ↔ (6 ≤ c .nq)
   unfolding testedFamily
   gap-many c dsm work true e = ((λ p. omega (arith, ltb-true 5 (c .nq) e)), (λ p. refl))
