@@ -110,7 +110,9 @@ pub fn close(
 {
     let n = s.n;
     let r = 1.0 / coefficients::tesco(c.table, order, 1);
-    history::scale_part(work, n, 16 * n, r);
+    let a = 16 * n;
+    let e = 17 * n;
+    history::scale(&mut work[a..e], r);
     let w = 13 * n;
     let we = 14 * n;
     vectors::ewset(rtol, atol, work, n, w);

@@ -4,23 +4,20 @@
 --     begun-keeps     its session
 -- Assumes nothing.
 use mathlib.Core.Bool.{Bool, true, false}
-use mathlib.Core.List.{List, [], _∷_, _++_}
+use mathlib.Core.List.{List, []}
 use mathlib.Core.Logic.{inl, inr}
 use mathlib.Core.Path.{_≡_, refl, sym, ap, _∙_}
-use Prim.Native.Nat.{ℕ, _+_, _-_, _≤_, _<_}
-use native.Mathlib.Nat.{zero-add}
+use Prim.Native.Nat.{ℕ, _-_, _≤_, _<_}
 use native.Mathlib.Omega.{arith}
 use lib.Dec.{eqb, lit<}
 use lib.Ieee as Ieee
 use lib.Ieee.{Float, nan}
-use lib.ListN.{length, getD, set, replicate, length-append}
-use lib.Seq.{append-snoc, set-append-seam}
+use lib.ListN.{length, getD, replicate}
 use borrow.Author.Tests.{eqb-true, eq-eqb, ne-eqb, lt-ltb}
-use Rattle.loops.specs.For.{times}
 use Rattle.loops.specs.Part.{putPart}
 use Rattle.numbers.specs.Float.{zeroF}
 use Rattle.vectors.specs.Tolerance.{List1OrN}
-use Rattle.history.specs.Columns.{fillAt, fillOf}
+use Rattle.history.proofs.Filled.{filled}
 use Rattle.turns.specs.declared.Session.{Session}
 use Rattle.turns.specs.Requires.{Resumes}
 use Rattle.reports.specs.Reports.{initialOf}
@@ -52,28 +49,9 @@ use Rattle.calls.proofs.Slots.{slots-put}
 use Rattle.calls.proofs.Keeps.{Runs, Found, Keeps, pivots-below}
 use Rattle.calls.proofs.Answers.{lentOf}
 
--- ---- a list filled with one value
-
-filled : {A : Type 0} (x : A) (f : ℕ → List A → List A) → ((i : ℕ) (w : List A) → f i w ≡ set w i x)
-    → (l p : List A) → times f (length l) (length p) (p ++ l) ≡ p ++ replicate (length l) x
-unfolding times
-filled {A} x f e [] p = refl
-filled {A} x f e (y ∷ l) p =
-    let long : length (p ++ (x ∷ [])) ≡ length p + 1 = length-append p (x ∷ []) in
-    ap (λ (w : List A). times f (length l) (length p + 1) w) (e (length p) (p ++ y ∷ l) ∙ set-append-seam p y l x)
-    ∙ (rw (long, append-snoc p x l, append-snoc p x (replicate (length l) x)) at (filled x f e l (p ++ (x ∷ []))))
-
-pub fill-all : (l : List Float) → fillOf (length l) 0 zeroF l ≡ replicate (length l) zeroF
-unfolding fillOf
-fill-all l =
-    let z : length l - 0 ≡ length l = omega arith in
-    rw z (filled zeroF (fillAt 0 zeroF) (λ i w. rw (zero-add i)) l [])
-
 pub clear-all : (l : List ℕ) → clearedOf l ≡ replicate (length l) 0
 unfolding clearedOf
-clear-all l =
-    let z : length l - 0 ≡ length l = omega arith in
-    rw z (filled 0 (λ i w. set w i 0) (λ i w. refl) l [])
+clear-all l = filled 0 l
 
 -- ---- an accepted start
 
@@ -135,7 +113,7 @@ module _ (p : Problem) (b : Buffers) (begins : Begins p b) where
   begun-is =
       let e : eqb (refusal .number) 0 ≡ true = eq-eqb (refusal .number) 0 not-refused in
       some-start p b (formed .states .0)
-      ∙ rw (e, fill-all (b .work), clear-all (b .pivots), formed .work, formed .pivots)
+      ∙ rw (e, clear-all (b .pivots), formed .work, formed .pivots)
 
   -- ---- its session
 

@@ -1,5 +1,6 @@
-// The record of a run: what a start fixes (Settings) and what the steps change (Common), both passed by value,
-// with the rules that touch the record alone: the limits in force, first-call setup, reset.
+// The record of a run: what a start fixes (Settings), and what the steps go by and change (Common: hmin and hmxi are
+// the start's, no step changes them), both passed by value, with
+// the rules that touch the record alone: the limits in force, first-call setup, reset.
 // The comment behind a field is its line in docs/SESSION.md.
 ghost use mathlib.Core.Path.{_≡_};
 ghost use mathlib.Core.Bool.{Bool};

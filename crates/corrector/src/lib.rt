@@ -1,22 +1,20 @@
 // One corrector iteration of each family: what becomes of the correction and of y, and the size of the correction.
 ghost use mathlib.Core.Path.{_≡_};
 ghost use Prim.Native.Nat.{ℕ, _+_, _*_, _≤_, _<_};
-ghost use lib.ListN.{length, getD};
+ghost use lib.ListN.{length, getD, replicate};
 ghost use Rattle.history.specs.Steps.{InRange};
 ghost use Rattle.corrector.specs.Iterate.{openOf, adamsResidualOf, adamsUpdateOf, bdfResidualOf, bdfUpdateOf};
 ghost use Rattle.corrector.specs.Iterate.{Corrected, sizeOfY, adamsOf, bdfOf, correctOf};
 ghost use Rattle.numbers.specs.Float.{zeroF};
-ghost use Rattle.history.specs.Columns.{fillOf};
 use common::Common;
 use common::Settings;
 use verdict::Correction;
 
 // A pass's iterations begin: no correction yet.
-pub fn open_iterations(c: Common, work: &mut [f64], n: usize) -> Common
-    requires { ⌜ 19 * n ≤ length (now work) ⌝ }
-    ensures { λ r. ⌜ (r ≡ openOf c) × (now (work .exit) ≡ fillOf n (16 * n) zeroF (now (work .entry))) ⌝ }
+pub fn open_iterations(c: Common, acor: &mut [f64]) -> Common
+    ensures { λ r. ⌜ (r ≡ openOf c) × (now (acor .exit) ≡ replicate (length (now (acor .entry))) zeroF) ⌝ }
 {
-    history::fill_part(work, n, 16 * n, 0.0);
+    history::fill(acor, 0.0);
     let mut d = c;
     d.m = 0;
     d.rate = 0.0;

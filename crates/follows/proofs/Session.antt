@@ -213,7 +213,8 @@ module _ (s : Settings) (acc : Accepted s) where
           → Stays (iterationsOf s c rtol atol ipiv work)
       unfolding iterationsOf
       iterations-fine c work p l =
-          iterate-fine _ _ (within-open s acc c p) (lent-length _ (length-fill (s .n) (16 * s .n) zeroF work) l)
+          let filled = length-fill (s .n) (16 * s .n) zeroF work (omega (arith, l .sized)) in
+          iterate-fine _ _ (within-open s acc c p) (lent-length _ filled l)
 
       pub factored-at-fine : (done : Bool) (c : Common) (work : List Float) → Within s 1 (coreOf c)
           → Lent (s .n) work ipiv → Stays (factoredAt s rtol atol done c ipiv work)

@@ -5,15 +5,17 @@ use mathlib.Core.Path.{_≡_, refl, _∙_}
 use mathlib.Core.List.{List}
 use Prim.Native.Nat.{ℕ, _+_, _-_, _*_, _<_, _≤_}
 use native.Mathlib.Omega.{arith}
-use lib.ListN.{length, getD, set, length-set}
+use lib.ListN.{length, getD, set, length-set, replicate, length-replicate}
 use lib.Seq.{getD-set-other}
 use lib.Ieee.{Float, nan}
+use borrow.Rule.Slice.PartMut.{same-len-mid}
 use Rattle.loops.specs.For.{for, keeps}
+use Rattle.loops.specs.Part.{part, length-putPart}
 use Rattle.numbers.specs.Float.{_⊕_, _⊖_, _⊗_}
 use Rattle.common.specs.declared.Settings.{Settings}
 use Rattle.common.specs.declared.Common.{Common}
-use Rattle.history.specs.Columns.{predictColumnsOf, retractColumnsOf, scaleColumnOf, Rescaled, rescaleAt}
-use Rattle.history.specs.Columns.{rescaleColumnsOf, addScaledOf, correctAt, correctColumnsOf}
+use Rattle.history.specs.Columns.{predictColumnsOf, retractColumnsOf, scaleOf, scaleColumnOf, Rescaled}
+use Rattle.history.specs.Columns.{rescaleAt, rescaleColumnsOf, addScaledOf, correctAt, correctColumnsOf}
 use Rattle.history.specs.Columns.{copyOf, slopeOf, fillOf, scalePartOf}
 use Rattle.history.specs.Steps.{InRange, adjustOf, predictedOf}
 
@@ -70,9 +72,17 @@ module _ (n nq nqnyh : ℕ) (yh : List Float) where
   unfolding retractColumnsOf
   same-retract i beyond = same-passes n nqnyh (λ j t. getD t j nan ⊖ getD t (j + n) nan) nq i yh beyond
 
-length-scale-column : (n j : ℕ) (r : Float) (yh : List Float) → length (scaleColumnOf n j r yh) ≡ length yh
+length-scale : (r : Float) (v : List Float) → length (scaleOf r v) ≡ length v
+length-scale r v = length-stores (λ i. i) (λ i t. getD t i nan ⊗ r) 0 (length v) v
+
+pub length-scale-column : (n j : ℕ) (r : Float) (yh : List Float) → length (scaleColumnOf n j r yh) ≡ length yh
 unfolding scaleColumnOf
-length-scale-column n j r yh = length-stores (λ i. j * n + i) (λ i t. getD t (j * n + i) nan ⊗ r) 0 n yh
+length-scale-column n j r yh =
+    same-len-mid (j * n) n yh (scaleOf r (part (j * n) n yh)) (length-scale r (part (j * n) n yh))
+
+pub length-scale-part : (n at : ℕ) (r : Float) (work : List Float) → length (scalePartOf n at r work) ≡ length work
+unfolding scalePartOf
+length-scale-part n at r work = same-len-mid at n work (scaleOf r (part at n work)) (length-scale r (part at n work))
 
 pub length-rescale : (n l : ℕ) (rh : Float) (yh : List Float) → length (rescaleColumnsOf n l rh yh) ≡ length yh
 unfolding rescaleColumnsOf
@@ -97,13 +107,10 @@ pub length-slope : (n : ℕ) (h : Float) (work : List Float) → length (slopeOf
 unfolding slopeOf
 length-slope n h work = length-stores (λ i. n + i) (λ i t. h ⊗ getD t (14 * n + i) nan) 0 n work
 
-pub length-fill : (n at : ℕ) (x : Float) (work : List Float) → length (fillOf n at x work) ≡ length work
+pub length-fill : (n at : ℕ) (x : Float) (work : List Float) → at + n ≤ length work
+    → length (fillOf n at x work) ≡ length work
 unfolding fillOf
-length-fill n at x work = length-stores (λ i. at + i) (λ i t. x) 0 n work
-
-pub length-scale-part : (n at : ℕ) (r : Float) (work : List Float) → length (scalePartOf n at r work) ≡ length work
-unfolding scalePartOf
-length-scale-part n at r work = length-stores (λ i. at + i) (λ i t. getD t (at + i) nan ⊗ r) 0 n work
+length-fill n at x work h = length-putPart at n work h (replicate n x) (length-replicate n x)
 
 -- a record with the same order, table and places is in range where the other is
 pub same-range : {s : Settings} {c : Common} (d : Common)

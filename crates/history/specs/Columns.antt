@@ -3,9 +3,10 @@
 -- The vectors stand where crate common's Layout says: savf at 14·n, acor at 16·n.
 use mathlib.Core.List.{List}
 use Prim.Native.Nat.{ℕ, _+_, _-_, _*_}
-use lib.ListN.{getD, set}
+use lib.ListN.{length, getD, set, replicate}
 use lib.Ieee.{Float, nan}
 use Rattle.loops.specs.For.{for}
+use Rattle.loops.specs.Part.{part, putPart}
 use Rattle.numbers.specs.Float.{_⊕_, _⊖_, _⊗_, oneF}
 use Rattle.common.specs.declared.Settings.{Settings}
 use Rattle.common.specs.declared.Common.{Common}
@@ -38,11 +39,16 @@ retractPass n nqnyh k yh = subRange n (nqnyh - (k + 1) * n) nqnyh yh
 unfoldable pub retractColumnsOf : ℕ → ℕ → ℕ → List Float → List Float
 retractColumnsOf n nq nqnyh yh = for 0 nq (retractPass n nqnyh) yh
 
-abbrev pub scaleAt : ℕ → ℕ → Float → ℕ → List Float → List Float
-scaleAt n j r i yh = set yh (j * n + i) (getD yh (j * n + i) nan ⊗ r)
+-- each number times r
+abbrev pub scaleAt : Float → ℕ → List Float → List Float
+scaleAt r i v = set v i (getD v i nan ⊗ r)
 
+abbrev pub scaleOf : Float → List Float → List Float
+scaleOf r v = for 0 (length v) (scaleAt r) v
+
+-- column j times r
 unfoldable pub scaleColumnOf : ℕ → ℕ → Float → List Float → List Float
-scaleColumnOf n j r yh = for 0 n (scaleAt n j r) yh
+scaleColumnOf n j r yh = putPart (j * n) n yh (scaleOf r (part (j * n) n yh))
 
 -- the power of rh so far, and the columns
 pub record Rescaled : Type 0 where
@@ -82,14 +88,10 @@ slopeAt n h i work = set work (n + i) (h ⊗ getD work (14 * n + i) nan)
 unfoldable pub slopeOf : ℕ → Float → List Float → List Float
 slopeOf n h work = for 0 n (slopeAt n h) work
 
-abbrev pub fillAt : ℕ → Float → ℕ → List Float → List Float
-fillAt at x i work = set work (at + i) x
-
+-- the n numbers at `at` become x
 unfoldable pub fillOf : ℕ → ℕ → Float → List Float → List Float
-fillOf n at x work = for 0 n (fillAt at x) work
+fillOf n at x work = putPart at n work (replicate n x)
 
-abbrev pub scalePartAt : ℕ → Float → ℕ → List Float → List Float
-scalePartAt at r i work = set work (at + i) (getD work (at + i) nan ⊗ r)
-
+-- the n numbers at `at`, each times r
 unfoldable pub scalePartOf : ℕ → ℕ → Float → List Float → List Float
-scalePartOf n at r work = for 0 n (scalePartAt at r) work
+scalePartOf n at r work = putPart at n work (scaleOf r (part at n work))

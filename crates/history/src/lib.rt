@@ -2,12 +2,11 @@
 // Column j is the n numbers at j·n. Snapshot and interpolation are in crate interpolation.
 ghost use mathlib.Core.Path.{_≡_};
 ghost use Prim.Native.Nat.{_+_, _*_, _≤_, _<_};
-ghost use lib.ListN.{length};
-ghost use Rattle.history.specs.Columns.{addRange, subRange, predictColumnsOf, retractColumnsOf, scaleColumnOf};
+ghost use lib.ListN.{length, replicate};
+ghost use Rattle.history.specs.Columns.{addRange, subRange, predictColumnsOf, retractColumnsOf, scaleOf};
 ghost use Rattle.history.specs.Columns.{rescaleColumnsOf, addScaledOf, correctColumnsOf};
-ghost use Rattle.history.specs.Columns.{copyOf, slopeOf, fillOf, scalePartOf};
+ghost use Rattle.history.specs.Columns.{copyOf, slopeOf};
 ghost use Rattle.history.specs.Steps.{InRange, limitedOf, adjustOf, staleOf, predictedOf, predictedWorkOf};
-ghost use Rattle.loops.specs.Part.{putPart};
 use common::Common;
 use common::Settings;
 
@@ -51,13 +50,12 @@ pub fn retract_columns(yh: &mut [f64], n: usize, nq: usize, nqnyh: usize)
     }
 }
 
-// Column j times r.
-fn scale_column(yh: &mut [f64], n: usize, j: usize, r: f64)
-    requires { ⌜ j * n + n ≤ length (now yh) ⌝ }
-    ensures { λ _. ⌜ now (yh .exit) ≡ scaleColumnOf n j r (now (yh .entry)) ⌝ }
+// Each number times r.
+pub fn scale(v: &mut [f64], r: f64)
+    ensures { λ _. ⌜ now (v .exit) ≡ scaleOf r (now (v .entry)) ⌝ }
 {
-    for i in 0..n {
-        yh[j * n + i] *= r;
+    for i in 0..v.len() {
+        v[i] *= r;
     }
 }
 
@@ -69,7 +67,9 @@ pub fn rescale_columns(yh: &mut [f64], n: usize, l: usize, rh: f64)
     let mut r = 1.0;
     for j in 1..l {
         r = r * rh;
-        scale_column(yh, n, j, r);
+        let a = j * n;
+        let e = a + n;
+        scale(&mut yh[a..e], r);
     }
 }
 
@@ -115,44 +115,23 @@ pub fn set_slope(work: &mut [f64], n: usize, h: f64)
     }
 }
 
-// The n numbers at `at` become x.
-pub fn fill_part(work: &mut [f64], n: usize, at: usize, x: f64)
-    requires { ⌜ at + n ≤ length (now work) ⌝ }
-    ensures { λ _. ⌜ now (work .exit) ≡ fillOf n at x (now (work .entry)) ⌝ }
+// Each number becomes x.
+pub fn fill(v: &mut [f64], x: f64)
+    ensures { λ _. ⌜ now (v .exit) ≡ replicate (length (now (v .entry))) x ⌝ }
 {
-    for i in 0..n {
-        work[at + i] = x;
-    }
-}
-
-// The n numbers at `at`, each times r.
-pub fn scale_part(work: &mut [f64], n: usize, at: usize, r: f64)
-    requires { ⌜ at + n ≤ length (now work) ⌝ }
-    ensures { λ _. ⌜ now (work .exit) ≡ scalePartOf n at r (now (work .entry)) ⌝ }
-{
-    for i in 0..n {
-        work[at + i] *= r;
+    for i in 0..v.len() {
+        v[i] = x;
     }
 }
 
 // A vector becomes another of its length.
-fn copy_from(to: &mut [f64], from: &[f64])
+pub fn copy_from(to: &mut [f64], from: &[f64])
     requires { ⌜ length (now to) ≡ length (now from) ⌝ }
     ensures { λ _. ⌜ now (to .exit) ≡ now (from .entry) ⌝ }
 {
     for i in 0..to.len() {
         to[i] = from[i];
     }
-}
-
-// The numbers at `at` become those of a vector.
-pub fn store(work: &mut [f64], at: usize, from: &[f64])
-    requires { ⌜ at + length (now from) ≤ length (now work) ⌝ }
-    ensures { λ _. ⌜ now (work .exit)
-        ≡ putPart at (length (now (from .entry))) (now (work .entry)) (now (from .entry)) ⌝ }
-{
-    let e = at + from.len();
-    copy_from(&mut work[at..e], from);
 }
 
 // The factor of a rescale within its limits: rmax, the largest step, and in the Adams family the stability limit SM1.

@@ -9,7 +9,6 @@ use mathlib.Core.Logic.{_⊎_, inl, inr, ⊎-elim}
 use mathlib.Core.Bool.{Bool, true, false, cond}
 use mathlib.Core.List.{List}
 use Prim.Native.Nat.{ℕ, zero, suc, _+_, _-_, _*_, _≤_, _<_}
-use native.Mathlib.Nat.{zero-add}
 use native.Mathlib.Omega.{arith}
 use lib.Dec.{eqb, ltb}
 use lib.ListN.{length, getD, set, length-set}
@@ -117,19 +116,17 @@ module _ (s : Settings) (c : Common) (work question : List Float) where
   snapshot-keeps = kept .first
 
 -- the numbers of a column
-pub last-each : (cont : List Float) (at : ℕ) (yi : List Float)
-    → Each (λ i x. getD cont (at + i) nan) yi (lastColumnOf cont at yi)
+pub last-each : (column yi : List Float) → Each (λ i x. getD column i nan) yi (lastColumnOf column yi)
 unfolding lastColumnOf
-last-each cont at yi = each (λ i x. getD cont (at + i) nan) yi
+last-each column yi = each (λ i x. getD column i nan) yi
 
 module _ (xi : Float) (cont yi : List Float) where
   pub copied : length cont ≡ length yi → interpolateOf xi cont yi ≡ left 0 cont
   unfolding interpolateOf
   copied h =
-      let t = last-each cont 0 yi in
-      let same : lastColumnOf cont 0 yi ≡ cont =
-      ext-getD nan (lastColumnOf cont 0 yi) cont (t .long ∙ sym h)
-      (λ i b. t .here i (omega (arith, t .long)) ∙ ap (λ (k : ℕ). getD cont k nan) (zero-add i))
+      let t = last-each cont yi in
+      let same : lastColumnOf cont yi ≡ cont =
+      ext-getD nan (lastColumnOf cont yi) cont (t .long ∙ sym h) (λ i b. t .here i (omega (arith, t .long)))
       in
       rw (eq-eqb (length cont) (length yi) h, same)
 

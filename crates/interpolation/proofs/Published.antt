@@ -9,7 +9,8 @@ use mathlib.Core.List.{List, [], _∷_}
 use Prim.Native.Nat.{ℕ, zero, suc, _+_, _-_, _*_, _≤_, _<_}
 use native.Mathlib.Nat.{mul-comm, mul-assoc, mul-one, add-mul}
 use native.Mathlib.Omega.{arith}
-use lib.ListN.{length, getD}
+use lib.ListN.{length, getD, drop}
+use lib.Seq.{getD-take, getD-drop}
 use lib.Ieee as Ieee
 use lib.Ieee.{Float, nan}
 use borrow.Author.Tests.{eq-eqb, ne-eqb, le-ltb}
@@ -17,18 +18,22 @@ use Rattle.loops.specs.For.{for}
 use Rattle.numbers.specs.Float.{_⊕_, _⊖_, _⊗_, _⊘_, zeroF}
 use Rattle.interpolation.specs.declared.Sizes.{Sizes}
 use Rattle.interpolation.specs.Header.{Reads}
-use Rattle.interpolation.specs.Evaluate.{lastColumnOf, hornerOf, turnOf, evaluateOf}
+use Rattle.interpolation.specs.Evaluate.{lastColumnOf, hornerOf, columnOf, turnOf, evaluateOf}
 use Rattle.interpolation.specs.Evaluate.{left, sizedOf, interpolateOf}
 use Rattle.interpolation.specs.Published.{horner, power, polynomial, Exact, entry, entries}
 use Rattle.interpolation.proofs.Laws.{reaches, Each, each, last-each}
 use Rattle.interpolation.proofs.Counts.{reads-header}
 
-horner-each : (cont : List Float) (at : ℕ) (s : Float) (yi : List Float)
-    → Each (λ i x. getD cont (at + i) nan ⊕ s ⊗ x) yi (hornerOf cont at s yi)
+horner-each : (column : List Float) (s : Float) (yi : List Float)
+    → Each (λ i x. getD column i nan ⊕ s ⊗ x) yi (hornerOf column s yi)
 unfolding hornerOf
-horner-each cont at s yi = each (λ i x. getD cont (at + i) nan ⊕ s ⊗ x) yi
+horner-each column s yi = each (λ i x. getD column i nan ⊕ s ⊗ x) yi
 
-module _ (cont yi : List Float) (n nq i : ℕ) (s : Float) (h : i < length yi) where
+module _ (cont yi : List Float) (n nq i : ℕ) (s : Float) (h : i < length yi) (states : length yi ≡ n) where
+  -- state i of column j
+  entry-is : (j : ℕ) → getD (columnOf cont n j) i nan ≡ entry cont n i j
+  entry-is j = getD-take n (drop (6 + j * n) cont) i nan (omega arith) ∙ getD-drop (6 + j * n) cont i nan
+
   -- Horner's rule on the columns from m to m + k
   abbrev from : ℕ → ℕ → Float
   from m k = horner _⊕_ _⊗_ s (entry cont n i m) (entries cont n i (m + 1) k)
@@ -49,36 +54,36 @@ module _ (cont yi : List Float) (n nq i : ℕ) (s : Float) (h : i < length yi) w
 
   turn : (jb : ℕ) (l : List Float) → jb < nq + 1 → Done jb l → Done (jb + 1) (turnOf cont n nq s jb l)
   turn jb l b p =
-      let t = horner-each cont (6 + (nq - jb) * n) s l in
+      let t = horner-each (columnOf cont n (nq - jb)) s l in
       record {
         begun = omega arith;
         long = t .long ∙ p .long;
-        value = λ m k e f. t .here i (rw (p .long) h) ∙ next jb l b p m k e f;
+        value = λ m k e f. (rw (entry-is (nq - jb)) at (t .here i (rw (p .long) h))) ∙ next jb l b p m k e f;
       }
 
-  begin : Done 1 (lastColumnOf cont (6 + nq * n) yi)
+  begin : Done 1 (lastColumnOf (columnOf cont n nq) yi)
   unfolding horner entries
   begin =
-      let t = last-each cont (6 + nq * n) yi in
+      let t = last-each (columnOf cont n nq) yi in
       record {
         begun = omega arith;
         long = t .long;
         value = λ m k e f.
             let z : k ≡ 0 = omega arith in
             let q : m ≡ nq = omega arith in
-            rw (z, q) (t .here i h);
+            rw (z, q) (t .here i h ∙ entry-is nq);
       }
 
-  all-turns : getD (for 1 (nq + 1) (turnOf cont n nq s) (lastColumnOf cont (6 + nq * n) yi)) i nan ≡ from 0 nq
+  all-turns : getD (for 1 (nq + 1) (turnOf cont n nq s) (lastColumnOf (columnOf cont n nq) yi)) i nan ≡ from 0 nq
   all-turns =
-      reaches Done (turnOf cont n nq s) (nq + 1) turn 1 (lastColumnOf cont (6 + nq * n) yi) (omega arith) begin
+      reaches Done (turnOf cont n nq s) (nq + 1) turn 1 (lastColumnOf (columnOf cont n nq) yi) (omega arith) begin
       .value 0 nq refl (omega arith)
 
 pub evaluated : (xi : Float) (cont : List Float) (z : Sizes) (yi : List Float) (i : ℕ) → i < length yi
-    → getD (evaluateOf xi cont z yi) i nan
+    → length yi ≡ z .n → getD (evaluateOf xi cont z yi) i nan
     ≡ horner _⊕_ _⊗_ ((xi ⊖ z .tn) ⊘ z .h) (entry cont (z .n) i 0) (entries cont (z .n) i 1 (z .nq))
 unfolding evaluateOf
-evaluated xi cont z yi i h = all-turns cont yi (z .n) (z .nq) i ((xi ⊖ z .tn) ⊘ z .h) h
+evaluated xi cont z yi i h states = all-turns cont yi (z .n) (z .nq) i ((xi ⊖ z .tn) ⊘ z .h) h states
 
 -- the header is read, so that 15 does not apply, nor do the copy, 16 and 17
 pub interpolated : (xi : Float) (cont yi : List Float) (z : Sizes) → Reads cont z → (length cont ≡ length yi → ⊥)
@@ -93,7 +98,7 @@ interpolated xi cont yi z r other states columns step =
     let c = le-ltb (length cont - 6) ((z .nq + 1) * z .n) columns in
     let read = reads-header cont z r in
     let whole : interpolateOf xi cont yi ≡ left 0 (evaluateOf xi cont z yi) = rw (a, read, b, c, step) in
-    rw whole (refl, (λ i h. evaluated xi cont z yi i (omega arith)))
+    rw whole (refl, (λ i h. evaluated xi cont z yi i (omega arith) states))
 
 module _ {A : Type 0} (same : A → A → Type 0) (add mul : A → A → A) (unit : A) (exact : Exact same add mul unit)
     (s : A) where

@@ -9,32 +9,37 @@ use lib.ListN.{length, getD, set}
 use lib.Ieee as Ieee
 use lib.Ieee.{Float, nan}
 use Rattle.loops.specs.For.{for}
+use Rattle.loops.specs.Part.{part}
 use Rattle.numbers.specs.Float.{_⊕_, _⊖_, _⊗_, _⊘_, zeroF}
 use Rattle.interpolation.specs.declared.Sizes.{Sizes}
 use Rattle.interpolation.specs.declared.Header.{Header}
 use Rattle.interpolation.specs.declared.Header.the-variants.{Read, Refused}
 use Rattle.interpolation.specs.Header.{readHeaderOf}
 
-abbrev pub lastAt : List Float → ℕ → ℕ → List Float → List Float
-lastAt cont at i yi = set yi i (getD cont (at + i) nan)
+abbrev pub lastAt : List Float → ℕ → List Float → List Float
+lastAt column i yi = set yi i (getD column i nan)
 
-unfoldable pub lastColumnOf : List Float → ℕ → List Float → List Float
-lastColumnOf cont at yi = for 0 (length yi) (lastAt cont at) yi
+unfoldable pub lastColumnOf : List Float → List Float → List Float
+lastColumnOf column yi = for 0 (length yi) (lastAt column) yi
 
--- the column at `at` plus s times what stands
-abbrev pub hornerAt : List Float → ℕ → Float → ℕ → List Float → List Float
-hornerAt cont at s i yi = set yi i (getD cont (at + i) nan ⊕ s ⊗ getD yi i nan)
+-- a column plus s times what stands
+abbrev pub hornerAt : List Float → Float → ℕ → List Float → List Float
+hornerAt column s i yi = set yi i (getD column i nan ⊕ s ⊗ getD yi i nan)
 
-unfoldable pub hornerOf : List Float → ℕ → Float → List Float → List Float
-hornerOf cont at s yi = for 0 (length yi) (hornerAt cont at s) yi
+unfoldable pub hornerOf : List Float → Float → List Float → List Float
+hornerOf column s yi = for 0 (length yi) (hornerAt column s) yi
 
--- from column nq - jb: the columns stand from 6 on
+-- column j of a snapshot of n states: the columns stand from 6 on
+abbrev pub columnOf : List Float → ℕ → ℕ → List Float
+columnOf cont n j = part (6 + j * n) n cont
+
 abbrev pub turnOf : List Float → ℕ → ℕ → Float → ℕ → List Float → List Float
-turnOf cont n nq s jb yi = hornerOf cont (6 + (nq - jb) * n) s yi
+turnOf cont n nq s jb yi = hornerOf (columnOf cont n (nq - jb)) s yi
 
 unfoldable pub evaluateOf : Float → List Float → Sizes → List Float → List Float
 evaluateOf xi cont z yi =
-    for 1 (z .nq + 1) (turnOf cont (z .n) (z .nq) ((xi ⊖ z .tn) ⊘ z .h)) (lastColumnOf cont (6 + z .nq * z .n) yi)
+    for 1 (z .nq + 1) (turnOf cont (z .n) (z .nq) ((xi ⊖ z .tn) ⊘ z .h))
+    (lastColumnOf (columnOf cont (z .n) (z .nq)) yi)
 
 -- the number returned, and the output
 pub record Interpolated : Type 0 where
@@ -58,4 +63,4 @@ headedOf xi cont (Read z) yi = sizedOf xi cont z yi
 
 unfoldable pub interpolateOf : Float → List Float → List Float → Interpolated
 interpolateOf xi cont yi =
-    cond (eqb (length cont) (length yi)) (left 0 (lastColumnOf cont 0 yi)) (headedOf xi cont (readHeaderOf cont) yi)
+    cond (eqb (length cont) (length yi)) (left 0 (lastColumnOf cont yi)) (headedOf xi cont (readHeaderOf cont) yi)

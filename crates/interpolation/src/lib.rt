@@ -92,22 +92,22 @@ fn read_header(cont: &[f64]) -> Header
 }
 
 // The last column, where Horner's rule begins.
-fn last_column(yi: &mut [f64], cont: &[f64], at: usize)
-    requires { ⌜ at + length (now yi) ≤ length (now cont) ⌝ }
-    ensures { λ _. ⌜ now (yi .exit) ≡ lastColumnOf (now (cont .entry)) at (now (yi .entry)) ⌝ }
+fn last_column(yi: &mut [f64], column: &[f64])
+    requires { ⌜ length (now yi) ≤ length (now column) ⌝ }
+    ensures { λ _. ⌜ now (yi .exit) ≡ lastColumnOf (now (column .entry)) (now (yi .entry)) ⌝ }
 {
     for i in 0..yi.len() {
-        yi[i] = cont[at + i];
+        yi[i] = column[i];
     }
 }
 
-// One turn of Horner's rule: the column at `at` plus s times what stands.
-fn horner(yi: &mut [f64], cont: &[f64], at: usize, s: f64)
-    requires { ⌜ at + length (now yi) ≤ length (now cont) ⌝ }
-    ensures { λ _. ⌜ now (yi .exit) ≡ hornerOf (now (cont .entry)) at s (now (yi .entry)) ⌝ }
+// One turn of Horner's rule: a column plus s times what stands.
+fn horner(yi: &mut [f64], column: &[f64], s: f64)
+    requires { ⌜ length (now yi) ≤ length (now column) ⌝ }
+    ensures { λ _. ⌜ now (yi .exit) ≡ hornerOf (now (column .entry)) s (now (yi .entry)) ⌝ }
 {
     for i in 0..yi.len() {
-        yi[i] = cont[at + i] + s * yi[i];
+        yi[i] = column[i] + s * yi[i];
     }
 }
 
@@ -120,9 +120,13 @@ fn evaluate(xi: f64, yi: &mut [f64], cont: &[f64], z: Sizes)
     let n = z.n;
     let nq = z.nq;
     let s = (xi - z.tn) / z.h;
-    last_column(yi, cont, 6 + nq * n);
+    let last = 6 + nq * n;
+    let end = last + n;
+    last_column(yi, &cont[last..end]);
     for jb in 1..nq + 1 {
-        horner(yi, cont, 6 + (nq - jb) * n, s);
+        let a = 6 + (nq - jb) * n;
+        let e = a + n;
+        horner(yi, &cont[a..e], s);
     }
 }
 
@@ -153,7 +157,7 @@ pub fn interpolate(xi: f64, yi: &mut [f64], cont: &[f64]) -> usize
         (interpolateOf xi (now (cont .entry)) (now (yi .entry))) ⌝ }
 {
     if cont.len() == yi.len() {
-        last_column(yi, cont, 0);
+        last_column(yi, cont);
         return 0;
     }
     match read_header(cont) {

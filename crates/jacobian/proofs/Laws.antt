@@ -12,7 +12,8 @@ use Prim.Native.Nat.{ℕ, _+_, _*_, _≤_}
 use native.Mathlib.Omega.{arith}
 use lib.ListN.{length, getD, length-set}
 use lib.Ieee.{Float, nan}
-use Rattle.loops.specs.Part.{length-part, length-putPart}
+use borrow.Rule.Slice.PartMut.{same-len-mid}
+use Rattle.loops.specs.Part.{part}
 use Rattle.numbers.specs.Float.{_⊕_, _⊖_, _⊗_, oneF}
 use Rattle.dense.proofs.Laws.{Below, length-factor-a, length-factor-ipiv, factor-below}
 use Rattle.common.specs.declared.Settings.{Settings}
@@ -21,7 +22,7 @@ use Rattle.common.specs.Record.{with-nje, with-nslp, with-nlu}
 use Rattle.common.specs.Layout.{matrix}
 use Rattle.history.specs.Steps.{InRange}
 use Rattle.history.proofs.Laws.{length-stores, same-range}
-use Rattle.jacobian.specs.Jacobian.{beginOf, minusHl0, perturbOf, columnOf, restoreOf, suppliedOf}
+use Rattle.jacobian.specs.Jacobian.{beginOf, minusHl0, perturbOf, columnOf, restoreOf, scaledOf, suppliedOf}
 use Rattle.jacobian.specs.Jacobian.{identityOf, factoredOf, inForce, finishedOf}
 
 -- ---- lengths
@@ -32,9 +33,11 @@ module _ (s : Settings) (c : Common) (work : List Float) where
   length-perturb j = simp length-set
 
   pub length-supplied : (jac : List Float) → length (suppliedOf s c jac work) ≡ length work
-  unfolding suppliedOf
+  unfolding scaledOf
   length-supplied jac =
-      length-stores (λ i. 19 * s .n + i) (λ i t. minusHl0 c ⊗ getD jac i nan) 0 (length jac) work
+      let a = part (19 * s .n) (length jac) work in
+      same-len-mid (19 * s .n) (length jac) work (scaledOf (minusHl0 c) jac a)
+      (length-stores (λ i. i) (λ i t. minusHl0 c ⊗ getD jac i nan) 0 (length jac) a)
 
 pub length-column : (n j : ℕ) (fac : Float) (work : List Float) → length (columnOf n j fac work) ≡ length work
 unfolding columnOf
@@ -47,29 +50,26 @@ pub length-restore : (s : Settings) (c : Common) (j : ℕ) (work : List Float)
 unfolding restoreOf
 length-restore s c j work = simp length-set (length-column (s .n) j _ work)
 
-pub length-identity : (n : ℕ) (work : List Float) → length (identityOf n work) ≡ length work
+length-identity : (n : ℕ) (a : List Float) → length (identityOf n a) ≡ length a
 unfolding identityOf
-length-identity n work =
-    length-stores (λ i. 19 * n + (i + i * n)) (λ i t. getD t (19 * n + (i + i * n)) nan ⊕ oneF) 0 n work
+length-identity n a = length-stores (λ i. i + i * n) (λ i t. getD t (i + i * n) nan ⊕ oneF) 0 n a
 
 module _ (s : Settings) (c : Common) (work : List Float) (ipiv : List ℕ) where
-  pub length-finished : s .n * s .n + 19 * s .n ≤ length work → length (finishedOf s c work ipiv .work) ≡ length work
+  pub length-finished : length (finishedOf s c work ipiv .work) ≡ length work
   unfolding finishedOf
-  length-finished room =
+  length-finished =
       let n = s .n in
-      let w = identityOf n work in
-      let fits : 19 * n + n * n ≤ length w = omega (arith, length-identity n work) in
-      let a = factoredOf n w ipiv .a in
-      let same = length-factor-a n (matrix n w) ipiv ∙ length-part (19 * n) (n * n) w fits in
-      length-putPart (19 * n) (n * n) w fits a same ∙ length-identity n work
+      let a = matrix n work in
+      same-len-mid (19 * n) (n * n) work (factoredOf n a ipiv .a)
+      (length-factor-a n (identityOf n a) ipiv ∙ length-identity n a)
 
   pub length-finished-ipiv : length (finishedOf s c work ipiv .ipiv) ≡ length ipiv
   unfolding finishedOf
-  length-finished-ipiv = length-factor-ipiv (s .n) (matrix (s .n) (identityOf (s .n) work)) ipiv
+  length-finished-ipiv = length-factor-ipiv (s .n) (identityOf (s .n) (matrix (s .n) work)) ipiv
 
   pub finished-below : Below (s .n) ipiv → Below (s .n) (finishedOf s c work ipiv .ipiv)
   unfolding finishedOf
-  finished-below p = factor-below (s .n) (matrix (s .n) (identityOf (s .n) work)) ipiv p
+  finished-below p = factor-below (s .n) (identityOf (s .n) (matrix (s .n) work)) ipiv p
 
 -- ---- the record
 

@@ -8,7 +8,7 @@ use lib.ListN.{length, getD, set}
 use lib.Ieee as Ieee
 use lib.Ieee.{Float, nan}
 use Rattle.loops.specs.For.{for}
-use Rattle.loops.specs.Part.{putPart}
+use Rattle.loops.specs.Part.{part, putPart}
 use Rattle.numbers.specs.Float.{_⊕_, _⊖_, _⊗_, _⊘_, whole, zeroF, oneF, uround, srur, d0·7, d1000}
 use Rattle.numbers.specs.Sign.{absOf}
 use Rattle.numbers.specs.Order.{maxOf}
@@ -57,18 +57,22 @@ restoreOf s c j work =
     let w = columnOf (s .n) j (minusHl0 c ⊘ incrementOf s c work j) work in
     set w (18 * s .n + j) (getD w (17 * s .n + j) nan)
 
-abbrev pub suppliedAt : ℕ → Float → List Float → ℕ → List Float → List Float
-suppliedAt at scale jac i work = set work (at + i) (scale ⊗ getD jac i nan)
+abbrev pub scaledAt : Float → List Float → ℕ → List Float → List Float
+scaledAt scale jac i a = set a i (scale ⊗ getD jac i nan)
+
+unfoldable pub scaledOf : Float → List Float → List Float → List Float
+scaledOf scale jac a = for 0 (length jac) (scaledAt scale jac) a
 
 -- the host's Jacobian, column by column, scaled into the matrix
-unfoldable pub suppliedOf : Settings → Common → List Float → List Float → List Float
-suppliedOf s c jac work = for 0 (length jac) (suppliedAt (19 * s .n) (minusHl0 c) jac) work
+abbrev pub suppliedOf : Settings → Common → List Float → List Float → List Float
+suppliedOf s c jac work =
+    putPart (19 * s .n) (length jac) work (scaledOf (minusHl0 c) jac (part (19 * s .n) (length jac) work))
 
 abbrev pub identityAt : ℕ → ℕ → List Float → List Float
-identityAt n i work = set work (19 * n + (i + i * n)) (getD work (19 * n + (i + i * n)) nan ⊕ oneF)
+identityAt n i a = set a (i + i * n) (getD a (i + i * n) nan ⊕ oneF)
 
 unfoldable pub identityOf : ℕ → List Float → List Float
-identityOf n work = for 0 n (identityAt n) work
+identityOf n a = for 0 n (identityAt n) a
 
 -- whether the factoring went through, and what is left
 pub record Factored : Type 0 where
@@ -78,7 +82,7 @@ pub record Factored : Type 0 where
   pub ipiv : List ℕ
 
 abbrev pub factoredOf : ℕ → List Float → List ℕ → Factors
-factoredOf n work ipiv = factorOf n (matrix n work) ipiv
+factoredOf n a ipiv = factorOf n (identityOf n a) ipiv
 
 -- the Jacobian in force: rc is 1 again, and convergence is to be seen anew
 abbrev pub inForce : Common → Float → Bool → Common
@@ -89,11 +93,10 @@ inForce c norm done =
 unfoldable pub finishedOf : Settings → Common → List Float → List ℕ → Factored
 finishedOf s c work ipiv =
     let n = s .n in
-    let w = identityOf n work in
-    let f = factoredOf n w ipiv in
+    let f = factoredOf n (matrix n work) ipiv in
     record {
       done = f .ok;
       common = inForce c (fnormOf n (matrix n work) (ewt n work) .value) (f .ok);
-      work = putPart (19 * n) (n * n) w (f .a);
+      work = putPart (19 * n) (n * n) work (f .a);
       ipiv = f .ipiv;
     }

@@ -3,8 +3,8 @@ ghost use mathlib.Core.Path.{_≡_};
 ghost use Prim.Native.Nat.{_+_, _*_, _^_, _≤_, _<_};
 ghost use lib.ListN.{length};
 ghost use Rattle.jacobian.specs.Jacobian.{beginOf, r0Of, incrementOf, perturbOf, columnOf, restoreOf};
-ghost use Rattle.jacobian.specs.Jacobian.{suppliedOf, identityOf, factoredOf, inForce, Factored, finishedOf};
-ghost use Rattle.loops.specs.Part.{putPart};
+ghost use Rattle.jacobian.specs.Jacobian.{minusHl0, scaledOf, identityOf, factoredOf, inForce, Factored};
+ghost use Rattle.jacobian.specs.Jacobian.{finishedOf};
 use common::Common;
 use common::Settings;
 
@@ -85,38 +85,35 @@ pub fn store_column(s: Settings, c: Common, work: &mut [f64], j: usize)
 }
 
 // The host's Jacobian, column by column, scaled into the matrix.
-pub fn store_jacobian(s: Settings, c: Common, work: &mut [f64], jac: &[f64])
-    requires { ⌜ (s .n ≤ 64) × (19 * s .n + length (now jac) ≤ length (now work)) ⌝ }
-    ensures { λ _. ⌜ now (work .exit) ≡ suppliedOf s c (now (jac .entry)) (now (work .entry)) ⌝ }
+pub fn store_jacobian(c: Common, a: &mut [f64], jac: &[f64])
+    requires { ⌜ length (now jac) ≤ length (now a) ⌝ }
+    ensures { λ _. ⌜ now (a .exit) ≡ scaledOf (minusHl0 c) (now (jac .entry)) (now (a .entry)) ⌝ }
 {
-    let at = 19 * s.n;
     let scale = -(c.h * c.el0);
     for i in 0..jac.len() {
-        work[at + i] = scale * jac[i];
+        a[i] = scale * jac[i];
     }
 }
 
-// The identity added to the matrix.
-fn add_identity(work: &mut [f64], n: usize)
-    requires { ⌜ n * n + 19 * n ≤ length (now work) ⌝ }
-    ensures { λ _. ⌜ now (work .exit) ≡ identityOf n (now (work .entry)) ⌝ }
+// The identity added to a matrix.
+fn add_identity(a: &mut [f64], n: usize)
+    requires { ⌜ n * n ≤ length (now a) ⌝ }
+    ensures { λ _. ⌜ now (a .exit) ≡ identityOf n (now (a .entry)) ⌝ }
 {
     for i in 0..n {
-        work[19 * n + (i + i * n)] += 1.0;
+        a[i + i * n] += 1.0;
     }
 }
 
-// The matrix replaced by its factors. False where a pivot was zero.
-fn factor(work: &mut [f64], n: usize, ipiv: &mut [usize]) -> bool
-    requires { ⌜ (n * n + 19 * n ≤ length (now work)) × (n ≤ length (now ipiv)) ⌝ }
-    ensures { λ r. ⌜ (now (work .exit) ≡ putPart (19 * n) (n * n) (now (work .entry))
-        (factoredOf n (now (work .entry)) (now (ipiv .entry)) .a))
-        × (now (ipiv .exit) ≡ factoredOf n (now (work .entry)) (now (ipiv .entry)) .ipiv)
-        × (r ≡ factoredOf n (now (work .entry)) (now (ipiv .entry)) .ok) ⌝ }
+// The identity added to the matrix, and its factors in its place. False where a pivot was zero.
+fn factor(a: &mut [f64], n: usize, ipiv: &mut [usize]) -> bool
+    requires { ⌜ (n * n ≤ length (now a)) × (n ≤ length (now ipiv)) ⌝ }
+    ensures { λ r. ⌜ (now (a .exit) ≡ factoredOf n (now (a .entry)) (now (ipiv .entry)) .a)
+        × (now (ipiv .exit) ≡ factoredOf n (now (a .entry)) (now (ipiv .entry)) .ipiv)
+        × (r ≡ factoredOf n (now (a .entry)) (now (ipiv .entry)) .ok) ⌝ }
 {
-    let a = 19 * n;
-    let e = a + n * n;
-    match dense::dense_lu_factor(&mut work[a..e], n, ipiv) {
+    add_identity(a, n);
+    match dense::dense_lu_factor(a, n, ipiv) {
         dense::Outcome::Done => true,
         dense::Outcome::Singular => false,
     }
@@ -152,7 +149,6 @@ pub fn finish_jacobian(s: Settings, c: Common, work: &mut [f64], ipiv: &mut [usi
     let w = 13 * n;
     let we = 14 * n;
     let norm = vectors::fnorm_dense(n, &work[a..e], &work[w..we]).value;
-    add_identity(work, n);
-    let done = factor(work, n, ipiv);
+    let done = factor(&mut work[a..e], n, ipiv);
     Factoring { done: done, common: in_force(c, norm, done) }
 }

@@ -79,7 +79,7 @@ module _ (s : Settings) (c : Common) (work : List Float) (ipiv : List ℕ) where
       → Lent (s .n) (finishedOf s c work ipiv .work) (finishedOf s c work ipiv .ipiv)
   lent-factored p =
       record {
-        sized = length-finished s c work ipiv (omega (arith, p .sized)) ∙ p .sized;
+        sized = length-finished s c work ipiv ∙ p .sized;
         pivots = length-finished-ipiv s c work ipiv ∙ p .pivots;
         below = finished-below s c work ipiv (p .below);
       }

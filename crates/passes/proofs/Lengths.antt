@@ -111,7 +111,7 @@ module _ (s : Settings) (rtol atol : List Float) where
       → As work (iterationsOf s c rtol atol ipiv work)
   unfolding iterationsOf
   length-iterations c ipiv work room =
-      let e = length-fill (s .n) (16 * s .n) zeroF work in
+      let e = length-fill (s .n) (16 * s .n) zeroF work (omega (arith, room)) in
       length-iterate (openOf c) ipiv _ (omega (arith, e)) ∙ e
 
   -- ---- the Jacobian

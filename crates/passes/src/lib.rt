@@ -153,7 +153,10 @@ fn iterations(s: Settings, c: Common, rtol: &[f64], atol: &[f64], work: &mut [f6
     ensures { λ r. ⌜ kept r (now (work .exit))
         ≡ iterationsOf s c (now (rtol .entry)) (now (atol .entry)) (now (ipiv .entry)) (now (work .entry)) ⌝ }
 {
-    let d = corrector::open_iterations(c, work, s.n);
+    let n = s.n;
+    let a = 16 * n;
+    let e = 17 * n;
+    let d = corrector::open_iterations(c, &mut work[a..e]);
     iterate(s, d, rtol, atol, work, ipiv)
 }
 
@@ -223,7 +226,10 @@ pub fn opened(s: Settings, c: Common, rtol: &[f64], atol: &[f64], f: &[f64], wor
         ≡ openedOf s c (now (rtol .entry)) (now (atol .entry)) (now (f .entry))
             (now (ipiv .entry)) (now (work .entry)) ⌝ }
 {
-    history::store(work, 14 * s.n, f);
+    let n = s.n;
+    let a = 14 * n;
+    let e = 15 * n;
+    history::copy_from(&mut work[a..e], f);
     let due = c.due;
     if due {
         return begin_jacobian(s, c, work);
@@ -243,7 +249,9 @@ pub fn jacobian(s: Settings, c: Common, rtol: &[f64], atol: &[f64], f: &[f64], w
         ≡ jacobianOf s c (now (rtol .entry)) (now (atol .entry)) (now (f .entry))
             (now (ipiv .entry)) (now (work .entry)) ⌝ }
 {
-    jacobian::store_jacobian(s, c, work, f);
+    let a = 19 * s.n;
+    let e = a + f.len();
+    jacobian::store_jacobian(c, &mut work[a..e], f);
     factored(s, c, rtol, atol, work, ipiv)
 }
 
@@ -259,7 +267,10 @@ pub fn column(s: Settings, c: Common, rtol: &[f64], atol: &[f64], f: &[f64], wor
         ≡ columnOf s c (now (rtol .entry)) (now (atol .entry)) (now (f .entry))
             (now (ipiv .entry)) (now (work .entry)) ⌝ }
 {
-    history::store(work, 15 * s.n, f);
+    let n = s.n;
+    let a = 15 * n;
+    let e = 16 * n;
+    history::copy_from(&mut work[a..e], f);
     let j = c.column;
     jacobian::store_column(s, c, work, j);
     if j + 1 < s.n {
@@ -281,7 +292,10 @@ pub fn further(s: Settings, c: Common, rtol: &[f64], atol: &[f64], f: &[f64], wo
         ≡ furtherOf s c (now (rtol .entry)) (now (atol .entry)) (now (f .entry))
             (now (ipiv .entry)) (now (work .entry)) ⌝ }
 {
-    history::store(work, 14 * s.n, f);
+    let n = s.n;
+    let a = 14 * n;
+    let e = 15 * n;
+    history::copy_from(&mut work[a..e], f);
     iterate(s, c, rtol, atol, work, ipiv)
 }
 
@@ -292,7 +306,10 @@ pub fn restep(s: Settings, c: Common, f: &[f64], work: &mut [f64]) -> Turn
     requires { ⌜ 19 * s .n ≤ length (now work) ⌝ }
     ensures { λ r. ⌜ kept r (now (work .exit)) ≡ restepOf s c (now (f .entry)) (now (work .entry)) ⌝ }
 {
-    history::store(work, 14 * s.n, f);
+    let n = s.n;
+    let a = 14 * n;
+    let e = 15 * n;
+    history::copy_from(&mut work[a..e], f);
     let d = attempt::restep(s, c, work);
     turns::open_pass(d, s.n, work)
 }

@@ -113,9 +113,9 @@ fn write_question(s: Settings, c: Common, phase: Phase, work: &[f64], question: 
     let end = 19 * n;
     match phase {
         Phase::Finished => {}
-        Phase::DifferenceColumn => history::store(question, 0, &work[yfd..end]),
+        Phase::DifferenceColumn => history::copy_from(&mut question[0..n], &work[yfd..end]),
         Phase::Report => {
-            history::store(question, 0, &work[at..yfd]);
+            history::copy_from(&mut question[0..n], &work[at..yfd]);
             interpolation::snapshot_step(s, c, work, question);
         }
         Phase::FirstDerivative
@@ -125,7 +125,7 @@ fn write_question(s: Settings, c: Common, phase: Phase, work: &[f64], question: 
         | Phase::JacobianAsked
         | Phase::FurtherDerivative
         | Phase::Restep
-        | Phase::Modified => history::store(question, 0, &work[at..yfd]),
+        | Phase::Modified => history::copy_from(&mut question[0..n], &work[at..yfd]),
     }
 }
 

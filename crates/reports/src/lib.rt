@@ -5,7 +5,8 @@ ghost use lib.ListN.{length};
 ghost use Rattle.vectors.specs.Tolerance.{List1OrN};
 ghost use Rattle.vectors.specs.Weights.{ewsetLikeOf};
 ghost use Rattle.turns.specs.Requires.{Inside};
-ghost use Rattle.turns.specs.Turns.{kept};
+ghost use Rattle.history.specs.Columns.{copyOf};
+ghost use Rattle.turns.specs.Turns.{kept, withDerivative};
 ghost use Rattle.reports.specs.Reports.{firstSizeOf, sizedOf, firstStepOf, firstDerivativeOf};
 ghost use Rattle.reports.specs.Reports.{takenOf, firstReportOf, firstModifiedOf, afterReportOf, restartOf};
 ghost use Rattle.reports.specs.Reports.{inverted, modifiedOf};
@@ -75,6 +76,18 @@ fn weighted(s: Settings, c: Common, rtol: &[f64], atol: &[f64], work: &mut [f64]
     sized(s, c, h, work)
 }
 
+// The derivative at the start in savf, and y in column 0.
+fn take_first(n: usize, f: &[f64], work: &mut [f64])
+    requires { ⌜ length (now f) ≡ n ⌝ }
+    requires { ⌜ 19 * n ≤ length (now work) ⌝ }
+    ensures { λ _. ⌜ now (work .exit) ≡ copyOf n 0 (17 * n) (withDerivative n (now (f .entry)) (now (work .entry))) ⌝ }
+{
+    let a = 14 * n;
+    let e = 15 * n;
+    history::copy_from(&mut work[a..e], f);
+    history::copy_part(work, n, 0, 17 * n);
+}
+
 // The derivative at the start.
 pub fn first_derivative(s: Settings, c: Common, rtol: &[f64], atol: &[f64], f: &[f64], work: &mut [f64]) -> Turn
     requires { ⌜ 1 ≤ s .n ⌝ }
@@ -86,8 +99,7 @@ pub fn first_derivative(s: Settings, c: Common, rtol: &[f64], atol: &[f64], f: &
         ≡ firstDerivativeOf s c (now (rtol .entry)) (now (atol .entry)) (now (f .entry)) (now (work .entry)) ⌝ }
 {
     let n = s.n;
-    history::store(work, 14 * n, f);
-    history::copy_part(work, n, 0, 17 * n);
+    take_first(n, f, work);
     let w = 13 * n;
     let we = 14 * n;
     vectors::ewset(rtol, atol, work, n, w);
@@ -105,8 +117,10 @@ fn take_state(n: usize, y: &[f64], work: &mut [f64])
     requires { ⌜ 19 * n ≤ length (now work) ⌝ }
     ensures { λ _. ⌜ now (work .exit) ≡ takenOf n (now (y .entry)) (now (work .entry)) ⌝ }
 {
-    history::store(work, 17 * n, y);
-    history::store(work, 0, y);
+    let a = 17 * n;
+    let e = 18 * n;
+    history::copy_from(&mut work[a..e], y);
+    history::copy_from(&mut work[0..n], y);
 }
 
 pub fn first_report(s: Settings, c: Common, answer: Answer, y: &[f64], time: f64, work: &mut [f64]) -> Turn
@@ -135,8 +149,11 @@ pub fn first_modified(s: Settings, c: Common, f: &[f64], work: &mut [f64]) -> Tu
     requires { ⌜ 19 * s .n ≤ length (now work) ⌝ }
     ensures { λ r. ⌜ kept r (now (work .exit)) ≡ firstModifiedOf s c (now (f .entry)) (now (work .entry)) ⌝ }
 {
-    history::store(work, 14 * s.n, f);
-    history::set_slope(work, s.n, c.h);
+    let n = s.n;
+    let a = 14 * n;
+    let e = 15 * n;
+    history::copy_from(&mut work[a..e], f);
+    history::set_slope(work, n, c.h);
     turns::go_on(s, c, work)
 }
 
@@ -189,7 +206,9 @@ pub fn modified(s: Settings, c: Common, f: &[f64], work: &mut [f64]) -> Turn
     ensures { λ r. ⌜ kept r (now (work .exit)) ≡ modifiedOf s c (now (f .entry)) (now (work .entry)) ⌝ }
 {
     let n = s.n;
-    history::store(work, 14 * n, f);
+    let a = 14 * n;
+    let e = 15 * n;
+    history::copy_from(&mut work[a..e], f);
     history::set_slope(work, n, c.h);
     state_weights(n, work);
     turns::go_on(s, restart(c), work)

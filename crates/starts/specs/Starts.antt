@@ -1,14 +1,13 @@
 -- What an accepted start answers, and what every lent slice holds then.
 use mathlib.Core.List.{List}
 use Prim.Native.Nat.{ℕ, _*_}
-use lib.ListN.{length, set}
+use lib.ListN.{length, set, replicate}
 use lib.Ieee.{Float}
 use Rattle.loops.specs.For.{for}
 use Rattle.loops.specs.Part.{putPart}
 use Rattle.numbers.specs.Float.{zeroF}
 use Rattle.common.specs.declared.Settings.{Settings}
 use Rattle.common.specs.declared.Common.{Common}
-use Rattle.history.specs.Columns.{fillOf}
 use Rattle.turns.specs.declared.Phase.the-variants as Phase
 use Rattle.turns.specs.declared.Question.the-variants as Question
 use Rattle.reports.specs.Reports.{initialOf}
@@ -29,7 +28,7 @@ keptOf s c rtol atol bytes =
 
 -- all 0 but for y
 abbrev pub laidOf : ℕ → List Float → List Float → List Float
-laidOf n y0 work = putPart (17 * n) (length y0) (fillOf (length work) 0 zeroF work) y0
+laidOf n y0 work = putPart (17 * n) (length y0) (replicate (length work) zeroF) y0
 
 -- work and pivots are filled with 0 first, y is the start's, and its derivative is wanted
 unfoldable pub beganOf : Settings → Float → Float → Float → Float → List Float → List Float → List Float → Buffers

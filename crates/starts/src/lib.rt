@@ -28,9 +28,10 @@ fn lay(n: usize, y0: &[f64], work: &mut [f64])
     requires { ⌜ (n ≤ 64) × (length (now y0) ≡ n) × (19 * n ≤ length (now work)) ⌝ }
     ensures { λ _. ⌜ now (work .exit) ≡ laidOf n (now (y0 .entry)) (now (work .entry)) ⌝ }
 {
-    let len = work.len();
-    history::fill_part(work, len, 0, 0.0);
-    history::store(work, 17 * n, y0);
+    history::fill(work, 0.0);
+    let a = 17 * n;
+    let e = 18 * n;
+    history::copy_from(&mut work[a..e], y0);
 }
 
 // The session of a start, with its tolerances.
@@ -76,6 +77,7 @@ pub fn begin(
     lay(s.n, y0, work);
     clear(pivots);
     keep(s, machine::initial(s, x0, h, hmin, hmxi), rtol, atol, bytes);
-    history::store(question, 0, y0);
+    let n = s.n;
+    history::copy_from(&mut question[0..n], y0);
     answers::answer(Question::Derivative(At { time: x0 }))
 }

@@ -4,6 +4,7 @@ use Prim.Native.Nat.{_-_, _*_}
 use mathlib.Core.Path.{_≡_}
 use native.Mathlib.Omega.{arith}
 use borrow.Author.Needs.{needs}
+use Rattle.history.specs.Columns.{scalePartOf}
 use Rattle.acceptance.specs.Accept.{closedOf}
 use Rattle.acceptance.proofs.close.Statement.{statement}
 use Rattle.acceptance.proofs.close.Tie as tie
@@ -11,11 +12,26 @@ use Rattle.acceptance.proofs.close.Tie as tie
 tesco-requires : tie.Need-tesco-requires
 tesco-requires c κs = search needs
 
-mul-scale-part : tie.Need-mul-scale-part
-mul-scale-part c = search needs
+mul-a : tie.Need-mul-a
+mul-a c = search needs
 
-scale-part-requires : tie.Need-scale-part-requires
-scale-part-requires c κs = search needs
+mul-e : tie.Need-mul-e
+mul-e c = search needs
+
+mul-scale : tie.Need-mul-scale
+mul-scale c = search needs
+
+sub-scale : tie.Need-sub-scale
+sub-scale c = search needs
+
+part-scale-start : tie.Need-part-scale-start
+part-scale-start c = search needs
+
+part-scale-end : tie.Need-part-scale-end
+part-scale-end c = search needs
+
+scale-requires : tie.Need-scale-requires
+scale-requires c κs = search needs
 
 mul-w : tie.Need-mul-w
 mul-w c = search needs
@@ -47,7 +63,7 @@ same-length : tie.Need-same-length
 same-length c = search needs
 
 returns : tie.Need-returns
-unfolding closedOf
+unfolding closedOf scalePartOf
 returns c =
     let i = c .before .before in
     let e = i .before .before .before .before in
@@ -55,16 +71,22 @@ returns c =
     let t = a .before .before in
     let n = t .before .before .before .before .args .s .n in
     let p : 14 * n - 13 * n ≡ n = omega arith in
+    let q : 17 * n - 16 * n ≡ n = omega arith in
     let inverted = i .invert-weights .ensures in
-    rw (inverted .0, inverted .1, p, e .ewset .ensures, a .scale-part .ensures, t .tesco .ensures)
+    rw (inverted .0, inverted .1, p, e .ewset .ensures, a .scale .ensures, q, t .tesco .ensures)
 
 pub close-spec : {M : Type 1} → statement M
 close-spec =
     tie.close
     (tie.spec
     tesco-requires
-    mul-scale-part
-    scale-part-requires
+    mul-a
+    mul-e
+    mul-scale
+    sub-scale
+    part-scale-start
+    part-scale-end
+    scale-requires
     mul-w
     mul-we
     ewset-requires

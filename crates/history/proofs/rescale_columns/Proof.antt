@@ -1,12 +1,14 @@
 -- `rescale_columns` meets its contract. The invariant: from the power so far the rest gives the whole.
 -- Assumes nothing.
-use Prim.Native.Nat.{_-_}
+use Prim.Native.Nat.{_+_, _-_, _*_}
 use mathlib.Core.Path.{_≡_, refl, ap, _∙_}
 use native.Mathlib.Omega.{arith}
 use lib.ListN.{length}
+use borrow.Author.Needs.{needs}
 use Rattle.loops.specs.For.{for, again, ended, within}
-use Rattle.numbers.specs.Float.{oneF}
-use Rattle.history.specs.Columns.{Rescaled, rescaleAt, rescaleColumnsOf}
+use Rattle.numbers.specs.Float.{_⊗_, oneF}
+use Rattle.history.specs.Columns.{scaleColumnOf, Rescaled, rescaleAt, rescaleColumnsOf}
+use Rattle.history.proofs.Laws.{length-scale-column}
 use Rattle.history.proofs.rescale_columns.Statement.{statement}
 use Rattle.history.proofs.rescale_columns.Tie as tie
 
@@ -21,11 +23,44 @@ abbrev μ-loop : tie.MeasureT-loop
 loop-holds : tie.Need-loop-holds Inv-loop μ-loop
 loop-holds c = (refl, refl)
 
-scale-column-requires : tie.Need-scale-column-requires Inv-loop μ-loop
-scale-column-requires c κs =
-    let l = c .before .before in
+mul-a : tie.Need-mul-a Inv-loop μ-loop
+mul-a c =
+    let l = c .before in
     let a = l .before .before .args in
     omega (arith, within (a .n) (a .l) (l .loop .j) (omega arith))
+
+add-e : tie.Need-add-e Inv-loop μ-loop
+add-e c =
+    let l = c .before in
+    let a = l .before .before .args in
+    omega (arith, within (a .n) (a .l) (l .loop .j) (omega arith))
+
+mul-scale : tie.Need-mul-scale Inv-loop μ-loop
+mul-scale c =
+    let l = c .before in
+    let a = l .before .before .args in
+    omega (arith, within (a .n) (a .l) (l .loop .j) (omega arith))
+
+sub-scale : tie.Need-sub-scale Inv-loop μ-loop
+sub-scale c =
+    let l = c .before in
+    let a = l .before .before .args in
+    omega (arith, within (a .n) (a .l) (l .loop .j) (omega arith))
+
+part-scale-start : tie.Need-part-scale-start Inv-loop μ-loop
+part-scale-start c =
+    let l = c .before in
+    let a = l .before .before .args in
+    omega (arith, within (a .n) (a .l) (l .loop .j) (omega arith))
+
+part-scale-end : tie.Need-part-scale-end Inv-loop μ-loop
+part-scale-end c =
+    let l = c .before in
+    let a = l .before .before .args in
+    omega (arith, within (a .n) (a .l) (l .loop .j) (omega arith))
+
+scale-requires : tie.Need-scale-requires Inv-loop μ-loop
+scale-requires c κs = search needs
 
 add-j : tie.Need-add-j Inv-loop μ-loop
 add-j c = omega arith
@@ -34,10 +69,17 @@ loop-less : tie.Need-loop-less Inv-loop μ-loop
 loop-less c = omega arith
 
 loop-again : tie.Need-loop-again Inv-loop μ-loop
+unfolding scaleColumnOf
 loop-again c =
-    let l = c .before .before .before .before .before .loop in
-    let last = c .before .before .scale-column in
-    (last .kept .0 ∙ l .inv .0, rw (last .ensures) (again _ _ _ _ _ (omega arith) (l .inv .1)))
+    let b = c .before .before .before .before .before in
+    let l = b .loop in
+    let a = b .before .before .args in
+    let scaled = c .before .before .scale .ensures in
+    let k : l .j * a .n + a .n - l .j * a .n ≡ a .n = omega arith in
+    (
+      rw (scaled, k) (length-scale-column (a .n) (l .j) (l .r ⊗ a .rh) (l .yh) ∙ l .inv .0),
+      rw (scaled, k) (again _ _ _ _ _ (omega arith) (l .inv .1)),
+    )
 
 same-length : tie.Need-same-length Inv-loop μ-loop
 same-length c = omega arith
@@ -53,7 +95,13 @@ rescale-columns-spec =
     Inv-loop
     μ-loop
     loop-holds
-    scale-column-requires
+    mul-a
+    add-e
+    mul-scale
+    sub-scale
+    part-scale-start
+    part-scale-end
+    scale-requires
     add-j
     loop-less
     loop-again

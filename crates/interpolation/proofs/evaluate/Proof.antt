@@ -3,41 +3,80 @@
 use Prim.Native.Nat.{ℕ, _+_, _-_, _*_, _≤_, _<_}
 use mathlib.Core.Path.{_≡_, refl, sym}
 use native.Mathlib.Omega.{arith}
-use borrow.Author.Needs.{needs}
 use lib.ListN.{length}
-use mir.Syntax.{w64}
-use mir.Val.{Fits}
 use Rattle.loops.specs.For.{for, onward, ended, within}
+use Rattle.loops.specs.Part.{length-part}
 use Rattle.common.proofs.Laws.{small-product}
 use Rattle.interpolation.specs.Evaluate.{turnOf, evaluateOf}
 use Rattle.interpolation.proofs.evaluate.Statement.{statement}
 use Rattle.interpolation.proofs.evaluate.Tie as tie
 
-product-fits : (j n : ℕ) → j ≤ 12 → n ≤ 64 → Fits w64 (j * n)
-product-fits j n h k = omega (arith, small-product j n h k)
-
-place-fits : (j n : ℕ) → j ≤ 12 → n ≤ 64 → Fits w64 (6 + j * n)
-place-fits j n h k = omega (arith, small-product j n h k)
-
-inside : (j n nq size long : ℕ) → 6 + (nq + 1) * n ≤ long → j < nq + 1 → size ≡ n → 6 + j * n + size ≤ long
-inside j n nq size long whole h e = omega (arith, within n (nq + 1) j h)
-
 abbrev Inv-loop : tie.InvT-loop
-Inv-loop xi yi₀ cont n nq s jb₀ jb-end yi jb =
+Inv-loop xi yi₀ cont n nq s last end jb₀ jb-end yi jb =
     (jb-end ≡ nq + 1) × (1 ≤ jb) × (length yi ≡ n)
     × (for jb (nq + 1) (turnOf cont n nq s) yi ≡ for 1 (nq + 1) (turnOf cont n nq s) yi₀)
 
 abbrev μ-loop : tie.MeasureT-loop
-μ-loop xi yi₀ cont n nq s jb₀ jb-end yi jb = jb-end - jb
+μ-loop xi yi₀ cont n nq s last end jb₀ jb-end yi jb = jb-end - jb
+
+mul-last : tie.Need-mul-last Inv-loop μ-loop
+mul-last c =
+    let b = c .before .before .before .before in
+    let n = b .args .z .n in
+    let nq = b .args .z .nq in
+    omega (arith, small-product nq n (omega arith) (omega arith))
+
+add-last : tie.Need-add-last Inv-loop μ-loop
+add-last c =
+    let b = c .before .before .before .before in
+    let n = b .args .z .n in
+    let nq = b .args .z .nq in
+    omega (arith, small-product nq n (omega arith) (omega arith))
+
+add-end : tie.Need-add-end Inv-loop μ-loop
+add-end c =
+    let b = c .before .before .before .before in
+    let n = b .args .z .n in
+    let nq = b .args .z .nq in
+    omega (arith, small-product nq n (omega arith) (omega arith))
 
 mul-last-column : tie.Need-mul-last-column Inv-loop μ-loop
-mul-last-column c = omega arith
+mul-last-column c =
+    let b = c .before .before .before .before .before in
+    let n = b .args .z .n in
+    let nq = b .args .z .nq in
+    omega (arith, small-product nq n (omega arith) (omega arith))
 
-add-last-column : tie.Need-add-last-column Inv-loop μ-loop
-add-last-column c = omega arith
+sub-last-column : tie.Need-sub-last-column Inv-loop μ-loop
+sub-last-column c =
+    let b = c .before .before .before .before .before in
+    let n = b .args .z .n in
+    let nq = b .args .z .nq in
+    omega (arith, small-product nq n (omega arith) (omega arith))
+
+part-last-column-start : tie.Need-part-last-column-start Inv-loop μ-loop
+part-last-column-start c =
+    let b = c .before .before .before .before .before in
+    let n = b .args .z .n in
+    let nq = b .args .z .nq in
+    omega (arith, small-product nq n (omega arith) (omega arith))
+
+part-last-column-end : tie.Need-part-last-column-end Inv-loop μ-loop
+part-last-column-end c =
+    let b = c .before .before .before .before .before in
+    let n = b .args .z .n in
+    let nq = b .args .z .nq in
+    omega (arith, small-product nq n (omega arith) (omega arith), b .pre .3, within n (nq + 1) nq (omega arith))
 
 last-column-requires : tie.Need-last-column-requires Inv-loop μ-loop
-last-column-requires c κs = search needs
+last-column-requires c κs =
+    let b = c .before .before .before .before .before .before in
+    let n = b .args .z .n in
+    let nq = b .args .z .nq in
+    let size : 6 + nq * n + n - (6 + nq * n) ≡ n = omega arith in
+    let last = within n (nq + 1) nq (omega arith) in
+    let fits : 6 + nq * n + n ≤ length (b .args .cont .now) = omega (arith, b .pre .3, last) in
+    rw (size, length-part (6 + nq * n) n (b .args .cont .now) fits) (omega (arith, b .pre .2))
 
 add-jb-end : tie.Need-add-jb-end Inv-loop μ-loop
 add-jb-end c = omega arith
@@ -45,19 +84,75 @@ add-jb-end c = omega arith
 loop-holds : tie.Need-loop-holds Inv-loop μ-loop
 loop-holds c = (refl, omega arith, omega (arith, c .before .before .last-column .kept .0), refl)
 
-sub-horner : tie.Need-sub-horner Inv-loop μ-loop
-sub-horner c = omega arith
+sub-a : tie.Need-sub-a Inv-loop μ-loop
+sub-a c = omega arith
+
+mul-a : tie.Need-mul-a Inv-loop μ-loop
+mul-a c =
+    let b = c .before .before .before .before .before .before .before .before .before .before .before in
+    let n = b .args .z .n in
+    let nq = b .args .z .nq in
+    let j = nq - c .before .loop .jb in
+    omega (arith, small-product j n (omega arith) (omega arith))
+
+add-a : tie.Need-add-a Inv-loop μ-loop
+add-a c =
+    let b = c .before .before .before .before .before .before .before .before .before .before .before in
+    let n = b .args .z .n in
+    let nq = b .args .z .nq in
+    let j = nq - c .before .loop .jb in
+    omega (arith, small-product j n (omega arith) (omega arith))
+
+add-e : tie.Need-add-e Inv-loop μ-loop
+add-e c =
+    let b = c .before .before .before .before .before .before .before .before .before .before .before in
+    let n = b .args .z .n in
+    let nq = b .args .z .nq in
+    let j = nq - c .before .loop .jb in
+    omega (arith, small-product j n (omega arith) (omega arith))
 
 mul-horner : tie.Need-mul-horner Inv-loop μ-loop
-mul-horner c = product-fits _ _ (omega arith) (omega arith)
+mul-horner c =
+    let b = c .before .before .before .before .before .before .before .before .before .before .before .before in
+    let n = b .args .z .n in
+    let nq = b .args .z .nq in
+    let j = nq - c .before .before .loop .jb in
+    omega (arith, small-product j n (omega arith) (omega arith))
 
-add-horner : tie.Need-add-horner Inv-loop μ-loop
-add-horner c = place-fits _ _ (omega arith) (omega arith)
+sub-horner : tie.Need-sub-horner Inv-loop μ-loop
+sub-horner c =
+    let b = c .before .before .before .before .before .before .before .before .before .before .before .before in
+    let n = b .args .z .n in
+    let nq = b .args .z .nq in
+    let j = nq - c .before .before .loop .jb in
+    omega (arith, small-product j n (omega arith) (omega arith))
+
+part-horner-start : tie.Need-part-horner-start Inv-loop μ-loop
+part-horner-start c =
+    let b = c .before .before .before .before .before .before .before .before .before .before .before .before in
+    let n = b .args .z .n in
+    let nq = b .args .z .nq in
+    let j = nq - c .before .before .loop .jb in
+    omega (arith, small-product j n (omega arith) (omega arith))
+
+part-horner-end : tie.Need-part-horner-end Inv-loop μ-loop
+part-horner-end c =
+    let b = c .before .before .before .before .before .before .before .before .before .before .before .before in
+    let n = b .args .z .n in
+    let nq = b .args .z .nq in
+    let j = nq - c .before .before .loop .jb in
+    omega (arith, small-product j n (omega arith) (omega arith), b .pre .3, within n (nq + 1) j (omega arith))
 
 horner-requires : tie.Need-horner-requires Inv-loop μ-loop
 horner-requires c κs =
-    let a = c .before .before .before .before .before .before .before .before .before .before .before in
-    inside _ _ _ _ _ (a .pre .3) (omega arith) (omega arith)
+    let b = c .before .before .before .before .before .before .before .before .before .before .before .before .before in
+    let n = b .args .z .n in
+    let nq = b .args .z .nq in
+    let j = nq - c .before .before .before .loop .jb in
+    let size : 6 + j * n + n - (6 + j * n) ≡ n = omega arith in
+    let this = within n (nq + 1) j (omega arith) in
+    let fits : 6 + j * n + n ≤ length (b .args .cont .now) = omega (arith, b .pre .3, this) in
+    rw (size, length-part (6 + j * n) n (b .args .cont .now) fits) (omega arith)
 
 add-jb : tie.Need-add-jb Inv-loop μ-loop
 add-jb c = omega arith
@@ -68,8 +163,12 @@ loop-less c = omega arith
 loop-again : tie.Need-loop-again Inv-loop μ-loop
 loop-again c =
     let t = c .before .before in
-    let l = t .before .before .before in
-    let rest = onward _ _ _ _ _ _ (omega arith) (sym (t .horner .ensures)) (l .loop .inv .3) in
+    let l = t .before .before .before .before in
+    let b = l .before .before .before .before .before .before .before .before .before .before .args .z in
+    let j = b .nq - l .loop .jb in
+    let size : 6 + j * b .n + b .n - (6 + j * b .n) ≡ b .n = omega arith in
+    let turned = rw size at (t .horner .ensures) in
+    let rest = onward _ _ _ _ _ _ (omega arith) (sym turned) (l .loop .inv .3) in
     (omega arith, omega arith, omega (arith, t .horner .kept .0), rest)
 
 same-length : tie.Need-same-length Inv-loop μ-loop
@@ -79,7 +178,10 @@ returns : tie.Need-returns Inv-loop μ-loop
 unfolding evaluateOf
 returns c =
     let l = c .before in
-    rw (← l .before .before .before .last-column .ensures) (ended _ _ _ _ _ (omega arith) (l .loop .inv .3))
+    let b = l .before .before .before .before .before .before .before .before .before .before .args .z in
+    let size : 6 + b .nq * b .n + b .n - (6 + b .nq * b .n) ≡ b .n = omega arith in
+    let last = rw size at (l .before .before .before .last-column .ensures) in
+    rw (← last) (ended _ _ _ _ _ (omega arith) (l .loop .inv .3))
 
 pub evaluate-spec : {M : Type 1} → statement M
 evaluate-spec =
@@ -87,14 +189,24 @@ evaluate-spec =
     (tie.spec
     Inv-loop
     μ-loop
+    mul-last
+    add-last
+    add-end
     mul-last-column
-    add-last-column
+    sub-last-column
+    part-last-column-start
+    part-last-column-end
     last-column-requires
     add-jb-end
     loop-holds
-    sub-horner
+    sub-a
+    mul-a
+    add-a
+    add-e
     mul-horner
-    add-horner
+    sub-horner
+    part-horner-start
+    part-horner-end
     horner-requires
     add-jb
     loop-less

@@ -9,19 +9,16 @@ use Rattle.interpolation.proofs.last_column.Statement.{statement}
 use Rattle.interpolation.proofs.last_column.Tie as tie
 
 abbrev Inv-loop : tie.InvT-loop
-Inv-loop yi₀ cont at i₀ i-end yi i =
+Inv-loop yi₀ column i₀ i-end yi i =
     (i-end ≡ length yi₀) × (length yi ≡ length yi₀)
-    × (for i (length yi₀) (lastAt cont at) yi ≡ lastColumnOf cont at yi₀)
+    × (for i (length yi₀) (lastAt column) yi ≡ lastColumnOf column yi₀)
 
 abbrev μ-loop : tie.MeasureT-loop
-μ-loop yi₀ cont at i₀ i-end yi i = i-end - i
+μ-loop yi₀ column i₀ i-end yi i = i-end - i
 
 loop-holds : tie.Need-loop-holds Inv-loop μ-loop
 unfolding lastColumnOf
 loop-holds c = (refl, refl, refl)
-
-add-yi : tie.Need-add-yi Inv-loop μ-loop
-add-yi c = omega arith
 
 mul-yi : tie.Need-mul-yi Inv-loop μ-loop
 mul-yi c = omega arith
@@ -59,7 +56,6 @@ last-column-spec =
     Inv-loop
     μ-loop
     loop-holds
-    add-yi
     mul-yi
     shared-slice-read-yi
     mul-yi-2

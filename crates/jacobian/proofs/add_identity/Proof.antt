@@ -10,45 +10,37 @@ use Rattle.jacobian.proofs.add_identity.Statement.{statement}
 use Rattle.jacobian.proofs.add_identity.Tie as tie
 
 abbrev Inv-loop : tie.InvT-loop
-Inv-loop work₀ n i₀ work i = (length work ≡ length work₀) × (for i n (identityAt n) work ≡ identityOf n work₀)
+Inv-loop a₀ n i₀ a i = (length a ≡ length a₀) × (for i n (identityAt n) a ≡ identityOf n a₀)
 
 abbrev μ-loop : tie.MeasureT-loop
-μ-loop work₀ n i₀ work i = n - i
+μ-loop a₀ n i₀ a i = n - i
 
 loop-holds : tie.Need-loop-holds Inv-loop μ-loop
 unfolding identityOf
 loop-holds c = (refl, refl)
 
-mul-work : tie.Need-mul-work Inv-loop μ-loop
-mul-work c = omega arith
-
-mul-work-2 : tie.Need-mul-work-2 Inv-loop μ-loop
-mul-work-2 c =
+mul-a : tie.Need-mul-a Inv-loop μ-loop
+mul-a c =
     let l = c .before in
     omega (arith, within (l .before .args .n) (l .before .args .n) (l .loop .i) (omega arith))
 
-add-work : tie.Need-add-work Inv-loop μ-loop
-add-work c =
+add-a : tie.Need-add-a Inv-loop μ-loop
+add-a c =
     let l = c .before in
     omega (arith, within (l .before .args .n) (l .before .args .n) (l .loop .i) (omega arith))
 
-add-work-2 : tie.Need-add-work-2 Inv-loop μ-loop
-add-work-2 c =
+mul-a-2 : tie.Need-mul-a-2 Inv-loop μ-loop
+mul-a-2 c =
     let l = c .before in
     omega (arith, within (l .before .args .n) (l .before .args .n) (l .loop .i) (omega arith))
 
-mul-work-3 : tie.Need-mul-work-3 Inv-loop μ-loop
-mul-work-3 c =
-    let l = c .before in
-    omega (arith, within (l .before .args .n) (l .before .args .n) (l .loop .i) (omega arith))
-
-slice-read-work : tie.Need-slice-read-work Inv-loop μ-loop
-slice-read-work c =
+slice-read-a : tie.Need-slice-read-a Inv-loop μ-loop
+slice-read-a c =
     let l = c .before .before in
     omega (arith, within (l .before .args .n) (l .before .args .n) (l .loop .i) (omega arith))
 
-slice-write-work : tie.Need-slice-write-work Inv-loop μ-loop
-slice-write-work c =
+slice-write-a : tie.Need-slice-write-a Inv-loop μ-loop
+slice-write-a c =
     let l = c .before .before in
     omega (arith, within (l .before .args .n) (l .before .args .n) (l .loop .i) (omega arith))
 
@@ -76,13 +68,11 @@ add-identity-spec =
     Inv-loop
     μ-loop
     loop-holds
-    mul-work
-    mul-work-2
-    add-work
-    add-work-2
-    mul-work-3
-    slice-read-work
-    slice-write-work
+    mul-a
+    add-a
+    mul-a-2
+    slice-read-a
+    slice-write-a
     add-i
     loop-less
     loop-again

@@ -1,4 +1,4 @@
--- `finish_jacobian` meets its contract: the callees in turn. Assumes nothing.
+-- `finish_jacobian` meets its contract: the norm, then the matrix lent to be factored. Assumes nothing.
 use Prim.Native.Nat.{_+_, _-_, _*_}
 use mathlib.Core.Path.{_≡_}
 use native.Mathlib.Omega.{arith}
@@ -49,8 +49,17 @@ part-fnorm-dense-end-2 c = search needs
 fnorm-dense-requires : tie.Need-fnorm-dense-requires
 fnorm-dense-requires c κs = search needs
 
-add-identity-requires : tie.Need-add-identity-requires
-add-identity-requires c κs = search needs
+mul-factor : tie.Need-mul-factor
+mul-factor c = search needs
+
+sub-factor : tie.Need-sub-factor
+sub-factor c = search needs
+
+part-factor-start : tie.Need-part-factor-start
+part-factor-start c = search needs
+
+part-factor-end : tie.Need-part-factor-end
+part-factor-end c = search needs
 
 factor-requires : tie.Need-factor-requires
 factor-requires c κs = search needs
@@ -68,20 +77,13 @@ returns : tie.Need-returns
 unfolding finishedOf
 returns c =
     let f = c .before .before .before .before .before in
-    let i = f .before .before .before .before .before in
-    let v = i .before .before in
+    let v = f .before .before .before in
     let n = v .before .before .before .before .before .before .args .s .n in
     let size : 19 * n + n * n - 19 * n ≡ n * n = omega arith in
     let weights : 14 * n - 13 * n ≡ n = omega arith in
     let norm = rw (size, weights) at (v .fnorm-dense .ensures) in
-    rw (
-      c .in-force .ensures,
-      ← norm,
-      ← i .add-identity .ensures,
-      ← f .factor .ensures .0,
-      ← f .factor .ensures .1,
-      ← f .factor .ensures .2,
-    )
+    let done = rw size at (f .factor .ensures) in
+    rw (c .in-force .ensures, ← norm, size, ← done .0, ← done .1, ← done .2)
 
 pub finish-jacobian-spec : {M : Type 1} → statement M
 finish-jacobian-spec =
@@ -101,7 +103,10 @@ finish-jacobian-spec =
     part-fnorm-dense-start-2
     part-fnorm-dense-end-2
     fnorm-dense-requires
-    add-identity-requires
+    mul-factor
+    sub-factor
+    part-factor-start
+    part-factor-end
     factor-requires
     in-force-requires
     same-length

@@ -5,38 +5,32 @@ use mathlib.Core.Path.{_≡_, refl}
 use native.Mathlib.Omega.{arith}
 use lib.ListN.{length, length-set}
 use Rattle.loops.specs.For.{for, again, ended}
-use Rattle.jacobian.specs.Jacobian.{suppliedAt, suppliedOf}
+use Rattle.jacobian.specs.Jacobian.{scaledAt, scaledOf}
 use Rattle.jacobian.proofs.store_jacobian.Statement.{statement}
 use Rattle.jacobian.proofs.store_jacobian.Tie as tie
 
 abbrev Inv-loop : tie.InvT-loop
-Inv-loop work₀ jac at scale i₀ i-end work i =
-    (i-end ≡ length jac) × (length work ≡ length work₀) ×
-    (for i (length jac) (suppliedAt at scale jac) work ≡ for 0 (length jac) (suppliedAt at scale jac) work₀)
+Inv-loop a₀ jac scale i₀ i-end a i =
+    (i-end ≡ length jac) × (length a ≡ length a₀) ×
+    (for i (length jac) (scaledAt scale jac) a ≡ for 0 (length jac) (scaledAt scale jac) a₀)
 
 abbrev μ-loop : tie.MeasureT-loop
-μ-loop work₀ jac at scale i₀ i-end work i = i-end - i
-
-mul-at : tie.Need-mul-at Inv-loop μ-loop
-mul-at c = omega arith
+μ-loop a₀ jac scale i₀ i-end a i = i-end - i
 
 loop-holds : tie.Need-loop-holds Inv-loop μ-loop
 loop-holds c = (refl, refl, refl)
 
-mul-work : tie.Need-mul-work Inv-loop μ-loop
-mul-work c = omega arith
+mul-a : tie.Need-mul-a Inv-loop μ-loop
+mul-a c = omega arith
 
-shared-slice-read-work : tie.Need-shared-slice-read-work Inv-loop μ-loop
-shared-slice-read-work c = omega arith
+shared-slice-read-a : tie.Need-shared-slice-read-a Inv-loop μ-loop
+shared-slice-read-a c = omega arith
 
-add-work : tie.Need-add-work Inv-loop μ-loop
-add-work c = omega arith
+mul-a-2 : tie.Need-mul-a-2 Inv-loop μ-loop
+mul-a-2 c = omega arith
 
-mul-work-2 : tie.Need-mul-work-2 Inv-loop μ-loop
-mul-work-2 c = omega arith
-
-slice-write-work : tie.Need-slice-write-work Inv-loop μ-loop
-slice-write-work c = omega arith
+slice-write-a : tie.Need-slice-write-a Inv-loop μ-loop
+slice-write-a c = omega arith
 
 add-i : tie.Need-add-i Inv-loop μ-loop
 add-i c = omega arith
@@ -53,7 +47,7 @@ same-length : tie.Need-same-length Inv-loop μ-loop
 same-length c = omega arith
 
 returns : tie.Need-returns Inv-loop μ-loop
-unfolding suppliedOf
+unfolding scaledOf
 returns c = ended _ _ _ _ _ (omega arith) (c .before .loop .inv .2)
 
 pub store-jacobian-spec : {M : Type 1} → statement M
@@ -62,13 +56,11 @@ store-jacobian-spec =
     (tie.spec
     Inv-loop
     μ-loop
-    mul-at
     loop-holds
-    mul-work
-    shared-slice-read-work
-    add-work
-    mul-work-2
-    slice-write-work
+    mul-a
+    shared-slice-read-a
+    mul-a-2
+    slice-write-a
     add-i
     loop-less
     loop-again

@@ -1,11 +1,33 @@
 -- `iterations` meets its contract: the record and the work as the iterations open, then the first.
 -- Assumes nothing.
 use native.Mathlib.Omega.{arith}
+use mathlib.Core.Path.{_≡_}
+use Prim.Native.Nat.{_-_, _*_}
+use Rattle.loops.specs.Part.{length-part}
 use borrow.Author.Needs.{needs}
+use Rattle.history.specs.Columns.{fillOf}
 use Rattle.passes.specs.Pass.{iterationsOf}
 use Rattle.passes.proofs.Inside.{inside-open, lent-length}
 use Rattle.passes.proofs.iterations.Statement.{statement}
 use Rattle.passes.proofs.iterations.Tie as tie
+
+mul-a : tie.Need-mul-a
+mul-a c = search needs
+
+mul-e : tie.Need-mul-e
+mul-e c = search needs
+
+mul-open-iterations : tie.Need-mul-open-iterations
+mul-open-iterations c = search needs
+
+sub-open-iterations : tie.Need-sub-open-iterations
+sub-open-iterations c = search needs
+
+part-open-iterations-start : tie.Need-part-open-iterations-start
+part-open-iterations-start c = search needs
+
+part-open-iterations-end : tie.Need-part-open-iterations-end
+part-open-iterations-end c = search needs
 
 open-iterations-requires : tie.Need-open-iterations-requires
 open-iterations-requires c κs = search needs
@@ -24,11 +46,27 @@ same-length : tie.Need-same-length
 same-length c = search needs
 
 returns : tie.Need-returns
-unfolding iterationsOf
+unfolding iterationsOf fillOf
 returns c =
-    let o = c .before .before .before .before .before .before .open-iterations .ensures in
-    rw (← o .0, ← o .1) (c .before .before .iterate .ensures)
+    let o = c .before .before .before .before .before .before in
+    let a = o .before .before .before .before .before .before in
+    let n = a .args .s .n in
+    let size : 17 * n - 16 * n ≡ n = omega arith in
+    let long = length-part (16 * n) n (a .args .work .now) (omega (arith, a .pre .1 .1 .1 .sized)) in
+    let opened = o .open-iterations .ensures in
+    rw (opened .0, opened .1, size, long) at (c .before .before .iterate .ensures)
 
 pub iterations-spec : {M : Type 1} → statement M
 iterations-spec =
-    tie.close (tie.spec open-iterations-requires iterate-requires same-length returns)
+    tie.close
+    (tie.spec
+    mul-a
+    mul-e
+    mul-open-iterations
+    sub-open-iterations
+    part-open-iterations-start
+    part-open-iterations-end
+    open-iterations-requires
+    iterate-requires
+    same-length
+    returns)

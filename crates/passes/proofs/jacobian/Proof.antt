@@ -1,19 +1,50 @@
 -- `jacobian` meets its contract: the reply is stored as the matrix, then factored. Assumes nothing.
 use native.Mathlib.Omega.{arith}
+use mathlib.Core.Path.{_≡_}
+use Prim.Native.Nat.{_+_, _-_, _*_}
+use lib.ListN.{length}
 use borrow.Author.Needs.{needs}
 use Rattle.passes.specs.Pass.{jacobianOf}
 use Rattle.passes.proofs.Inside.{lent-length}
 use Rattle.passes.proofs.jacobian.Statement.{statement}
 use Rattle.passes.proofs.jacobian.Tie as tie
 
-store-jacobian-requires : tie.Need-store-jacobian-requires
-store-jacobian-requires c κs =
+mul-a : tie.Need-mul-a
+mul-a c =
     let p = c .before .before .before .before .before .before .pre in
-    (p .0 .settings .n .1, omega (arith, p .1 .1 .1 .1 .0, p .1 .1 .1 .1 .1 .sized))
+    omega (arith, p .1 .1 .1 .1 .0, p .1 .1 .1 .1 .1 .sized)
+
+add-e : tie.Need-add-e
+add-e c =
+    let p = c .before .before .before .before .before .before .pre in
+    omega (arith, p .1 .1 .1 .1 .0, p .1 .1 .1 .1 .1 .sized)
+
+mul-store-jacobian : tie.Need-mul-store-jacobian
+mul-store-jacobian c =
+    let p = c .before .before .before .before .before .before .pre in
+    omega (arith, p .1 .1 .1 .1 .0, p .1 .1 .1 .1 .1 .sized)
+
+sub-store-jacobian : tie.Need-sub-store-jacobian
+sub-store-jacobian c =
+    let p = c .before .before .before .before .before .before .pre in
+    omega (arith, p .1 .1 .1 .1 .0, p .1 .1 .1 .1 .1 .sized)
+
+part-store-jacobian-start : tie.Need-part-store-jacobian-start
+part-store-jacobian-start c =
+    let p = c .before .before .before .before .before .before .pre in
+    omega (arith, p .1 .1 .1 .1 .0, p .1 .1 .1 .1 .1 .sized)
+
+part-store-jacobian-end : tie.Need-part-store-jacobian-end
+part-store-jacobian-end c =
+    let p = c .before .before .before .before .before .before .pre in
+    omega (arith, p .1 .1 .1 .1 .0, p .1 .1 .1 .1 .1 .sized)
+
+store-jacobian-requires : tie.Need-store-jacobian-requires
+store-jacobian-requires c κs = search needs
 
 factored-requires : tie.Need-factored-requires
 factored-requires c κs =
-    let p = c .before .before .before .before .before .before .before .before .before .before .before .pre in
+    let p = c .before .before .before .before .before .before .before .before .before .before .before .before .pre in
     (p .0, (p .1 .0, (p .1 .1 .0, (p .1 .1 .1 .0, lent-length _ (omega arith) (p .1 .1 .1 .1 .1)))))
 
 same-length : tie.Need-same-length
@@ -25,10 +56,23 @@ same-length-2 c = search needs
 returns : tie.Need-returns
 unfolding jacobianOf
 returns c =
-    rw (← c .before .before .before .before .before .before .before .before .before .store-jacobian .ensures)
-      (c .before .before .before .before .factored .ensures)
+    let o = c .before .before .before .before .before .before .before .before .before in
+    let x = o .before .before .before .before .before .before .before .before .args in
+    let k : 19 * x .s .n + length (x .f .now) - 19 * x .s .n ≡ length (x .f .now) = omega arith in
+    rw (o .store-jacobian .ensures, k) at (c .before .before .before .before .factored .ensures)
 
 pub jacobian-spec : {M : Type 1} → statement M
 jacobian-spec =
     tie.close
-    (tie.spec store-jacobian-requires factored-requires same-length same-length-2 returns)
+    (tie.spec
+    mul-a
+    add-e
+    mul-store-jacobian
+    sub-store-jacobian
+    part-store-jacobian-start
+    part-store-jacobian-end
+    store-jacobian-requires
+    factored-requires
+    same-length
+    same-length-2
+    returns)

@@ -9,7 +9,6 @@ use native.Mathlib.Omega.{arith}
 use denote.Ref.{now}
 use borrow.Author.Needs.{needs}
 use types.Run.{OneOf, miss}
-use Rattle.loops.specs.Part.{length-part}
 use Rattle.common.specs.declared.Settings.{Settings}
 use Rattle.common.specs.declared.Common.{Common}
 use Rattle.turns.specs.declared.Phase.{Phase}
@@ -49,56 +48,83 @@ enum-told c = search needs
 enum-told-2 : tie.Need-enum-told-2
 enum-told-2 c = search needs
 
-mul-store : tie.Need-mul-store
-mul-store c = search needs
+sub-copy-from : tie.Need-sub-copy-from
+sub-copy-from c = search needs
 
-sub-store : tie.Need-sub-store
-sub-store c = search needs
+part-copy-from-start : tie.Need-part-copy-from-start
+part-copy-from-start c = search needs
 
-part-store-start : tie.Need-part-store-start
-part-store-start c = search needs
+part-copy-from-end : tie.Need-part-copy-from-end
+part-copy-from-end c = search needs
 
-part-store-end : tie.Need-part-store-end
-part-store-end c = search needs
+mul-copy-from : tie.Need-mul-copy-from
+mul-copy-from c = search needs
 
-store-requires : tie.Need-store-requires
-store-requires c κs = search needs
+sub-copy-from-2 : tie.Need-sub-copy-from-2
+sub-copy-from-2 c = search needs
+
+part-copy-from-start-2 : tie.Need-part-copy-from-start-2
+part-copy-from-start-2 c = search needs
+
+part-copy-from-end-2 : tie.Need-part-copy-from-end-2
+part-copy-from-end-2 c = search needs
+
+copy-from-requires : tie.Need-copy-from-requires
+copy-from-requires c κs = search needs
 
 enum-told-3 : tie.Need-enum-told-3
 enum-told-3 c = search needs
 
-mul-store-2 : tie.Need-mul-store-2
-mul-store-2 c = search needs
+sub-copy-from-3 : tie.Need-sub-copy-from-3
+sub-copy-from-3 c = search needs
 
-sub-store-2 : tie.Need-sub-store-2
-sub-store-2 c = search needs
+part-copy-from-start-3 : tie.Need-part-copy-from-start-3
+part-copy-from-start-3 c = search needs
 
-part-store-start-2 : tie.Need-part-store-start-2
-part-store-start-2 c = search needs
+part-copy-from-end-3 : tie.Need-part-copy-from-end-3
+part-copy-from-end-3 c = search needs
 
-part-store-end-2 : tie.Need-part-store-end-2
-part-store-end-2 c = search needs
+mul-copy-from-2 : tie.Need-mul-copy-from-2
+mul-copy-from-2 c = search needs
 
-store-requires-2 : tie.Need-store-requires-2
-store-requires-2 c κs = search needs
+sub-copy-from-4 : tie.Need-sub-copy-from-4
+sub-copy-from-4 c = search needs
+
+part-copy-from-start-4 : tie.Need-part-copy-from-start-4
+part-copy-from-start-4 c = search needs
+
+part-copy-from-end-4 : tie.Need-part-copy-from-end-4
+part-copy-from-end-4 c = search needs
+
+copy-from-requires-2 : tie.Need-copy-from-requires-2
+copy-from-requires-2 c κs = search needs
 
 snapshot-step-requires : tie.Need-snapshot-step-requires
 snapshot-step-requires c κs = search needs
 
-mul-store-3 : tie.Need-mul-store-3
-mul-store-3 c = search needs
+sub-copy-from-5 : tie.Need-sub-copy-from-5
+sub-copy-from-5 c = search needs
 
-sub-store-3 : tie.Need-sub-store-3
-sub-store-3 c = search needs
+part-copy-from-start-5 : tie.Need-part-copy-from-start-5
+part-copy-from-start-5 c = search needs
 
-part-store-start-3 : tie.Need-part-store-start-3
-part-store-start-3 c = search needs
+part-copy-from-end-5 : tie.Need-part-copy-from-end-5
+part-copy-from-end-5 c = search needs
 
-part-store-end-3 : tie.Need-part-store-end-3
-part-store-end-3 c = search needs
+mul-copy-from-3 : tie.Need-mul-copy-from-3
+mul-copy-from-3 c = search needs
 
-store-requires-3 : tie.Need-store-requires-3
-store-requires-3 c κs = search needs
+sub-copy-from-6 : tie.Need-sub-copy-from-6
+sub-copy-from-6 c = search needs
+
+part-copy-from-start-6 : tie.Need-part-copy-from-start-6
+part-copy-from-start-6 c = search needs
+
+part-copy-from-end-6 : tie.Need-part-copy-from-end-6
+part-copy-from-end-6 c = search needs
+
+copy-from-requires-3 : tie.Need-copy-from-requires-3
+copy-from-requires-3 c κs = search needs
 
 returns : tie.Need-returns
 unfolding questionOf
@@ -113,11 +139,10 @@ returns-2 c =
     let c6 = c .before .before .before .before .before .before in
     let a = c6 .before .before .before in
     let n = a .args .s .n in
-    let w = a .args .work .now in
     let size : 19 * n - 18 * n ≡ n = omega arith in
-    let long = length-part (18 * n) n w (omega (arith, a .pre)) in
-    let zero : 0 + 0 ≡ 0 = omega arith in
-    rw (c .before .before .before .before .before .enum-told2 .given .1) (rw (size, long) at (c .before .before .store .ensures))
+    let whole : n - 0 ≡ n = omega arith in
+    let copied = c .before .before .copy-from .ensures in
+    rw (c .before .before .before .before .before .enum-told2 .given .1, copied, size, whole)
 
 same-length-2 : tie.Need-same-length-2
 same-length-2 c = search needs
@@ -131,13 +156,9 @@ returns-3 c =
     let n = a .args .s .n in
     let w = a .args .work .now in
     let size : 18 * n - 17 * n ≡ n = omega arith in
-    let long = length-part (17 * n) n w (omega (arith, a .pre)) in
-    let zero : 0 + 0 ≡ 0 = omega arith in
-    rw (
-      c6 .before .before .before .enum-told3 .given .1,
-      ← (rw (size, long) at (c6 .store2 .ensures)),
-    )
-    (c .before .before .snapshot-step .ensures)
+    let whole : n - 0 ≡ n = omega arith in
+    rw (c6 .before .before .before .enum-told3 .given .1)
+    (rw (c6 .copy-from2 .ensures, size, whole) at (c .before .before .snapshot-step .ensures))
 
 same-length-3 : tie.Need-same-length-3
 same-length-3 c = search needs
@@ -149,12 +170,10 @@ returns-4 c =
     let n = a .args .s .n in
     let w = a .args .work .now in
     let size : 18 * n - 17 * n ≡ n = omega arith in
-    let long = length-part (17 * n) n w (omega (arith, a .pre)) in
-    let zero : 0 + 0 ≡ 0 = omega arith in
-    rw (
-      size,
-      long,
-    ) at (c .before .before .store3 .ensures) ∙ sym (plainly (a .args .s) (a .args .phase) (a .args .c) w _ (c .before .before .before .before .before .match .keys4))
+    let whole : n - 0 ≡ n = omega arith in
+    rw (c .before .before .copy-from3 .ensures, size, whole)
+    (sym (plainly (a .args .s) (a .args .phase) (a .args .c) w _
+      (c .before .before .before .before .before .match .keys4)))
 
 pub write-question-spec : {M : Type 1} → statement M
 write-question-spec =
@@ -165,23 +184,32 @@ write-question-spec =
     mul-end
     enum-told
     enum-told-2
-    mul-store
-    sub-store
-    part-store-start
-    part-store-end
-    store-requires
+    sub-copy-from
+    part-copy-from-start
+    part-copy-from-end
+    mul-copy-from
+    sub-copy-from-2
+    part-copy-from-start-2
+    part-copy-from-end-2
+    copy-from-requires
     enum-told-3
-    mul-store-2
-    sub-store-2
-    part-store-start-2
-    part-store-end-2
-    store-requires-2
+    sub-copy-from-3
+    part-copy-from-start-3
+    part-copy-from-end-3
+    mul-copy-from-2
+    sub-copy-from-4
+    part-copy-from-start-4
+    part-copy-from-end-4
+    copy-from-requires-2
     snapshot-step-requires
-    mul-store-3
-    sub-store-3
-    part-store-start-3
-    part-store-end-3
-    store-requires-3
+    sub-copy-from-5
+    part-copy-from-start-5
+    part-copy-from-end-5
+    mul-copy-from-3
+    sub-copy-from-6
+    part-copy-from-start-6
+    part-copy-from-end-6
+    copy-from-requires-3
     returns
     same-length
     returns-2

@@ -1,4 +1,4 @@
--- `first_derivative` meets its contract: savf, column 0 and the weights, then 12 or the first step.
+-- `first_derivative` meets its contract: the derivative, column 0 and the weights, then 12 or the first step.
 -- Assumes nothing.
 use mathlib.Core.Path.{_≡_}
 use Prim.Native.Nat.{_-_, _*_}
@@ -8,17 +8,8 @@ use Rattle.reports.specs.Reports.{weightedAt, firstDerivativeOf}
 use Rattle.reports.proofs.first_derivative.Statement.{statement}
 use Rattle.reports.proofs.first_derivative.Tie as tie
 
-mul-store : tie.Need-mul-store
-mul-store c = search needs
-
-store-requires : tie.Need-store-requires
-store-requires c κs = search needs
-
-mul-copy-part : tie.Need-mul-copy-part
-mul-copy-part c = search needs
-
-copy-part-requires : tie.Need-copy-part-requires
-copy-part-requires c κs = search needs
+take-first-requires : tie.Need-take-first-requires
+take-first-requires c κs = search needs
 
 mul-w : tie.Need-mul-w
 mul-w c = search needs
@@ -28,8 +19,7 @@ mul-we c = search needs
 
 ewset-requires : tie.Need-ewset-requires
 ewset-requires c κs =
-    let p = c .before .before .before .before .before .before .before .before .before .before .before .before
-      .before .pre in
+    let p = c .before .before .before .before .before .before .before .before .before .pre in
     (p .1 .0, (p .1 .1 .0, (omega arith, omega arith)))
 
 mul-invert-weights : tie.Need-mul-invert-weights
@@ -56,7 +46,7 @@ enum-told c = search needs
 weighted-requires : tie.Need-weighted-requires
 weighted-requires c κs =
     let p = c .before .before .before .before .before .before .before .before .before .before .before .before .before
-      .before .before .before .before .before .before .before .before .before .before .pre in
+      .before .before .before .before .before .before .pre in
     (p .0, (p .1 .0, (p .1 .1 .0, omega arith)))
 
 same-length : tie.Need-same-length
@@ -68,11 +58,10 @@ returns c =
     let i = c .before .before .before .before .before in
     let e = i .before .before .before .before in
     let k = e .before .before .before .before in
-    let n = k .before .before .before .before .before .before .before .before .before .before .args .s .n in
+    let n = k .before .before .before .before .before .before .args .s .n in
     let weights : 14 * n - 13 * n ≡ n = omega arith in
     let w = rw weights at (i .invert-weights .ensures) in
-    rw (weights, ← k .before .before .before .before .store .ensures, ← k .copy-part .ensures, ← e .ewset .ensures,
-      ← w .0, ← w .1, c .before .k .given .1)
+    rw (weights, ← k .take-first .ensures, ← e .ewset .ensures, ← w .0, ← w .1, c .before .k .given .1)
 
 same-length-2 : tie.Need-same-length-2
 same-length-2 c = search needs
@@ -83,21 +72,18 @@ returns-2 c =
     let i = c .before .before .before .before .before .before .before .before in
     let e = i .before .before .before .before in
     let k = e .before .before .before .before in
-    let n = k .before .before .before .before .before .before .before .before .before .before .args .s .n in
+    let n = k .before .before .before .before .before .before .args .s .n in
     let weights : 14 * n - 13 * n ≡ n = omega arith in
     let w = rw weights at (i .invert-weights .ensures) in
     let g = rw weights at (c .before .before .weighted .ensures) in
-    rw (← k .before .before .before .before .store .ensures, ← k .copy-part .ensures, ← e .ewset .ensures, ← w .0,
-      ← w .1, c .before .before .before .before .enum-told .given .1) g
+    rw (← k .take-first .ensures, ← e .ewset .ensures, ← w .0, ← w .1,
+      c .before .before .before .before .enum-told .given .1) g
 
 pub first-derivative-spec : {M : Type 1} → statement M
 first-derivative-spec =
     tie.close
     (tie.spec
-    mul-store
-    store-requires
-    mul-copy-part
-    copy-part-requires
+    take-first-requires
     mul-w
     mul-we
     ewset-requires
