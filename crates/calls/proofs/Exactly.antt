@@ -12,8 +12,10 @@ use lib.ListN.{length}
 use borrow.Author.Tests.{eqb-true, eqb-false, ne-eqb}
 use Rattle.numbers.specs.Float.{zeroF}
 use Rattle.refusals.specs.declared.Refusal.{Refusal}
-use Rattle.refusals.specs.Table.{Row, ExactlyFirst, startRows}
-use Rattle.refusals.proofs.Table.{Each, each-row, exactly-first}
+use Rattle.refusals.specs.Rows.{Row, ExactlyFirst}
+use Rattle.refusals.specs.Table.{startRows}
+use Rattle.refusals.proofs.Rows.{Each}
+use Rattle.refusals.proofs.Table.{each-row, exactly-first}
 use Rattle.answers.specs.Answers.{plainOf, refusedOf}
 use Rattle.answers.specs.Called.{Buffers, Called}
 use Rattle.starts.specs.Starts.{beganOf}
@@ -33,7 +35,7 @@ back f = (f .1, f .0)
 beside : {A B : Type 0} (C : Type 0) → A ↔ B → (A × C) ↔ (B × C)
 beside C f = (λ a. (f .0 (a .0), a .1), λ b. (f .1 (b .0), b .1))
 
-exactly-as : (A B : Refusal → Type 0) (X Y : Type 0) → X ↔ Y → (rows : List Row) (M N : Type 0) → M ↔ N
+pub exactly-as : (A B : Refusal → Type 0) (X Y : Type 0) → X ↔ Y → (rows : List Row) (M N : Type 0) → M ↔ N
     → Each (λ r. A r ↔ B r) rows → ExactlyFirst A X M rows → ExactlyFirst B Y N rows
 exactly-as A B X Y e [] M N f g h = both (back e) (both h f)
 exactly-as A B X Y e (r ∷ rows) M N f g h = (
@@ -104,7 +106,8 @@ module _ (p : Problem) (b : Buffers) where
       )
     where
       no-end : startOf p b .reply .number ≡ 110
-          → (startOf p b .reply .number ≡ 100) ⊎ ((1 ≤ startOf p b .reply .number) × (startOf p b .reply .number ≤ 11)) → ⊥
+          → (startOf p b .reply .number ≡ 100)
+          ⊎ ((1 ≤ startOf p b .reply .number) × (startOf p b .reply .number ≤ 11)) → ⊥
       no-end e (inl h) = omega arith
       no-end e (inr h) = omega arith
 

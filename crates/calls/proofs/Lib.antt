@@ -12,6 +12,7 @@ pub mod Walk
 pub mod Follow
 pub mod Refused
 pub mod Exactly
+pub mod First
 pub mod Spoken
 pub mod Ends
 pub mod Capped

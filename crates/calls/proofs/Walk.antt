@@ -203,7 +203,7 @@ module _ (g : Given) (a : Start) (run : Runs g a) where
 
 -- ---- the start
 
-part-put : (at n : ℕ) (l s : List Float) → at ≤ length l → length s ≡ n → part at n (putPart at n l s) ≡ s
+pub part-put : (at n : ℕ) (l s : List Float) → at ≤ length l → length s ≡ n → part at n (putPart at n l s) ≡ s
 part-put at n l s h e =
     let rest = drop n (drop at l) in
     ap (take n) (drop-at (take at l) (s ++ rest) at (length-take-le at l h)) ∙ take-at s rest n e

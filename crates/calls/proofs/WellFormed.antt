@@ -22,11 +22,13 @@ use Rattle.refusals.specs.declared.Refusal.{Refusal}
 use Rattle.refusals.specs.Start.{isNegative, startRefusalOf}
 use Rattle.refusals.specs.Accepted.{Started}
 use Rattle.refusals.specs.FirstStep.{StepRefused, StepTaken}
-use Rattle.refusals.specs.Table.{Row, NotOneOrN, WrongList, WrongSlice, LargeSetting, BelowZero, toleranceRows}
+use Rattle.refusals.specs.Rows.{Row}
+use Rattle.refusals.specs.Table.{NotOneOrN, WrongList, WrongSlice, LargeSetting, BelowZero, toleranceRows}
 use Rattle.refusals.specs.Table.{stepRow, startRows}
 use Rattle.refusals.proofs.Accepted.{accepted}
 use Rattle.refusals.proofs.FirstStep.{step-taken, taken-not-refused}
-use Rattle.refusals.proofs.Table.{NoneHolds, none-holds, none-tolerances, first-row, at-most-eleven}
+use Rattle.refusals.proofs.Rows.{NoneHolds, none-holds}
+use Rattle.refusals.proofs.Table.{none-tolerances, first-row, at-most-eleven}
 use Rattle.answers.specs.Called.{Buffers, Called}
 use Rattle.starts.specs.Starts.{beganOf}
 use Rattle.raimsklo.specs.Calls.{Problem, lengthsOf, startAt, startOf}
@@ -159,7 +161,8 @@ module _ (p : Problem) (b : Buffers) where
   pub well-formed : WellFormed p b ↔ (startOf p b .reply .number ≡ 100)
   well-formed = (
         λ w. start-number-is p b .1 (w .states .0,
-        none-holds (rowsOf p b) (refusalOf p b) (first-row (p .x0) (p .xend) (p .options) (lengthsOf p b) (p .rtol) (p .atol))
+        none-holds (rowsOf p b) (refusalOf p b)
+        (first-row (p .x0) (p .xend) (p .options) (lengthsOf p b) (p .rtol) (p .atol))
         (fine w)),
         λ h.
             let k = start-number-is p b .0 h in

@@ -2,6 +2,7 @@ pub mod WellFormed
 pub mod Start
 pub mod Run
 pub mod Follow
+pub mod First
 pub mod Refused
 pub mod Demands
 pub mod Sums

@@ -5,7 +5,8 @@ use mathlib.Core.Path.{_≡_}
 use lib.ListN.{length}
 use Rattle.loops.specs.Part.{putPart}
 use Rattle.refusals.specs.declared.Refusal.{Refusal}
-use Rattle.refusals.specs.Table.{Row, row, ExactlyFirst, startRows}
+use Rattle.refusals.specs.Rows.{Row, row, ExactlyFirst}
+use Rattle.refusals.specs.Table.{startRows}
 use Rattle.answers.specs.Answers.{refusedOf}
 use Rattle.answers.specs.Called.{Buffers}
 use Rattle.raimsklo.specs.Calls.{Problem, lengthsOf, startOf}
@@ -26,8 +27,8 @@ Returned p b r = startOf p b ≡ record { reply = refusedOf r; lent = b }
 abbrev pub StartsExactly : Problem → Buffers → Type 0
 StartsExactly p b = ExactlyFirst (Returned p b) (startOf p b .reply .number ≡ 100) (Unit {0}) (rowsOf p b)
 
--- an accepted start answers and leaves the same whatever the slices held, but for the question, where y stands first and
--- the rest is as lent
+-- an accepted start answers and leaves the same whatever the slices held, but for the question, where y stands first
+-- and the rest is as lent
 pub record StartsFresh (p : Problem) (b c : Buffers) : Type 0 where
   pub reply : startOf p b .reply ≡ startOf p c .reply
   pub work : startOf p b .lent .work ≡ startOf p c .lent .work

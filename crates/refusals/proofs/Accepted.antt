@@ -20,12 +20,14 @@ use Rattle.refusals.specs.declared.Lengths.{Lengths}
 use Rattle.refusals.specs.declared.Refusal.{Refusal}
 use Rattle.refusals.specs.Refusal.{plain, alsoOf, orElse}
 use Rattle.refusals.specs.Start.{isNegative, startRefusalOf}
-use Rattle.refusals.specs.Table.{Row, NotOneOrN, WrongList, WrongSlice, LargeSetting, BelowZero, toleranceRows}
+use Rattle.refusals.specs.Rows.{Row}
+use Rattle.refusals.specs.Table.{NotOneOrN, WrongList, WrongSlice, LargeSetting, BelowZero, toleranceRows}
 use Rattle.refusals.specs.Table.{stepRow, startRows}
 use Rattle.refusals.specs.Accepted.{Sizes, Limits, Started}
 use Rattle.refusals.proofs.Decides.{Decides, decided, equal}
 use Rattle.refusals.proofs.FirstStep.{step-decides}
-use Rattle.refusals.proofs.Table.{NoneHolds, below, first-row, numbered-rows, holds-none}
+use Rattle.refusals.proofs.Rows.{NoneHolds, holds-none}
+use Rattle.refusals.proofs.Table.{below, first-row, numbered-rows}
 
 -- ---- one condition
 
@@ -39,7 +41,8 @@ pub also-none : (r : Refusal) (b : Bool) (k : ℕ) → 1 ≤ k → alsoOf r b k 
 unfolding alsoOf
 also-none r b k h q = also-at r (eqb (r .number) 0) b k refl h q
 
-else-at : (a b : Refusal) (e : Bool) → eqb (a .number) 0 ≡ e → cond e b a .number ≡ 0 → (a .number ≡ 0) × (b .number ≡ 0)
+else-at : (a b : Refusal) (e : Bool) → eqb (a .number) 0 ≡ e → cond e b a .number ≡ 0
+    → (a .number ≡ 0) × (b .number ≡ 0)
 else-at a b true p q = (eqb-true _ _ p, q)
 else-at a b false p q = absurd (eqb-false _ _ p q)
 

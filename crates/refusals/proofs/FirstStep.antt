@@ -27,7 +27,8 @@ zero-decides (inf s) = (λ e. differs e, λ e z. z)
 zero-decides (fin true zero k) = (λ e. refl, λ e z. differs (sym (simp zero-mul at e)))
 zero-decides (fin false zero k) = (λ e. refl, λ e z. differs (sym (simp zero-mul at e)))
 zero-decides (fin s (suc m) k) =
-    let p : suc m * up k * 1 ≢ 0 * 1 * down k = λ q. omega (arith, mul-pos (zero-lt-suc m) (up-pos k), zero-mul (down k)) in
+    let p : suc m * up k * 1 ≢ 0 * 1 * down k =
+        λ q. omega (arith, mul-pos (zero-lt-suc m) (up-pos k), zero-mul (down k)) in
     (λ e. differs (rw (ne-eqb (suc m * up k * 1) (0 * 1 * down k) p) at e), λ e z. omega arith)
 
 -- 1 with a sign is another than 1 with the other sign

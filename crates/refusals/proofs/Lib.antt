@@ -1,4 +1,5 @@
 pub mod Decides
 pub mod FirstStep
+pub mod Rows
 pub mod Table
 pub mod Accepted

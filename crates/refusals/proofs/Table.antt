@@ -1,15 +1,14 @@
--- A start is refused by the first row of the table whose condition holds, and each row is returned exactly then.
+-- A start is refused by the first row of its table whose condition holds, and each row is returned exactly then.
 --     first-row         the refusal of a start is that of the first row that holds
 --     exactly-first     each row is returned exactly if it holds and no earlier one does
---     holds-none, none-holds, at-most-eleven
+--     at-most-eleven    every refusal is by 1 to 11
 -- Assumes nothing.
 use mathlib.Core.Bool.{Bool, true, false, cond, not, _||_}
 use mathlib.Core.List.{List, [], _∷_, _++_}
-use mathlib.Core.Logic.{_⊎_, inl, inr, _≢_, _↔_}
+use mathlib.Core.Logic.{_⊎_, inl, inr, _≢_}
 use mathlib.Core.Path.{_≡_, refl, sym, ap, _∙_}
 use Prim.Native.Nat.{ℕ, zero, suc, _+_, _-_, _*_, _≤_, _<_}
 use native.Mathlib.Omega.{arith}
-use borrow.Author.Tests.{ne-eqb}
 use lib.Dec.{eqb, ltb, lit<, lit≤}
 use lib.ListN.{length, getD}
 use lib.Ieee as Ieee
@@ -25,62 +24,13 @@ use Rattle.refusals.specs.Refusal.{none, plain, alsoOf, inOrder, orElse}
 use Rattle.refusals.specs.Start.{isList, listsOf, sizesOf, largeOf, limitsOf, isNegative, toleranceAt}
 use Rattle.refusals.specs.Start.{tolerancesOf, stepOf, startRefusalOf}
 use Rattle.refusals.specs.FirstStep.{StepRefused}
-use Rattle.refusals.specs.Table.{Row, row, ExactlyFirst, NotOneOrN, WrongList, WrongSlice, LargeSetting}
-use Rattle.refusals.specs.Table.{BelowZero, toleranceRows, stepRow, startRows}
+use Rattle.refusals.specs.Rows.{Row, row, ExactlyFirst}
+use Rattle.refusals.specs.Table.{NotOneOrN, WrongList, WrongSlice, LargeSetting, BelowZero, toleranceRows}
+use Rattle.refusals.specs.Table.{stepRow, startRows}
 use Rattle.refusals.proofs.Decides.{Decides, equal, smaller, denied, either, neither}
 use Rattle.refusals.proofs.FirstStep.{step-decides}
-
-positive : (k : ℕ) → suc k ≢ 0
-positive k e = omega arith
-
--- ---- the first row that holds
-
--- x is the refusal of the first row whose condition holds, and none where none holds
-abbrev pub IsFirst : List Row → Refusal → Type 0
-IsFirst [] x = x ≡ none
-IsFirst (r ∷ rs) x = (r .holds × (x ≡ r .refusal)) ⊎ ((r .holds → ⊥) × IsFirst rs x)
-
--- every row has a number
-abbrev pub Numbered : List Row → Type 0
-Numbered [] = Unit {0}
-Numbered (r ∷ rs) = (r .refusal .number ≢ 0) × Numbered rs
-
-also-stays : (r : Refusal) (b : Bool) (k : ℕ) → r .number ≢ 0 → alsoOf r b k ≡ r
-unfolding alsoOf
-also-stays r b k h = rw (ne-eqb (r .number) 0 h)
-
-else-stays : (a b : Refusal) → a .number ≢ 0 → orElse a b ≡ a
-unfolding orElse
-else-stays a b h = rw (ne-eqb (a .number) 0 h)
-
--- a row more
-pub first-also : {P : Type 0} (rows : List Row) (r : Refusal) (t : Bool) (k : ℕ) → Numbered rows → IsFirst rows r
-    → Decides t P → IsFirst (rows ++ row k P ∷ []) (alsoOf r t k)
-unfolding alsoOf
-first-also [] r true k m f d = inl (d .0 refl, rw f)
-first-also [] r false k m f d = inr (d .1 refl, rw f)
-first-also (q ∷ rows) r t k m (inl (h, e)) d =
-    inl (h, also-stays r t k (λ z. m .0 (ap (λ (x : Refusal). x .number) (sym e) ∙ z)) ∙ e)
-first-also (q ∷ rows) r t k m (inr (n, f)) d = inr (n, first-also rows r t k (m .1) f d)
-
--- rows after rows
-pub first-else : (rows more : List Row) (a b : Refusal) → Numbered rows → IsFirst rows a → IsFirst more b
-    → IsFirst (rows ++ more) (orElse a b)
-unfolding orElse
-first-else [] more a b m f g = rw f g
-first-else (q ∷ rows) more a b m (inl (h, e)) g =
-    inl (h, else-stays a b (λ z. m .0 (ap (λ (x : Refusal). x .number) (sym e) ∙ z)) ∙ e)
-first-else (q ∷ rows) more a b m (inr (n, f)) g = inr (n, first-else rows more a b (m .1) f g)
-
--- two conditions of one number
-also-same : (r : Refusal) (b c : Bool) (k : ℕ) → k ≢ 0 → alsoOf (alsoOf r b k) c k ≡ alsoOf r (b || c) k
-unfolding alsoOf
-also-same r b c k h = by (eqb (r .number) 0) refl b
-  where
-    by : (t : Bool) → eqb (r .number) 0 ≡ t → (b : Bool) → alsoOf (alsoOf r b k) c k ≡ alsoOf r (b || c) k
-    by true e true = rw (e, ne-eqb k 0 h)
-    by true e false = simp e
-    by false e b = simp e
+use Rattle.refusals.proofs.Rows.{positive, IsFirst, Numbered, first-also, first-else, also-same, NoneHolds}
+use Rattle.refusals.proofs.Rows.{Each, of-first, numbered, After, exactly}
 
 -- ---- lengths and settings
 
@@ -249,21 +199,7 @@ first-row x0 xend o l rtol atol =
     (positive 3, (positive 4, (positive 5, (positive 6, (positive 7, tt))))) (first-limits o)
     (first-tolerances rtol atol step (stepOf x0 xend o) (first-step x0 xend o) (l .n) 0)))
 
--- ---- where none holds
-
-abbrev pub NoneHolds : List Row → Type 0
-NoneHolds [] = Unit {0}
-NoneHolds (r ∷ rs) = (r .holds → ⊥) × NoneHolds rs
-
-pub none-holds : (rows : List Row) (x : Refusal) → IsFirst rows x → NoneHolds rows → x .number ≡ 0
-none-holds [] x f h = rw f
-none-holds (r ∷ rows) x (inl (y, e)) h = absurd (h .0 y)
-none-holds (r ∷ rows) x (inr (n, f)) h = none-holds rows x f (h .1)
-
-pub holds-none : (rows : List Row) (x : Refusal) → Numbered rows → IsFirst rows x → x .number ≡ 0 → NoneHolds rows
-holds-none [] x m f z = tt
-holds-none (r ∷ rows) x m (inl (y, e)) z = absurd (m .0 (ap (λ (q : Refusal). q .number) (sym e) ∙ z))
-holds-none (r ∷ rows) x m (inr (n, f)) z = (n, holds-none rows x (m .1) f z)
+-- ---- where none of the tolerances is below 0
 
 pub none-tolerances : (rtol atol : List Float) (rest : List Row) → ((i : ℕ) → BelowZero rtol i → ⊥)
     → ((i : ℕ) → BelowZero atol i → ⊥) → NoneHolds rest → (k i : ℕ) → NoneHolds (toleranceRows rtol atol k i rest)
@@ -271,10 +207,6 @@ none-tolerances rtol atol rest r a h zero i = h
 none-tolerances rtol atol rest r a h (suc k) i = (r i, (a i, none-tolerances rtol atol rest r a h k (i + 1)))
 
 -- ---- what holds of every refusal by 1 to 11 holds of each row's
-
-abbrev pub Each : (Refusal → Type 0) → List Row → Type 0
-Each P [] = Unit {0}
-Each P (r ∷ rs) = P (r .refusal) × Each P rs
 
 module _ (P : Refusal → Type 0) (h : (r : Refusal) → 1 ≤ r .number → r .number ≤ 11 → P r) where
   each-tolerance : (rtol atol : List Float) (rest : List Row) → Each P rest → (k i : ℕ)
@@ -291,21 +223,11 @@ module _ (P : Refusal → Type 0) (h : (r : Refusal) → 1 ≤ r .number → r .
         each-tolerance rtol atol _ (h _ (lit≤ tt) (lit≤ tt), tt) (l .n) 0)))))))
       )
 
--- and, if it holds where there is none, of the one that is returned
-pub of-first : (P : Refusal → Type 0) → P none → (rows : List Row) (x : Refusal) → Each P rows → IsFirst rows x → P x
-of-first P z [] x e f = rw f z
-of-first P z (r ∷ rows) x e (inl (h, q)) = rw q (e .0)
-of-first P z (r ∷ rows) x e (inr (n, f)) = of-first P z rows x (e .1) f
-
 pub at-most-eleven : (x0 xend : Float) (o : Options) (l : Lengths) (rtol atol : List Float)
     → startRefusalOf x0 xend o l rtol atol .number ≤ 11
 at-most-eleven x0 xend o l rtol atol =
     of-first (λ r. r .number ≤ 11) (lit≤ tt) (startRows x0 xend o l rtol atol) (startRefusalOf x0 xend o l rtol atol)
     (each-row (λ r. r .number ≤ 11) (λ r low small. small) x0 xend o l rtol atol) (first-row x0 xend o l rtol atol)
-
-numbered : (rows : List Row) → Each (λ r. 1 ≤ r .number) rows → Numbered rows
-numbered [] e = tt
-numbered (r ∷ rows) e = (λ z. omega (arith, z, e .0), numbered rows (e .1))
 
 pub numbered-rows : (x0 xend : Float) (o : Options) (l : Lengths) (rtol atol : List Float)
     → Numbered (startRows x0 xend o l rtol atol)
@@ -313,71 +235,25 @@ numbered-rows x0 xend o l rtol atol =
     numbered (startRows x0 xend o l rtol atol)
     (each-row (λ r. 1 ≤ r .number) (λ r low small. low) x0 xend o l rtol atol)
 
--- ---- each row exactly if
+-- ---- the places of a start's rows
 
--- the place of a refusal in the table: later rows have larger places
 abbrev place : ℕ → Refusal → ℕ
 place n r =
     cond (ltb (r .number) 9) (r .number)
     (cond (eqb (r .number) 9) (9 + (r .index + r .index))
     (cond (eqb (r .number) 10) (10 + (r .index + r .index)) (9 + (n + n))))
 
--- places after k, in order
-abbrev After : ℕ → ℕ → List Row → Type 0
-After n k [] = Unit {0}
-After n k (r ∷ rs) = (k < place n (r .refusal)) × After n (place n (r .refusal)) rs
-
-module _ (n : ℕ) where
-  -- the first row that holds has a place after k, and none has place 0
-  later : (rows : List Row) (k : ℕ) (x : Refusal) → After n k rows → IsFirst rows x → (x ≡ none) ⊎ (k < place n x)
-  later [] k x a f = inl f
-  later (r ∷ rows) k x a (inl (h, e)) = inr (rw e (a .0))
-  later (r ∷ rows) k x a (inr (h, f)) = by (later rows (place n (r .refusal)) x (a .1) f)
-    where
-      by : (x ≡ none) ⊎ (place n (r .refusal) < place n x) → (x ≡ none) ⊎ (k < place n x)
-      by (inl e) = inl e
-      by (inr q) = inr (omega (arith, q, a .0))
-
-  -- once a row is returned no later one is
-  over : (rows : List Row) (k : ℕ) (x : Refusal) (None : Type 0) → (None → ⊥) → x .number ≢ 0 → place n x ≤ k
-      → After n k rows → ExactlyFirst (λ r. x ≡ r) (x .number ≡ 0) None rows
-  over [] k x None never m h a = (λ e. absurd (m e), λ e. absurd (never e))
-  over (r ∷ rows) k x None never m h a = (
-        (λ e. let q : place n x ≡ place n (r .refusal) = ap (place n) e in absurd (omega (arith, q, h, a .0)),
-        λ e. absurd (never (e .0))),
-        over rows (place n (r .refusal)) x (None × (r .holds → ⊥)) (λ e. never (e .0)) m (omega (arith, h, a .0)) (a .1),
-      )
-
-  exactly : (rows : List Row) (k : ℕ) (x : Refusal) (None : Type 0) → None → Numbered rows → After n k rows
-      → IsFirst rows x → ExactlyFirst (λ r. x ≡ r) (x .number ≡ 0) None rows
-  exactly [] k x None so-far m a f = (λ e. so-far, λ e. rw f)
-  exactly (r ∷ rows) k x None so-far m a (inl (h, e)) = (
-        (λ q. (so-far, h), λ q. e),
-        over rows (place n (r .refusal)) x (None × (r .holds → ⊥)) (λ q. q .1 h) (rw e (m .0))
-        (let q : place n x ≡ place n (r .refusal) = ap (place n) e in omega (arith, q)) (a .1),
-      )
-  exactly (r ∷ rows) k x None so-far m a (inr (h, f)) = (
-        (λ e. absurd (by e (later rows (place n (r .refusal)) x (a .1) f)), λ q. absurd (h (q .1))),
-        exactly rows (place n (r .refusal)) x (None × (r .holds → ⊥)) (so-far, h) (m .1) (a .1) f,
-      )
-    where
-      by : x ≡ r .refusal → (x ≡ none) ⊎ (place n (r .refusal) < place n x) → ⊥
-      by e (inl z) = m .0 (ap (λ (y : Refusal). y .number) (sym e ∙ z))
-      by e (inr q) =
-          let p : place n x ≡ place n (r .refusal) = ap (place n) e in
-          omega (arith, p, q)
-
-  after-tolerances : (rtol atol : List Float) (r : Row) → r .refusal .number ≡ 11 → (k i j : ℕ) → i + k ≡ n
-      → j < 9 + (i + i) → After n j (toleranceRows rtol atol k i (r ∷ []))
-  after-tolerances rtol atol r e zero i j h q = rw e (omega arith, tt)
-  after-tolerances rtol atol r e (suc k) i j h q =
-      (q, (omega arith, after-tolerances rtol atol r e k (i + 1) (10 + (i + i)) (omega arith) (omega arith)))
+after-tolerances : (n : ℕ) (rtol atol : List Float) (r : Row) → r .refusal .number ≡ 11 → (k i j : ℕ) → i + k ≡ n
+    → j < 9 + (i + i) → After (place n) j (toleranceRows rtol atol k i (r ∷ []))
+after-tolerances n rtol atol r e zero i j h q = rw e (omega arith, tt)
+after-tolerances n rtol atol r e (suc k) i j h q =
+    (q, (omega arith, after-tolerances n rtol atol r e k (i + 1) (10 + (i + i)) (omega arith) (omega arith)))
 
 pub exactly-first : (x0 xend : Float) (o : Options) (l : Lengths) (rtol atol : List Float)
     → let x = startRefusalOf x0 xend o l rtol atol in
     ExactlyFirst (λ r. x ≡ r) (x .number ≡ 0) (Unit {0}) (startRows x0 xend o l rtol atol)
 exactly-first x0 xend o l rtol atol =
-    exactly (l .n) (startRows x0 xend o l rtol atol) 0 (startRefusalOf x0 xend o l rtol atol) (Unit {0}) tt
+    exactly (place (l .n)) (startRows x0 xend o l rtol atol) 0 (startRefusalOf x0 xend o l rtol atol) (Unit {0}) tt
     (numbered-rows x0 xend o l rtol atol)
     (lit< tt, (lit< tt, (lit< tt, (lit< tt, (lit< tt, (lit< tt, (lit< tt, (lit< tt,
     after-tolerances (l .n) rtol atol _ refl (l .n) 0 8 (omega arith) (omega arith)))))))))

@@ -1,5 +1,5 @@
--- The condition of 11 by the signs of a first step h and of d, end minus start: h is zero, a NaN, or of another `signum`
--- than d, which has none if it is a NaN. `negative` is the sign, which zeros have too.
+-- The condition of 11 by the signs of a first step h and of d, end minus start: h is zero, a NaN, or of another
+-- `signum` than d, which has none if it is a NaN. `negative` is the sign, which zeros have too.
 -- proofs/FirstStep.antt: the test `refused` decides both, each exactly.
 use mathlib.Core.Logic.{_⊎_, _≢_}
 use mathlib.Core.Path.{_≡_}

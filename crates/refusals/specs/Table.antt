@@ -3,7 +3,7 @@
 -- proofs/Table.antt: a start is refused by a row exactly if its condition holds and no earlier one does.
 use mathlib.Core.Bool.{true}
 use mathlib.Core.List.{List, [], _∷_}
-use mathlib.Core.Logic.{_⊎_, _≢_, _↔_}
+use mathlib.Core.Logic.{_⊎_, _≢_}
 use mathlib.Core.Path.{_≡_}
 use Prim.Native.Nat.{ℕ, zero, suc, _+_, _*_, _<_}
 use lib.ListN.{length, getD}
@@ -12,27 +12,8 @@ use lib.Ieee.{Float, nan}
 use Rattle.numbers.specs.Float.{_⊖_, zeroF}
 use Rattle.refusals.specs.declared.Options.{Options}
 use Rattle.refusals.specs.declared.Lengths.{Lengths}
-use Rattle.refusals.specs.declared.Refusal.{Refusal}
-use Rattle.refusals.specs.Refusal.{plain}
+use Rattle.refusals.specs.Rows.{Row, row}
 use Rattle.refusals.specs.FirstStep.{StepRefused}
-
--- ---- a list of rows
-
--- a number with its index or value, and the condition that it stands for
-pub record Row : Type 1 where
-  pub refusal : Refusal
-  pub holds : Type 0
-
--- a row of a number alone
-abbrev pub row : ℕ → Type 0 → Row
-row k condition = record { refusal = plain k; holds = condition }
-
--- row by row: it is returned exactly if its condition holds and no earlier one does; and accepted is exactly where no
--- condition holds. None: no row before these holds
-abbrev pub ExactlyFirst : (Refusal → Type 0) → Type 0 → Type 0 → List Row → Type 0
-ExactlyFirst Returned Accepted None [] = Accepted ↔ None
-ExactlyFirst Returned Accepted None (r ∷ rs) =
-    (Returned (r .refusal) ↔ (None × r .holds)) × ExactlyFirst Returned Accepted (None × (r .holds → ⊥)) rs
 
 -- ---- the conditions
 
