@@ -34,7 +34,7 @@ use Rattle.raimsklo.specs.Calls.{Problem, lengthsOf, startAt, startOf}
 use Rattle.calls.specs.WellFormed.{WellFormed}
 use Rattle.calls.specs.Start.{StartsFresh}
 use Rattle.calls.proofs.WellFormed.{refusalOf, some-start, start-number-is, well-formed}
-use Rattle.calls.proofs.Start.{fill-all, clear-all}
+use Rattle.calls.proofs.Start.{clear-all}
 
 -- ---- bytes that agree below k, of at least m each
 
@@ -127,7 +127,7 @@ module _ (p : Problem) where
 
     work-is : startOf p b .lent .work ≡ putPart (17 * n) n (replicate (n * n + 19 * n) zeroF) (p .y0)
     unfolding beganOf settingsOf
-    work-is = ap (λ (x : Called). x .lent .work) began ∙ rw (fill-all (b .work), w .work)
+    work-is = ap (λ (x : Called). x .lent .work) began ∙ rw (w .work)
 
     pivots-are : startOf p b .lent .pivots ≡ replicate n 0
     unfolding beganOf
