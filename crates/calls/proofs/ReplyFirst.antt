@@ -29,7 +29,8 @@ use Rattle.answers.specs.Answers.{plainOf, answerOf}
 use Rattle.answers.specs.Called.{Buffers, Called}
 use Rattle.replies.specs.Replies.{kindOf}
 use Rattle.raimsklo.specs.Calls.{replyOf}
-use Rattle.calls.specs.ReplyRefused.{phaseIn, Row, NoneHolds, replyRows}
+use Rattle.refusals.specs.Rows.{Row, NoneHolds}
+use Rattle.calls.specs.ReplyRefused.{phaseIn, replyRows}
 use Rattle.calls.specs.ReplyFirst.{FirstBad, AllGood, weighed, weightsOf, stepOf, isRefused, FirstDerivative}
 use Rattle.calls.proofs.ReplyMeans.{answer-at}
 

@@ -39,7 +39,8 @@ use Rattle.answers.specs.Called.{Buffers, Called}
 use Rattle.replies.specs.Replies.{kindOf, isUnasked, settledOf, turned, goOf}
 use Rattle.raimsklo.specs.Calls.{replyOf}
 use Rattle.calls.specs.Run.{isRefusal}
-use Rattle.calls.specs.ReplyRefused.{phaseIn, Row, NoneHolds, replyRows}
+use Rattle.refusals.specs.Rows.{Row, NoneHolds}
+use Rattle.calls.specs.ReplyRefused.{phaseIn, replyRows}
 use Rattle.calls.specs.ReplyMeans.{Listed, endedBy, AtReport, Ended, Meant, ReplyMeans}
 use Rattle.calls.proofs.ReplyRefused.{isRefusing, stored-phase, gone, is-now, went, reply-refused}
 use Rattle.calls.proofs.ReplyTurns.{kinds, one-of, resume-means}

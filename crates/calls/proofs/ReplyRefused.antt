@@ -30,6 +30,9 @@ use Rattle.session.proofs.InRange.{in-range}
 use Rattle.session.proofs.Back.{stored-n}
 use Rattle.refusals.specs.declared.Refusal.{Refusal}
 use Rattle.refusals.specs.Refusal.{none, plain, alsoOf, inOrder, orElse}
+use Rattle.refusals.specs.Rows.{Row, row, FirstIs, NoneHolds}
+use Rattle.refusals.proofs.Decides.{Decides, equal, smaller, denied}
+use Rattle.refusals.proofs.Decides.{either as or}
 use Rattle.answers.specs.Answers.{plainOf, answerOf}
 use Rattle.answers.specs.Called.{Buffers, Called}
 use Rattle.replies.specs.Replies.{isKind, kindOf, lengthsRefusal, storedRefusal, replyRefusalOf}
@@ -37,33 +40,10 @@ use Rattle.replies.specs.Replies.{isUnasked, Settled, settledOf, turned, goOf}
 use Rattle.raimsklo.specs.Calls.{replyAt, replyOf}
 use Rattle.fits.proofs.Floats.{either}
 use Rattle.calls.specs.Run.{isRefusal}
-use Rattle.calls.specs.ReplyRefused.{Row, row, FirstIs, NoneHolds, Awaited, awaits, Asked}
+use Rattle.calls.specs.ReplyRefused.{Awaited, awaits, Asked}
 use Rattle.calls.specs.ReplyRefused.{derivative, jacobian, answer, phaseIn, replyRows, ReplyRefused}
 use Rattle.calls.proofs.Turns.{resume-well, resume-same}
 use Rattle.calls.proofs.Follow.{not-refusal}
-
--- ---- a test that decides a condition
-
-abbrev Decides : Bool → Type 0 → Type 0
-Decides t P = (t ≡ true → P) × (t ≡ false → P → ⊥)
-
-denied : {P : Type 0} (t : Bool) → Decides t P → Decides (not t) (P → ⊥)
-denied true d = (λ e. differs e, λ e n. n (d .0 refl))
-denied false d = (λ e. d .1 refl, λ e n. differs (sym e))
-
-or : {P Q : Type 0} (s t : Bool) → Decides s P → Decides t Q → Decides (s || t) (P ⊎ Q)
-or {P} {Q} true t d f = (λ e. inl (d .0 refl), λ e. differs (sym e))
-or {P} {Q} false t d f = (λ e. inr (f .0 e), neither)
-  where
-    neither : t ≡ false → P ⊎ Q → ⊥
-    neither e (inl p) = d .1 refl p
-    neither e (inr q) = f .1 e q
-
-equal : (a b : ℕ) → Decides (eqb a b) (a ≡ b)
-equal a b = (eqb-true a b, eqb-false a b)
-
-smaller : (a b : ℕ) → Decides (ltb a b) (a < b)
-smaller a b = (ltb-true a b, λ e h. let q : b ≤ a = ltb-false a b e in omega arith)
 
 -- ---- rows in order
 
@@ -87,7 +67,7 @@ data SaysBy (leaves : ℕ → Called) (go x : Called) (rs : List Row) : Type 0 w
 -- what every row's number has, the first one's has
 abbrev Numbered : (ℕ → Type 0) → List Row → Type 0
 Numbered P [] = Unit {0}
-Numbered P (r ∷ rs) = P (r .number) × Numbered P rs
+Numbered P (r ∷ rs) = P (r .refusal .number) × Numbered P rs
 
 numbered : (P : ℕ → Type 0) (rs : List Row) (k : ℕ) → Numbered P rs → FirstIs k rs → P k
 numbered P [] k ns f = absurd f

@@ -22,12 +22,12 @@ use Rattle.refusals.specs.declared.Refusal.{Refusal}
 use Rattle.refusals.specs.Start.{isNegative, startRefusalOf}
 use Rattle.refusals.specs.Accepted.{Started}
 use Rattle.refusals.specs.FirstStep.{StepRefused, StepTaken}
-use Rattle.refusals.specs.Rows.{Row}
+use Rattle.refusals.specs.Rows.{Row, NoneHolds}
 use Rattle.refusals.specs.Table.{NotOneOrN, WrongList, WrongSlice, LargeSetting, BelowZero, toleranceRows}
 use Rattle.refusals.specs.Table.{stepRow, startRows}
 use Rattle.refusals.proofs.Accepted.{accepted}
 use Rattle.refusals.proofs.FirstStep.{step-taken, taken-not-refused}
-use Rattle.refusals.proofs.Rows.{NoneHolds, none-holds}
+use Rattle.refusals.proofs.Rows.{none-holds}
 use Rattle.refusals.proofs.Table.{none-tolerances, first-row, at-most-eleven}
 use Rattle.answers.specs.Called.{Buffers, Called}
 use Rattle.starts.specs.Starts.{beganOf}

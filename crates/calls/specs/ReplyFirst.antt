@@ -21,7 +21,8 @@ use Rattle.session.specs.Session.{decodeOf, rtolOf, atolOf}
 use Rattle.answers.specs.Answers.{plainOf}
 use Rattle.answers.specs.Called.{Buffers}
 use Rattle.raimsklo.specs.Calls.{replyOf}
-use Rattle.calls.specs.ReplyRefused.{phaseIn, NoneHolds, replyRows}
+use Rattle.refusals.specs.Rows.{NoneHolds}
+use Rattle.calls.specs.ReplyRefused.{phaseIn, replyRows}
 
 -- weight i is the first that is at most 0; a NaN is not
 pub record FirstBad (weights : List Float) (i : ℕ) : Type 0 where

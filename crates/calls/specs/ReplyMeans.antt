@@ -34,13 +34,14 @@ use Rattle.turns.specs.declared.Turn.{Turn}
 use Rattle.turns.specs.Begin.{isGoing}
 use Rattle.passes.specs.Pass.{isSupplied, acceptedOf}
 use Rattle.session.specs.Session.{decodeOf, encodeOf}
+use Rattle.refusals.specs.Rows.{NoneHolds}
 use Rattle.answers.specs.declared.Reply.{Reply}
 use Rattle.answers.specs.Answers.{plainOf, answerOf}
 use Rattle.answers.specs.Called.{Buffers}
 use Rattle.replies.specs.Replies.{kindOf, turned}
 use Rattle.raimsklo.specs.Calls.{replyOf}
 use Rattle.calls.specs.ReplyRefused.{Awaited, derivative, jacobian, answer, nothing, awaits, phaseIn}
-use Rattle.calls.specs.ReplyRefused.{NoneHolds, replyRows}
+use Rattle.calls.specs.ReplyRefused.{replyRows}
 
 -- ---- the numbers
 

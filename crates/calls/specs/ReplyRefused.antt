@@ -14,28 +14,11 @@ use Rattle.turns.specs.declared.Phase.the-variants as Phase
 use Rattle.fields.specs.States.{phaseOf}
 use Rattle.session.specs.Names as Word
 use Rattle.session.specs.InRange.{InRange}
+use Rattle.refusals.specs.Rows.{Row, row, NoneHolds, FirstIs}
 use Rattle.answers.specs.Answers.{plainOf}
 use Rattle.answers.specs.Called.{Buffers}
 use Rattle.raimsklo.specs.Calls.{replyOf}
 use Rattle.calls.specs.Run.{isRefusal}
-
--- ---- rows in order
-
-pub record Row : Type 1 where
-  pub number : ℕ
-  pub holds : Type 0
-
-abbrev pub row : ℕ → Type 0 → Row
-row k condition = record { number = k; holds = condition }
-
--- the first row whose condition holds has this number
-abbrev pub FirstIs : ℕ → List Row → Type 0
-FirstIs k [] = ⊥
-FirstIs k (r ∷ rs) = (r .holds × (r .number ≡ k)) ⊎ ((r .holds → ⊥) × FirstIs k rs)
-
-abbrev pub NoneHolds : List Row → Type 0
-NoneHolds [] = Unit {0}
-NoneHolds (r ∷ rs) = (r .holds → ⊥) × NoneHolds rs
 
 -- ---- what is asked
 

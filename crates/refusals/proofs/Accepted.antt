@@ -20,13 +20,13 @@ use Rattle.refusals.specs.declared.Lengths.{Lengths}
 use Rattle.refusals.specs.declared.Refusal.{Refusal}
 use Rattle.refusals.specs.Refusal.{plain, alsoOf, orElse}
 use Rattle.refusals.specs.Start.{isNegative, startRefusalOf}
-use Rattle.refusals.specs.Rows.{Row}
+use Rattle.refusals.specs.Rows.{Row, NoneHolds}
 use Rattle.refusals.specs.Table.{NotOneOrN, WrongList, WrongSlice, LargeSetting, BelowZero, toleranceRows}
 use Rattle.refusals.specs.Table.{stepRow, startRows}
 use Rattle.refusals.specs.Accepted.{Sizes, Limits, Started}
 use Rattle.refusals.proofs.Decides.{Decides, decided, equal}
 use Rattle.refusals.proofs.FirstStep.{step-decides}
-use Rattle.refusals.proofs.Rows.{NoneHolds, holds-none}
+use Rattle.refusals.proofs.Rows.{holds-none}
 use Rattle.refusals.proofs.Table.{below, first-row, numbered-rows}
 
 -- ---- one condition

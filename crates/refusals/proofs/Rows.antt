@@ -15,7 +15,7 @@ use borrow.Author.Tests.{ne-eqb}
 use lib.Dec.{eqb}
 use Rattle.refusals.specs.declared.Refusal.{Refusal}
 use Rattle.refusals.specs.Refusal.{none, alsoOf, orElse}
-use Rattle.refusals.specs.Rows.{Row, row, ExactlyFirst}
+use Rattle.refusals.specs.Rows.{Row, row, ExactlyFirst, NoneHolds}
 use Rattle.refusals.proofs.Decides.{Decides}
 
 pub positive : (k : ℕ) → suc k ≢ 0
@@ -71,10 +71,6 @@ also-same r b c k h = by (eqb (r .number) 0) refl b
     by false e b = simp e
 
 -- ---- where none holds
-
-abbrev pub NoneHolds : List Row → Type 0
-NoneHolds [] = Unit {0}
-NoneHolds (r ∷ rs) = (r .holds → ⊥) × NoneHolds rs
 
 pub none-holds : (rows : List Row) (x : Refusal) → IsFirst rows x → NoneHolds rows → x .number ≡ 0
 none-holds [] x f h = rw f

@@ -24,12 +24,12 @@ use Rattle.refusals.specs.Refusal.{none, plain, alsoOf, inOrder, orElse}
 use Rattle.refusals.specs.Start.{isList, listsOf, sizesOf, largeOf, limitsOf, isNegative, toleranceAt}
 use Rattle.refusals.specs.Start.{tolerancesOf, stepOf, startRefusalOf}
 use Rattle.refusals.specs.FirstStep.{StepRefused}
-use Rattle.refusals.specs.Rows.{Row, row, ExactlyFirst}
+use Rattle.refusals.specs.Rows.{Row, row, ExactlyFirst, NoneHolds}
 use Rattle.refusals.specs.Table.{NotOneOrN, WrongList, WrongSlice, LargeSetting, BelowZero, toleranceRows}
 use Rattle.refusals.specs.Table.{stepRow, startRows}
 use Rattle.refusals.proofs.Decides.{Decides, equal, smaller, denied, either, neither}
 use Rattle.refusals.proofs.FirstStep.{step-decides}
-use Rattle.refusals.proofs.Rows.{positive, IsFirst, Numbered, first-also, first-else, also-same, NoneHolds}
+use Rattle.refusals.proofs.Rows.{positive, IsFirst, Numbered, first-also, first-else, also-same}
 use Rattle.refusals.proofs.Rows.{Each, of-first, numbered, After, exactly}
 
 -- ---- lengths and settings
