@@ -57,12 +57,15 @@ module _ (m : ℕ) where
       by : (i : ℕ) (t : Bool) → eqb i k ≡ t → i < j → getD (set a k v) i 0 ≡ getD (set b k v) i 0
       by i true e l =
           let q : i ≡ k = eqb-true i k e in
-          rw q (getD-set-same a k v 0 (omega (arith, g .room)) ∙ sym (getD-set-same b k v 0 (omega (arith, g .room, g .long))))
+          rw q
+          (getD-set-same a k v 0 (omega (arith, g .room))
+          ∙ sym (getD-set-same b k v 0 (omega (arith, g .room, g .long))))
       by i false e l =
           let n : i ≢ k = eqb-false i k e in
           getD-set-other a k i v 0 n ∙ g .same i (omega arith) ∙ sym (getD-set-other b k i v 0 n)
 
-  agree-word : (at w : ℕ) {a b : List ℕ} → at + 8 ≤ m → Agree m at a b → Agree m (at + 8) (putWord a at w) (putWord b at w)
+  agree-word : (at w : ℕ) {a b : List ℕ} → at + 8 ≤ m → Agree m at a b
+      → Agree m (at + 8) (putWord a at w) (putWord b at w)
   unfolding putWord
   agree-word at w h g =
       agree-set (at + 7) (at + 8) _ (omega arith) (omega arith)
@@ -75,7 +78,8 @@ module _ (m : ℕ) where
       (agree-set at (at + 1) _ (omega arith) (omega arith) g)))))))
 
   -- a row of words, word `at + i` being w i
-  module _ (at : ℕ) (w : ℕ → ℕ) (f : ℕ → List ℕ → List ℕ) (is : (i : ℕ) (b : List ℕ) → f i b ≡ putWord b (8 * (at + i)) (w i)) where
+  module _ (at : ℕ) (w : ℕ → ℕ) (f : ℕ → List ℕ → List ℕ)
+      (is : (i : ℕ) (b : List ℕ) → f i b ≡ putWord b (8 * (at + i)) (w i)) where
     agree-row : (n i : ℕ) {a b : List ℕ} → 8 * (at + i + n) ≤ m → Agree m (8 * (at + i)) a b
         → Agree m (8 * (at + i + n)) (times f n i a) (times f n i b)
     unfolding times
@@ -101,9 +105,10 @@ kept-fresh s c rtol atol a b p q =
     let x : Session = record { settings = s; common = c; phase = Phase.FirstDerivative } in
     let none : Agree 1448 (8 * (0 + 0)) a b =
     record { room = omega arith; long = p ∙ sym q; same = λ i l. absurd (omega arith) } in
-    let counts =
-        agree-row 1448 0 (λ i. getD (countsOf x) i 0) (putCountAt (countsOf x)) (λ i b. rw (zero-add i)) 34 0 (lit≤ tt) none in
-    let floats = agree-row 1448 34 (slotOf (floatsOf x)) (putFloatAt 34 (floatsOf x)) (λ i b. refl) 19 0 (lit≤ tt) counts in
+    let u = countsOf x in
+    let f = floatsOf x in
+    let counts = agree-row 1448 0 (λ i. getD u i 0) (putCountAt u) (λ i b. rw (zero-add i)) 34 0 (lit≤ tt) none in
+    let floats = agree-row 1448 34 (slotOf f) (putFloatAt 34 f) (λ i b. refl) 19 0 (lit≤ tt) counts in
     let rtols = agree-row 1448 53 (slotOf rtol) (putFloatAt 53 rtol) (λ i b. refl) 64 0 (lit≤ tt) floats in
     let all = agree-row 1448 117 (slotOf atol) (putFloatAt 117 atol) (λ i b. refl) 64 0 (lit≤ tt) rtols in
     ext-getD 0 (keptOf s c rtol atol a) (keptOf s c rtol atol b) (all .long)

@@ -1,8 +1,8 @@
 -- The published formula of the dense output: the polynomial Σ yh_j · s^j at s = (t - tn) / h, where yh_j is column j.
 -- `horner` is Horner's rule and `polynomial` the sum, over any addition and multiplication. `Exact` lists the laws by
 -- which the two agree: whole numbers and signed fractions have them (Fraction.antt), floats do not. At the end stands
--- what it is for no operation of a pose to round, and that the pose is then the polynomial's value; how far it lies from
--- it otherwise is in Rounding.antt.
+-- what it is for no operation of a pose to round, and that the pose is then the polynomial's value; how far it lies
+-- from it otherwise is in Rounding.antt.
 use mathlib.Core.Path.{_≡_}
 use mathlib.Core.Bool.{false}
 use mathlib.Core.List.{List, [], _∷_}

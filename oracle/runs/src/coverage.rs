@@ -231,8 +231,8 @@ impl Watch {
         }
     }
 
-    /// Whether the pass under way is of the first step since a change to BDF, which alone has the full icount there, and
-    /// goes on with the matrix of the last time in BDF: none is due, and none was made in this step.
+    /// Whether the pass under way is of the first step since a change to BDF, which alone has the full icount there,
+    /// and goes on with the matrix of the last time in BDF: none is due, and none was made in this step.
     fn enters_on_old_factoring(&self) -> bool {
         let entered = self.was(Field::meth) == 2 && self.was(Field::icount) == ICOUNT + 20;
         entered && self.was(Field::due) == 0 && self.was(Field::nslp) < self.was(Field::nst)
