@@ -4,6 +4,10 @@ use Rattle.common.specs.declared.MethodFamily.{MethodFamily}
 use Rattle.common.specs.declared.MethodFamily.the-variants.{Adams, Bdf}
 use Rattle.common.specs.declared.Settings.{Settings}
 
+-- the largest number of states
+abbrev pub maxStates : ℕ
+maxStates = 64
+
 abbrev pub mxordnOf : Settings → ℕ
 mxordnOf s = min (s .mxordn) 12
 

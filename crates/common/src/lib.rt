@@ -9,6 +9,18 @@ ghost use Rattle.common.specs.Record.{isBdf, with-meth};
 ghost use Rattle.common.specs.Limits.{mxordnOf, mxordsOf, msbpOf, mxncfOf, maxordOf};
 ghost use Rattle.common.specs.Rules.{firstCallInitOf, resetOf, tinyOf, orderInForceOf, elOf};
 
+// The largest number of states.
+pub const MAX_STATES: usize = 64;
+
+// Where each part of the work begins, in columns of n numbers; columns 0 to 12 are the history.
+pub const EWT: usize = 13;
+pub const SAVF: usize = 14;
+pub const FTEM: usize = 15;
+pub const ACOR: usize = 16;
+pub const Y: usize = 17;
+pub const Y_FD: usize = 18;
+pub const MATRIX: usize = 19;
+
 pub enum MethodFamily {
     Adams,
     Bdf,

@@ -7,8 +7,32 @@ ghost use Rattle.history.specs.Columns.{addRange, subRange, predictColum
 ghost use Rattle.history.specs.Columns.{rescaleColumnsOf, addScaledOf, correctColumnsOf};
 ghost use Rattle.history.specs.Columns.{copyOf, slopeOf};
 ghost use Rattle.history.specs.Steps.{InRange, limitedOf, adjustOf, staleOf, predictedOf, predictedWorkOf};
+ghost use Rattle.common.specs.Layout.{matrixAt};
+ghost use Rattle.history.specs.Parts.{normAtOf, storedOf};
+
 use common::Common;
 use common::Settings;
+use vectors::Norm;
+
+// The norm of the n numbers at `at`, by the weights in the work.
+pub fn norm_at(work: &[f64], n: usize, at: usize) -> Norm
+    requires { ⌜ (at + n ≤ length (now work)) × (matrixAt n ≤ length (now work)) ⌝ }
+    ensures { λ r. ⌜ r ≡ normAtOf n at (now (work .entry)) ⌝ }
+{
+    let e = at + n;
+    let w = common::EWT * n;
+    let we = common::SAVF * n;
+    vectors::vmnorm(&work[at..e], &work[w..we])
+}
+
+// The numbers at `at` become those of f.
+pub fn store(work: &mut [f64], at: usize, f: &[f64])
+    requires { ⌜ at + length (now f) ≤ length (now work) ⌝ }
+    ensures { λ _. ⌜ now (work .exit) ≡ storedOf at (now (f .entry)) (now (work .entry)) ⌝ }
+{
+    let e = at + f.len();
+    copy_from(&mut work[at..e], f);
+}
 
 // Adds to each number from a to e the one that stands n further on.
 fn add_next(yh: &mut [f64], n: usize, a: usize, e: usize)
