@@ -1,0 +1,23 @@
+-- What a run is: what its start fixes, and what its steps change.
+use mathlib.Core.List.{List}
+use Prim.Native.Nat.{ℕ}
+use lib.Ieee.{Float}
+use Rattle.common.specs.declared.Settings.{Settings}
+use Rattle.common.specs.declared.Common.{Common}
+
+-- what the start fixes: the settings and the tolerance lists
+pub record Given : Type 0 where
+  pub s : Settings
+  pub rtol : List Float
+  pub atol : List Float
+
+-- what the steps change: the record, the work and the pivots
+pub record State : Type 0 where
+  pub c : Common
+  pub w : List Float
+  pub p : List ℕ
+
+-- the record and the work alone, where the pivots stay
+pub record Moved : Type 0 where
+  pub common : Common
+  pub work : List Float
