@@ -9,9 +9,9 @@ use lib.Ieee as Ieee
 use lib.Ieee.{Float}
 use Rattle.numbers.specs.Float.{_⊖_, zeroF, oneF}
 use Rattle.common.specs.declared.Settings.{Settings}
+use Rattle.between_steps.specs.declared.Kind.{Kind}
+use Rattle.between_steps.specs.declared.Kind.the-variants as Kind
 use Rattle.turns.specs.declared.Session.{Session}
-use Rattle.turns.specs.declared.Kind.{Kind}
-use Rattle.turns.specs.declared.Kind.the-variants as Kind
 use Rattle.turns.specs.declared.Phase.{Phase}
 use Rattle.turns.specs.declared.Phase.the-variants as Phase
 use Rattle.reports.specs.Reports.{initialOf}

@@ -26,18 +26,25 @@ use Rattle.attempt.specs.Attempt as Attempt
 use Rattle.order.specs.declared.Branch.{Branch}
 use Rattle.order.specs.declared.Branch.the-variants as Branch
 use Rattle.acceptance.specs.Accept.{acceptOf, closedOf}
-use Rattle.turns.specs.declared.Answer.{Answer}
-use Rattle.turns.specs.declared.Answer.the-variants.{Continue, Interrupt, Modified}
-use Rattle.turns.specs.Turns.{Kept, Left, askedOf, askedInStepOf, finishedOf, withDerivative}
-use Rattle.turns.specs.Begin.{isCut, cutOf, setupOf, preparedAt, preparedOf, enteredOf, predictedAt, openPassOf}
-use Rattle.turns.specs.Begin.{beganOf, isGoing, goOnAt, goOnOf}
-use Rattle.turns.specs.Begin as Begin
+use Rattle.between_steps.specs.declared.Answer.{Answer}
+use Rattle.between_steps.specs.declared.Answer.the-variants.{Continue, Interrupt, Modified}
+use Rattle.between_steps.specs.Start.{withDerivative}
+use Rattle.between_steps.specs.Begin.{isCut, cutOf, setupOf, preparedAt, preparedOf, enteredOf, predictedAt}
+use Rattle.between_steps.specs.Begin.{isGoing}
+use Rattle.between_steps.specs.Begin.{firstPredictionOf}
+use Rattle.between_steps.specs.Pass.{verdictOf}
+use Rattle.between_steps.specs.Pass.{isSupplied}
+use Rattle.between_steps.specs.Start.{firstStepOf}
+use Rattle.between_steps.specs.Start.{restartOf}
+use Rattle.turns.specs.Turns.{Kept, Left, askedOf, askedInStepOf, finishedOf}
+use Rattle.turns.specs.Begin.{openPassOf}
+use Rattle.turns.specs.Begin.{beganOf, goOnAt, goOnOf}
 use Rattle.passes.specs.Pass.{attemptedAt, reportedOf, closedAt, closeOf, acceptedAt, acceptedOf, convergedAt}
-use Rattle.passes.specs.Pass.{convergedOf, unconvergedOf, concludedAt, verdictOf, iterateOf, iterationsOf, factoredAt}
-use Rattle.passes.specs.Pass.{factoredOf, askColumnOf, isSupplied, beginJacobianAt, beginJacobianOf}
+use Rattle.passes.specs.Pass.{convergedOf, unconvergedOf, concludedAt, iterateOf, iterationsOf, factoredAt}
+use Rattle.passes.specs.Pass.{factoredOf, askColumnOf, beginJacobianAt, beginJacobianOf}
 use Rattle.passes.specs.Pass.{openedAt, openedOf, jacobianOf, columnAt, columnOf, furtherOf, restepOf}
-use Rattle.reports.specs.Reports.{sizedAt, sizedOf, firstStepOf, weightedAt, firstDerivativeOf, firstReportOf}
-use Rattle.reports.specs.Reports.{firstModifiedOf, afterReportOf, restartOf, modifiedOf}
+use Rattle.reports.specs.Reports.{sizedAt, sizedOf, weightedAt, firstDerivativeOf, firstReportOf}
+use Rattle.reports.specs.Reports.{firstModifiedOf, afterReportOf, modifiedOf}
 use Rattle.fields.specs.Fields.{Fit}
 use Rattle.fits.proofs.Floats.{either, sum}
 use Rattle.fits.proofs.Sizes.{norm, initial-step, first-size}
@@ -79,7 +86,7 @@ open-pass n c work f = f
 
 module _ (s : Settings) where
   began-fits : (c : Common) (work : List Float) → CommonFits c → KeptFits (beganOf s c work)
-  unfolding beganOf Begin.openedOf preparedOf
+  unfolding beganOf firstPredictionOf preparedOf
   began-fits c work f =
       let p = preparedOf s c work in
       open-pass (s .n) _ _

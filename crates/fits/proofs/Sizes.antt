@@ -18,7 +18,7 @@ use Rattle.vectors.specs.Norm.{normAt, vmnormOf}
 use Rattle.vectors.specs.FirstStep.{initialStepOf}
 use Rattle.common.specs.declared.Settings.{Settings}
 use Rattle.common.specs.declared.Common.{Common}
-use Rattle.reports.specs.Reports.{firstSizeOf}
+use Rattle.between_steps.specs.Start.{firstSizeOf}
 use Rattle.fields.specs.Fields.{Fit}
 use Rattle.fits.proofs.Floats.{either, literal, difference, product, quotient, absolute, copysign, maximum}
 use Rattle.fits.proofs.Floats.{minimum}

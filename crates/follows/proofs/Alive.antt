@@ -6,9 +6,10 @@ use mathlib.Core.Path.{_≡_}
 use Prim.Native.Nat.{ℕ, _*_}
 use lib.ListN.{length}
 use lib.Ieee.{Float}
-use Rattle.turns.specs.declared.Answer.{Answer}
-use Rattle.turns.specs.Ranges.{Accepted}
-use Rattle.rules.specs.Play.{Given, derivativeAt, jacobianAt}
+use Rattle.common.specs.State.{Given}
+use Rattle.between_steps.specs.declared.Answer.{Answer}
+use Rattle.between_steps.specs.Ranges.{Accepted}
+use Rattle.rules.specs.Play.{derivativeAt, jacobianAt}
 use Rattle.rules.specs.Play.{finished, stepRefused, weightRefused, exhausted, Play, ret, ask, tell, say}
 use Rattle.rules.specs.Rules.{Start, start}
 use Rattle.rules.specs.Steps.{Step, noted, marked}

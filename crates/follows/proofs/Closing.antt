@@ -14,7 +14,7 @@ use Rattle.common.specs.Rules.{icount20}
 use Rattle.history.specs.Steps.{InRange}
 use Rattle.attempt.specs.Attempt.{noConvergenceOf, failedOf}
 use Rattle.attempt.proofs.Laws.{Kept, unconverged, failed}
-use Rattle.turns.specs.Ranges.{Accepted}
+use Rattle.between_steps.specs.Ranges.{Accepted}
 use Rattle.follows.proofs.Ranges.{Core, coreOf, Within, range-of}
 
 pub record Closing (s : Settings) (k : Core) : Type 0 where

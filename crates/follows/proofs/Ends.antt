@@ -10,13 +10,14 @@ use lib.ListN.{length, replicate, length-replicate}
 use lib.Ieee.{Float}
 use borrow.Author.Tests.{eq-eqb}
 use Rattle.numbers.specs.Float.{zeroF}
-use Rattle.turns.specs.declared.Answer.the-variants.{Continue}
+use Rattle.common.specs.State.{Given}
+use Rattle.between_steps.specs.declared.Answer.the-variants.{Continue}
+use Rattle.between_steps.specs.Ranges.{Accepted}
 use Rattle.turns.specs.declared.Phase.{Phase}
 use Rattle.turns.specs.declared.Phase.the-variants as Phase
-use Rattle.turns.specs.Ranges.{Accepted}
 use Rattle.turns.specs.Turns.{Left}
 use Rattle.machine.specs.Resume.{isAsked}
-use Rattle.rules.specs.Play.{Given, Play, ret, ask, tell, say}
+use Rattle.rules.specs.Play.{Play, ret, ask, tell, say}
 use Rattle.rules.specs.Rules.{Start, start}
 use Rattle.rules.specs.Replies.{Reply, fed}
 use Rattle.rules.specs.Demands.{HasEnded}

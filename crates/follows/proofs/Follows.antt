@@ -11,12 +11,13 @@ use Prim.Native.Nat.{_*_}
 use lib.ListN.{length}
 use lib.Ieee.{Float}
 use borrow.Author.Tests.{eqb-true}
-use Rattle.turns.specs.declared.Kind.{Kind}
-use Rattle.turns.specs.declared.Kind.the-variants as Kind
-use Rattle.turns.specs.Ranges.{Accepted}
+use Rattle.common.specs.State.{Given}
+use Rattle.between_steps.specs.declared.Kind.{Kind}
+use Rattle.between_steps.specs.declared.Kind.the-variants as Kind
+use Rattle.between_steps.specs.Ranges.{Accepted}
 use Rattle.turns.specs.Turns.{Left}
 use Rattle.machine.specs.Resume.{unasked}
-use Rattle.rules.specs.Play.{Given, End, derivativeAt, jacobianAt}
+use Rattle.rules.specs.Play.{End, derivativeAt, jacobianAt}
 use Rattle.rules.specs.Play.{finished, stepRefused, weightRefused, exhausted, Play, ret, ask, tell, say}
 use Rattle.rules.specs.Rules.{Start, start}
 use Rattle.rules.specs.Steps.{Step, noted, marked}

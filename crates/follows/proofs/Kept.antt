@@ -9,12 +9,13 @@ use native.Mathlib.Omega.{arith}
 use lib.ListN.{length, replicate, length-replicate, getD-replicate}
 use Rattle.loops.specs.Part.{length-putPart}
 use Rattle.numbers.specs.Float.{zeroF}
+use Rattle.common.specs.State.{Given}
+use Rattle.between_steps.specs.Ranges.{Counts, Lent}
 use Rattle.turns.specs.declared.Phase.{Phase}
 use Rattle.turns.specs.declared.Phase.the-variants as Phase
-use Rattle.turns.specs.Ranges.{Counts, Lent}
 use Rattle.turns.specs.Requires.{Resumes, UnlessFinished}
 use Rattle.turns.specs.Turns.{Left}
-use Rattle.rules.specs.Play.{Given, Play, ret, ask, tell, say}
+use Rattle.rules.specs.Play.{Play, ret, ask, tell, say}
 use Rattle.rules.specs.Rules.{Start, beginning, start}
 use Rattle.rules.specs.Steps.{Step}
 use Rattle.rules.specs.Replies.{Reply, fed}

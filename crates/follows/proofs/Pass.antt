@@ -9,17 +9,19 @@ use native.Mathlib.Omega.{arith}
 use lib.Dec.{ltb}
 use lib.Ieee.{Float}
 use borrow.Author.Tests.{lt-ltb, le-ltb}
+use Rattle.common.specs.State.{Given, State}
 use Rattle.verdict.specs.declared.Pass.{Pass}
 use Rattle.verdict.specs.declared.Pass.the-variants.{Converged, Retry, NoConvergence, Further}
+use Rattle.between_steps.specs.Pass.{isSupplied}
 use Rattle.turns.specs.declared.Phase.the-variants as Phase
 use Rattle.turns.specs.Turns.{Left, leaving, askedInStepOf}
 use Rattle.turns.specs.Begin.{openPassOf}
 use Rattle.passes.specs.Pass.{concludedAt, iterateOf, iterationsOf, convergedOf, unconvergedOf, furtherOf}
-use Rattle.passes.specs.Pass.{factoredOf, askColumnOf, isSupplied, beginJacobianAt, beginJacobianOf}
+use Rattle.passes.specs.Pass.{factoredOf, askColumnOf, beginJacobianAt, beginJacobianOf}
 use Rattle.passes.specs.Pass.{openedAt, openedOf, jacobianOf, columnAt, columnOf}
 use Rattle.passes.specs.Pass as Machine
 use Rattle.machine.specs.Resume.{takenOf}
-use Rattle.rules.specs.Play.{Given, State, Play}
+use Rattle.rules.specs.Play.{Play}
 use Rattle.rules.specs.Pass.{Outcome, converged, toRetry, unconverged, iterated, further, turns, iterations}
 use Rattle.rules.specs.Pass.{stored, factored, factoredState, factoredAt, afterMatrix, columnAsked, columns}
 use Rattle.rules.specs.Pass.{unperturbed, matrixGiven, matrix, begun, passAt, opened, pass}

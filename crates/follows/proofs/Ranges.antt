@@ -31,8 +31,8 @@ use Rattle.attempt.proofs.Laws.{Kept, unconverged, failed, restepped}
 use Rattle.order.proofs.Ranges.{Ready}
 use Rattle.acceptance.specs.Accept.{acceptOf}
 use Rattle.acceptance.proofs.Laws.{accept-keeps}
-use Rattle.turns.specs.Ranges.{Accepted, Orders}
-use Rattle.turns.specs.Begin.{isCut, cutOf, setupOf, preparedAt, preparedOf}
+use Rattle.between_steps.specs.Ranges.{Accepted, Orders}
+use Rattle.between_steps.specs.Begin.{isCut, cutOf, setupOf, preparedAt, preparedOf}
 use Rattle.reports.specs.Reports.{initialOf}
 
 pub record Core : Type 0 where

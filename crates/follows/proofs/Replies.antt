@@ -11,16 +11,18 @@ use lib.Dec.{eqb}
 use lib.ListN.{length}
 use lib.Ieee.{Float}
 use borrow.Author.Tests.{eq-eqb}
-use Rattle.turns.specs.declared.Answer.{Answer}
-use Rattle.turns.specs.declared.Kind.{Kind}
-use Rattle.turns.specs.declared.Kind.the-variants as Kind
+use Rattle.common.specs.Layout.{y}
+use Rattle.common.specs.State.{Given, State}
+use Rattle.between_steps.specs.declared.Answer.{Answer}
+use Rattle.between_steps.specs.declared.Kind.{Kind}
+use Rattle.between_steps.specs.declared.Kind.the-variants as Kind
+use Rattle.between_steps.specs.Replies.{isDerivative}
 use Rattle.turns.specs.declared.Question.the-variants as Machine
 use Rattle.turns.specs.declared.Phase.{Phase}
 use Rattle.turns.specs.declared.Phase.the-variants as Phase
 use Rattle.turns.specs.Turns.{Left}
-use Rattle.machine.specs.Resume.{isDerivative, isAsked, unasked, takenOf, resumeOf}
-use Rattle.common.specs.Layout.{y}
-use Rattle.rules.specs.Play.{Given, State, derivativeAt, jacobianAt, Play, ask}
+use Rattle.machine.specs.Resume.{isAsked, unasked, takenOf, resumeOf}
+use Rattle.rules.specs.Play.{derivativeAt, jacobianAt, Play, ask}
 use Rattle.rules.specs.Replies.{Reply}
 use Rattle.follows.specs.Seen.{wantedAt, shownAs, sessionOf, withOf, next, isTaken}
 use Rattle.follows.specs.Stands.{derivative, jacobian, answer, Stands}

@@ -20,22 +20,26 @@ use Rattle.history.specs.Columns.{copyOf, slopeOf}
 use Rattle.history.proofs.Laws.{length-copy, length-slope}
 use Rattle.jacobian.proofs.Laws.{length-supplied, length-restore}
 use Rattle.attempt.proofs.Laws.{restepped}
-use Rattle.turns.specs.declared.Answer.{Answer}
-use Rattle.turns.specs.declared.Answer.the-variants.{Continue, Interrupt, Modified}
-use Rattle.turns.specs.declared.Kind.{Kind}
-use Rattle.turns.specs.declared.Kind.the-variants as Kind
+use Rattle.between_steps.specs.declared.Answer.{Answer}
+use Rattle.between_steps.specs.declared.Answer.the-variants.{Continue, Interrupt, Modified}
+use Rattle.between_steps.specs.declared.Kind.{Kind}
+use Rattle.between_steps.specs.declared.Kind.the-variants as Kind
+use Rattle.between_steps.specs.Ranges.{Accepted, Lent}
+use Rattle.between_steps.specs.Start.{withDerivative}
+use Rattle.between_steps.specs.Start.{takenOf as storedOf}
+use Rattle.between_steps.specs.Start.{restartOf}
+use Rattle.between_steps.specs.Replies.{isDerivative, isAnswer}
 use Rattle.turns.specs.declared.Phase.{Phase}
 use Rattle.turns.specs.declared.Phase.the-variants as Phase
 use Rattle.turns.specs.declared.Session.{Session}
-use Rattle.turns.specs.Ranges.{Accepted, Lent}
-use Rattle.turns.specs.Turns.{Kept, askedOf, finishedOf as endedOf, withDerivative}
+use Rattle.turns.specs.Turns.{Kept, askedOf, finishedOf as endedOf}
 use Rattle.passes.specs.Pass.{factoredOf}
 use Rattle.passes.specs.Pass.{openedAt, openedOf}
 use Rattle.passes.specs.Pass.{jacobianOf, columnAt, columnOf, furtherOf, restepOf}
 use Rattle.passes.proofs.Inside.{lent-length, lent-factored}
-use Rattle.reports.specs.Reports.{firstDerivativeOf, takenOf as storedOf}
-use Rattle.reports.specs.Reports.{firstReportOf, firstModifiedOf, afterReportOf, restartOf, modifiedOf}
-use Rattle.machine.specs.Resume.{With, isDerivative, isAnswer, isAsked, unasked, firstAnsweredOf, answeredOf, takenOf}
+use Rattle.reports.specs.Reports.{firstDerivativeOf}
+use Rattle.reports.specs.Reports.{firstReportOf, firstModifiedOf, afterReportOf, modifiedOf}
+use Rattle.machine.specs.Resume.{With, isAsked, unasked, firstAnsweredOf, answeredOf, takenOf}
 use Rattle.machine.specs.Resume.{resumeOf}
 use Rattle.follows.proofs.Ranges.{coreOf, Within, within-factored, within-column}
 use Rattle.follows.proofs.Ranges.{within-restep}

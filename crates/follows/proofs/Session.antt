@@ -34,20 +34,24 @@ use Rattle.attempt.proofs.Laws.{unconverged, failed}
 use Rattle.order.specs.declared.Branch.{Branch}
 use Rattle.order.specs.declared.Branch.the-variants as Branch
 use Rattle.acceptance.proofs.Laws.{length-accept, length-closed}
-use Rattle.turns.specs.declared.Answer.the-variants.{Modified}
+use Rattle.between_steps.specs.declared.Answer.the-variants.{Modified}
+use Rattle.between_steps.specs.Ranges.{Accepted, Lent}
+use Rattle.between_steps.specs.Begin.{cutOf, preparedAt, preparedOf, isCut, predictedAt}
+use Rattle.between_steps.specs.Begin.{isGoing}
+use Rattle.between_steps.specs.Begin.{firstPredictionOf}
+use Rattle.between_steps.specs.Pass.{isSupplied}
+use Rattle.between_steps.specs.Start.{inverted}
 use Rattle.turns.specs.declared.Phase.{Phase}
 use Rattle.turns.specs.declared.Phase.the-variants as Phase
-use Rattle.turns.specs.Ranges.{Accepted, Lent}
-use Rattle.passes.proofs.Inside.{lent-length}
 use Rattle.turns.specs.Turns.{Kept, Left, askedInStepOf, finishedOf as endedOf}
-use Rattle.turns.specs.Begin.{cutOf, preparedAt, preparedOf, isCut, openPassOf, predictedAt, beganOf}
-use Rattle.turns.specs.Begin.{goOnAt, goOnOf, isGoing}
-use Rattle.turns.specs.Begin as Begin
+use Rattle.turns.specs.Begin.{openPassOf, beganOf}
+use Rattle.turns.specs.Begin.{goOnAt, goOnOf}
 use Rattle.passes.specs.Pass.{attemptedAt, reportedOf, closedAt, closeOf, acceptedAt, acceptedOf, convergedAt}
 use Rattle.passes.specs.Pass.{convergedOf}
 use Rattle.passes.specs.Pass.{unconvergedOf, concludedAt, iterateOf, iterationsOf, factoredAt}
-use Rattle.passes.specs.Pass.{askColumnOf, isSupplied, beginJacobianAt, beginJacobianOf, openedOf}
-use Rattle.reports.specs.Reports.{sizedAt, sizedOf, weightedAt, inverted}
+use Rattle.passes.specs.Pass.{askColumnOf, beginJacobianAt, beginJacobianOf, openedOf}
+use Rattle.passes.proofs.Inside.{lent-length}
+use Rattle.reports.specs.Reports.{sizedAt, sizedOf, weightedAt}
 use Rattle.follows.proofs.Ranges.{coreOf, Within, within-open, within-judged, within-column}
 use Rattle.follows.proofs.Ranges.{within-unconverged, within-failed, failed-pass, failed-restep}
 use Rattle.follows.proofs.Ranges.{within-prepared, within-entered, within-another, within-accept}
@@ -113,7 +117,7 @@ module _ (s : Settings) (acc : Accepted s) where
 
     began-fine : (c : Common) (work : List Float) → Within s 1 (coreOf c) → Lent (s .n) work ipiv
         → Stays (beganOf s c work)
-    unfolding beganOf Begin.openedOf predictedAt predictedOf
+    unfolding beganOf firstPredictionOf predictedAt predictedOf
     began-fine c work p l =
         open-fine _ _ (within-entered s acc (preparedOf s c work .common) (within-prepared s acc c p work))
         (lent-length _ (length-predict (s .n) _ _ _ ∙ length-prepared c work) l)

@@ -12,16 +12,18 @@ use Rattle.vectors.specs.declared.Weights.{Weights}
 use Rattle.vectors.specs.declared.Weights.the-variants.{Inverted, Refused}
 use Rattle.vectors.specs.Weights.{invertOf, outcomeOf}
 use Rattle.common.specs.Layout.{ewt}
-use Rattle.turns.specs.declared.Answer.{Answer}
-use Rattle.turns.specs.declared.Answer.the-variants.{Continue, Interrupt, Modified}
+use Rattle.common.specs.State.{Given, State}
+use Rattle.between_steps.specs.declared.Answer.{Answer}
+use Rattle.between_steps.specs.declared.Answer.the-variants.{Continue, Interrupt, Modified}
+use Rattle.between_steps.specs.declared.Status.the-variants as Status
+use Rattle.between_steps.specs.Begin.{isGoing}
+use Rattle.between_steps.specs.Start.{inverted}
 use Rattle.turns.specs.declared.Phase.the-variants as Phase
-use Rattle.turns.specs.declared.Status.the-variants as Status
 use Rattle.turns.specs.Turns.{leaving, askedOf}
-use Rattle.turns.specs.Begin.{goOnOf, isGoing}
-use Rattle.reports.specs.Reports.{initialOf, sizedAt, sizedOf, weightedAt, firstDerivativeOf, inverted}
+use Rattle.turns.specs.Begin.{goOnOf}
+use Rattle.reports.specs.Reports.{initialOf, sizedAt, sizedOf, weightedAt, firstDerivativeOf}
 use Rattle.reports.specs.Reports as Machine
 use Rattle.machine.specs.Resume.{takenOf}
-use Rattle.rules.specs.Play.{Given, State}
 use Rattle.rules.specs.Pass.{put-w}
 use Rattle.rules.specs.Rules.{Start, beginning, sizedState, firstReportOf, firstModified, firstRestarted}
 use Rattle.rules.specs.Rules.{firstAnswered}

@@ -13,24 +13,26 @@ use Rattle.numbers.specs.Float.{oneF}
 use Rattle.vectors.specs.declared.Weights.{Weights}
 use Rattle.vectors.specs.declared.Weights.the-variants.{Inverted, Refused}
 use Rattle.common.specs.Limits.{mxncfOf}
+use Rattle.common.specs.State.{Given, State}
 use Rattle.attempt.specs.declared.Next.{Next}
 use Rattle.attempt.specs.declared.Next.the-variants as Next
 use Rattle.order.specs.declared.Branch.{Branch}
 use Rattle.order.specs.declared.Branch.the-variants as Branch
-use Rattle.turns.specs.declared.Answer.{Answer}
-use Rattle.turns.specs.declared.Answer.the-variants.{Continue, Interrupt, Modified}
+use Rattle.between_steps.specs.declared.Answer.{Answer}
+use Rattle.between_steps.specs.declared.Answer.the-variants.{Continue, Interrupt, Modified}
+use Rattle.between_steps.specs.declared.Status.{Status}
+use Rattle.between_steps.specs.declared.Status.the-variants as Status
+use Rattle.between_steps.specs.Begin.{firstPredictionOf as openedOf, isGoing}
 use Rattle.turns.specs.declared.Phase.the-variants as Phase
-use Rattle.turns.specs.declared.Status.{Status}
-use Rattle.turns.specs.declared.Status.the-variants as Status
 use Rattle.turns.specs.Turns.{Left, kept, leaving, askedOf, askedInStepOf, finishedOf}
-use Rattle.turns.specs.Begin.{openPassOf, beganOf, openedOf, goOnAt, goOnOf, isGoing}
+use Rattle.turns.specs.Begin.{openPassOf, beganOf, goOnAt, goOnOf}
 use Rattle.passes.specs.Pass.{attemptedAt, reportedOf, closedAt, closeOf, acceptedAt, acceptedOf, convergedAt}
 use Rattle.passes.specs.Pass.{convergedOf}
 use Rattle.passes.specs.Pass.{unconvergedOf}
 use Rattle.passes.specs.Pass as Machine
 use Rattle.reports.specs.Reports.{afterReportOf, modifiedOf}
 use Rattle.machine.specs.Resume.{takenOf}
-use Rattle.rules.specs.Play.{Given, State, Play, ret, finished}
+use Rattle.rules.specs.Play.{Play, ret, finished}
 use Rattle.rules.specs.Pass.{converged, toRetry, unconverged, put-w}
 use Rattle.rules.specs.Rules.{endedAccepted, single, restepped, follow, attempted, tested}
 use Rattle.rules.specs.Rules.{errorAt, decide, attempts, reportedState, modified, restarted, answered, taken, timed}

@@ -5,10 +5,11 @@ use mathlib.Core.List.{List, []}
 use mathlib.Core.Path.{_≡_}
 use Prim.Native.Nat.{_≤_}
 use lib.ListN.{length}
+use Rattle.common.specs.State.{Given, State}
 use Rattle.turns.specs.declared.Phase.the-variants.{Finished}
 use Rattle.turns.specs.declared.Question.the-variants.{Unasked}
 use Rattle.turns.specs.Turns.{Left}
-use Rattle.rules.specs.Play.{Given, State, Play, ret, ask, tell, say}
+use Rattle.rules.specs.Play.{Play, ret, ask, tell, say}
 use Rattle.rules.specs.Rules.{Start, start}
 use Rattle.rules.specs.Replies.{Reply, fed, AllAsked}
 use Rattle.rules.specs.Demands.{lastState, repliesOf}

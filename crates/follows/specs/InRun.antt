@@ -6,10 +6,10 @@ use mathlib.Core.Path.{_≡_}
 use Prim.Native.Nat.{_-_}
 use lib.ListN.{length}
 use Rattle.vectors.specs.Tolerance.{List1OrN}
-use Rattle.turns.specs.Ranges.{Accepted}
+use Rattle.common.specs.State.{Given}
+use Rattle.between_steps.specs.Ranges.{Accepted}
 use Rattle.turns.specs.Requires.{Resumes, UnlessFinished}
 use Rattle.turns.specs.Turns.{Left}
-use Rattle.rules.specs.Play.{Given}
 use Rattle.rules.specs.Rules.{Start}
 use Rattle.rules.specs.Replies.{Reply}
 use Rattle.follows.specs.Seen.{sessionOf, after}

@@ -10,16 +10,17 @@ use Rattle.loops.specs.Part.{part}
 use Rattle.numbers.specs.Float.{whole, uround}
 use Rattle.common.specs.declared.Common.{Common}
 use Rattle.common.specs.Layout.{y, yfd}
+use Rattle.common.specs.State.{Given, State}
+use Rattle.between_steps.specs.declared.Status.{Status}
 use Rattle.turns.specs.declared.End.{End}
 use Rattle.turns.specs.declared.Phase.{Phase}
 use Rattle.turns.specs.declared.Phase.the-variants as Phase
 use Rattle.turns.specs.declared.Question.{Question as MachineQuestion}
 use Rattle.turns.specs.declared.Question.the-variants as Machine
 use Rattle.turns.specs.declared.Session.{Session}
-use Rattle.turns.specs.declared.Status.{Status}
 use Rattle.turns.specs.Turns.{Left}
 use Rattle.machine.specs.Resume.{With, isAsked, resumeOf}
-use Rattle.rules.specs.Play.{Given, State, Question, derivativeAt, jacobianAt, Report}
+use Rattle.rules.specs.Play.{Question, derivativeAt, jacobianAt, Report}
 use Rattle.rules.specs.Play.{End as RulesEnd, finished, stepRefused, weightRefused, exhausted, Play, ret, ask, tell}
 use Rattle.rules.specs.Play.{say}
 use Rattle.rules.specs.Replies.{Reply, answers, answersReport, answerOf}

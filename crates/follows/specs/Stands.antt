@@ -6,12 +6,13 @@ use mathlib.Core.Path.{_≡_}
 use Prim.Native.Nat.{_*_}
 use lib.ListN.{length}
 use lib.Ieee.{Float}
-use Rattle.turns.specs.declared.Answer.{Answer}
-use Rattle.turns.specs.declared.Kind.the-variants as Kind
+use Rattle.common.specs.State.{Given, State}
+use Rattle.between_steps.specs.declared.Answer.{Answer}
+use Rattle.between_steps.specs.declared.Kind.the-variants as Kind
 use Rattle.turns.specs.declared.Phase.the-variants.{FirstDerivative}
 use Rattle.turns.specs.declared.Question.the-variants as Machine
 use Rattle.turns.specs.Turns.{Left}
-use Rattle.rules.specs.Play.{Given, State, derivativeAt, jacobianAt}
+use Rattle.rules.specs.Play.{derivativeAt, jacobianAt}
 use Rattle.rules.specs.Play.{finished, stepRefused, weightRefused, exhausted, Play, ret, ask, tell, say}
 use Rattle.rules.specs.Rules.{Start, beginning}
 use Rattle.rules.specs.Replies.{Reply}

@@ -9,17 +9,18 @@ use lib.Ieee.{Float}
 use lib.ListN.{length}
 use Rattle.common.specs.declared.Settings.{Settings}
 use Rattle.common.specs.declared.Common.{Common}
-use Rattle.turns.specs.declared.Kind.{Kind}
-use Rattle.turns.specs.declared.Kind.the-variants as Kind
+use Rattle.between_steps.specs.declared.Kind.{Kind}
+use Rattle.between_steps.specs.declared.Kind.the-variants as Kind
+use Rattle.between_steps.specs.Ranges.{Lent}
+use Rattle.between_steps.specs.Replies.{isAnswer}
 use Rattle.turns.specs.declared.Phase.{Phase}
 use Rattle.turns.specs.declared.Phase.the-variants as Phase
 use Rattle.turns.specs.declared.Session.{Session}
-use Rattle.turns.specs.Ranges.{Lent}
 use Rattle.passes.proofs.Inside.{lent-length}
 use Rattle.passes.proofs.Lengths.{length-opened, length-further, lent-jacobian, lent-column, length-restep}
 use Rattle.reports.proofs.Lengths.{length-first-derivative, length-first-report, length-after-report}
 use Rattle.reports.proofs.Lengths.{length-first-modified, length-modified}
-use Rattle.machine.specs.Resume.{With, isAnswer, isAsked, takenOf, resumeOf}
+use Rattle.machine.specs.Resume.{With, isAsked, takenOf, resumeOf}
 use Rattle.machine.proofs.Replies.{derivative-length, answer-length, resume-asked, resume-unasked}
 
 module _ (x : Session) (reply : List Float) (time : Float) (w : With)

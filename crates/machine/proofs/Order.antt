@@ -8,14 +8,14 @@ use lib.Ieee.{Float}
 use lib.ListN.{length}
 use Rattle.common.specs.declared.Settings.{Settings}
 use Rattle.common.specs.declared.Common.{Common}
-use Rattle.turns.specs.declared.Kind.{Kind}
-use Rattle.turns.specs.declared.Kind.the-variants as Kind
+use Rattle.between_steps.specs.declared.Kind.{Kind}
+use Rattle.between_steps.specs.declared.Kind.the-variants as Kind
+use Rattle.between_steps.specs.Ranges.{Ranges}
+use Rattle.between_steps.specs.Ranges.{Inside}
+use Rattle.between_steps.proofs.Inside.{inside-ranges}
 use Rattle.turns.specs.declared.Phase.{Phase}
 use Rattle.turns.specs.declared.Phase.the-variants as Phase
 use Rattle.turns.specs.declared.Session.{Session}
-use Rattle.turns.specs.Ranges.{Ranges}
-use Rattle.turns.specs.Requires.{Inside}
-use Rattle.turns.proofs.Inside.{inside-ranges}
 use Rattle.turns.proofs.Order.{LowLeft}
 use Rattle.passes.proofs.Order.{low-opened, low-jacobian, low-column, low-further, low-restep}
 use Rattle.reports.proofs.Order.{low-first-derivative, low-first-report, low-first-modified, low-after-report}

@@ -12,13 +12,14 @@ use lib.ListN.{length}
 use denote.Enum.Declared.{tagOf}
 use types.Run.{OneOf, miss}
 use borrow.Author.Tests.{eqb-true}
+use Rattle.between_steps.specs.declared.Kind.{Kind}
+use Rattle.between_steps.specs.declared.Kind.the-variants.{Derivative, Jacobian, Report}
+use Rattle.between_steps.specs.Replies.{isDerivative, isJacobian, isAnswer}
+use Rattle.between_steps.proofs.Kind.{the-type as kinds}
 use Rattle.turns.specs.declared.Session.{Session}
 use Rattle.turns.specs.declared.Phase.{Phase}
-use Rattle.turns.specs.declared.Kind.{Kind}
-use Rattle.turns.specs.declared.Kind.the-variants.{Derivative, Jacobian, Report}
 use Rattle.turns.specs.Requires.{UnlessFinished}
-use Rattle.turns.proofs.Kind.{the-type as kinds}
-use Rattle.machine.specs.Resume.{With, isDerivative, isJacobian, isAnswer, isAsked, unasked, takenOf, resumeOf}
+use Rattle.machine.specs.Resume.{With, isAsked, unasked, takenOf, resumeOf}
 use Rattle.machine.specs.Resume.{firstAnsweredOf, answeredOf}
 
 module _ (len n : ℕ) where

@@ -1,36 +1,21 @@
 -- A reply: 14 where it is of another kind or length than asked, else what the phase does with it.
 use mathlib.Core.Bool.{Bool, false, cond}
 use mathlib.Core.List.{List}
-use Prim.Native.Nat.{ℕ, _*_}
-use lib.Dec.{eqb}
+use Prim.Native.Nat.{ℕ}
 use lib.ListN.{length}
 use lib.Ieee.{Float}
+use Rattle.between_steps.specs.declared.Kind.{Kind}
+use Rattle.between_steps.specs.declared.Kind.the-variants.{Derivative, Jacobian, Report}
+use Rattle.between_steps.specs.Replies.{isDerivative, isJacobian, isAnswer}
 use Rattle.turns.specs.declared.Session.{Session}
 use Rattle.turns.specs.declared.Phase.{Phase}
 use Rattle.turns.specs.declared.Phase.the-variants as Phase
-use Rattle.turns.specs.declared.Kind.{Kind}
-use Rattle.turns.specs.declared.Kind.the-variants.{Derivative, Jacobian, Report}
 use Rattle.turns.specs.declared.Question.the-variants.{Unasked}
 use Rattle.turns.specs.Turns.{Left, kept, leaving}
 use Rattle.passes.specs.Pass.{openedOf, jacobianOf, columnOf, furtherOf, restepOf}
 use Rattle.reports.specs.Reports.{firstDerivativeOf, firstReportOf, firstModifiedOf, afterReportOf, modifiedOf}
 
 -- ---- whether a reply is what was asked
-
-abbrev pub isDerivative : Kind → ℕ → ℕ → Bool
-isDerivative Derivative len n = eqb len n
-isDerivative Jacobian len n = false
-isDerivative (Report a) len n = false
-
-abbrev pub isJacobian : Kind → ℕ → ℕ → Bool
-isJacobian Derivative len n = false
-isJacobian Jacobian len n = eqb len (n * n)
-isJacobian (Report a) len n = false
-
-abbrev pub isAnswer : Kind → ℕ → ℕ → Bool
-isAnswer Derivative len n = false
-isAnswer Jacobian len n = false
-isAnswer (Report a) len n = eqb len n
 
 abbrev pub isAsked : Phase → Kind → ℕ → ℕ → Bool
 isAsked Phase.FirstDerivative kind len n = isDerivative kind len n

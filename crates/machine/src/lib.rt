@@ -3,17 +3,18 @@
 ghost use mathlib.Core.Bool.{Bool};
 ghost use mathlib.Core.Path.{_≡_};
 ghost use Prim.Native.Nat.{_≤_};
-ghost use Rattle.turns.specs.Ranges.{Accepted};
+ghost use Rattle.common.specs.Limits.{maxStates};
+ghost use Rattle.between_steps.specs.Ranges.{Accepted};
 ghost use Rattle.turns.specs.Requires.{Resumes, UnlessFinished};
 ghost use Rattle.turns.specs.Turns.{kept, leaving};
 ghost use Rattle.reports.specs.Reports.{initialOf};
 ghost use Rattle.machine.specs.Resume.{With, isAsked, resumeOf};
 
+use between_steps::Answer;
+use between_steps::Kind;
 use common::Common;
 use common::MethodFamily;
 use common::Settings;
-use turns::Answer;
-use turns::Kind;
 use turns::Phase;
 use turns::Question;
 use turns::Session;
@@ -21,7 +22,7 @@ use turns::Turn;
 
 // Whether a reply of this kind and length is what the phase waits for.
 fn is_asked(phase: Phase, kind: Kind, len: usize, n: usize) -> bool
-    requires { ⌜ n ≤ 64 ⌝ }
+    requires { ⌜ n ≤ maxStates ⌝ }
     ensures { λ r. ⌜ r ≡ isAsked phase kind len n ⌝ }
 {
     match phase {
@@ -58,7 +59,7 @@ pub fn resume(
     work: &mut [f64],
     ipiv: &mut [usize],
 ) -> Turn
-    requires { ⌜ x .settings .n ≤ 64 ⌝ }
+    requires { ⌜ x .settings .n ≤ maxStates ⌝ }
     requires { ⌜ UnlessFinished (x .phase) (Resumes x (now rtol) (now atol) (now work) (now ipiv)) ⌝ }
     ensures { λ r. ⌜ leaving (now (ipiv .exit)) (kept r (now (work .exit)))
         ≡ resumeOf x kind (now (reply .entry)) time (record {

@@ -21,9 +21,9 @@ use Rattle.verdict.proofs.Laws.{same-judge, judged}
 use Rattle.corrector.specs.Iterate.{openOf}
 use Rattle.corrector.proofs.Laws.{same-open, open-flags}
 use Rattle.order.proofs.Ranges.{Ready}
-use Rattle.turns.specs.Ranges.{Lent}
-use Rattle.turns.specs.Requires.{Inside}
-use Rattle.turns.proofs.Inside.{in-range}
+use Rattle.between_steps.specs.Ranges.{Lent}
+use Rattle.between_steps.specs.Ranges.{Inside}
+use Rattle.between_steps.proofs.Inside.{in-range}
 use Rattle.passes.proofs.Keeps.{same-orders, orders-column, orders-factored}
 
 module _ {s : Settings} {c : Common} where

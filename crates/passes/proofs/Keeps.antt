@@ -9,7 +9,7 @@ use Rattle.common.specs.declared.Common.{Common}
 use Rattle.common.specs.Record.{with-column}
 use Rattle.jacobian.specs.Jacobian.{finishedOf}
 use Rattle.jacobian.proofs.Laws.{SameStep, counted, same-finished, finished-flags}
-use Rattle.turns.specs.Ranges.{Orders}
+use Rattle.between_steps.specs.Ranges.{Orders}
 
 -- a record with the same orders, columns and counters of a step
 pub same-orders : {s : Settings} {c : Common} (d : Common) → SameStep c d → d .m < s .maxcor → Orders s c → Orders s d

@@ -9,13 +9,14 @@ use lib.Dec.{ltb}
 use lib.Ieee as Ieee
 use lib.Ieee.{Float}
 use lib.ListN.{length}
-use Rattle.loops.specs.Part.{putPart, length-putPart}
+use Rattle.loops.specs.Part.{length-putPart}
 use Rattle.numbers.specs.Float.{zeroF, oneF}
 use Rattle.vectors.specs.declared.Weights.{Weights}
 use Rattle.vectors.specs.declared.Weights.the-variants.{Inverted, Refused}
 use Rattle.common.specs.declared.Settings.{Settings}
 use Rattle.common.specs.declared.Common.{Common}
 use Rattle.common.specs.Record.{with-column}
+use Rattle.history.specs.Parts.{storedOf}
 use Rattle.history.proofs.Laws.{length-copy, length-fill}
 use Rattle.jacobian.specs.Jacobian.{beginOf, finishedOf as factorsOf}
 use Rattle.jacobian.proofs.Laws.{length-perturb, length-restore, length-supplied}
@@ -30,12 +31,13 @@ use Rattle.attempt.proofs.Laws.{unconverged, failed, restepped}
 use Rattle.order.specs.declared.Branch.{Branch}
 use Rattle.order.specs.declared.Branch.the-variants as Branch
 use Rattle.acceptance.proofs.Laws.{length-accept, length-closed}
-use Rattle.turns.specs.Ranges.{Lent}
+use Rattle.between_steps.specs.Ranges.{Lent}
+use Rattle.between_steps.specs.Pass.{isSupplied}
 use Rattle.turns.specs.Turns.{Kept}
 use Rattle.turns.proofs.Lengths.{As, length-open-pass, length-derivative}
 use Rattle.passes.specs.Pass.{attemptedAt, reportedOf, closedAt, closeOf, acceptedAt, acceptedOf, convergedAt}
 use Rattle.passes.specs.Pass.{convergedOf, unconvergedOf, concludedAt, iterateOf, iterationsOf, factoredAt}
-use Rattle.passes.specs.Pass.{factoredOf, askColumnOf, isSupplied, beginJacobianAt, beginJacobianOf, openedAt}
+use Rattle.passes.specs.Pass.{factoredOf, askColumnOf, beginJacobianAt, beginJacobianOf, openedAt}
 use Rattle.passes.specs.Pass.{openedOf, jacobianOf, columnAt, columnOf, furtherOf, restepOf}
 use Rattle.passes.proofs.Inside.{lent-length, lent-factored}
 
@@ -174,7 +176,7 @@ module _ (s : Settings) (rtol atol : List Float) where
   unfolding columnOf
   lent-column c f ipiv work l p =
       let n = s .n in
-      let w = putPart (15 * n) (length f) work f in
+      let w = storedOf (15 * n) f work in
       let e = length-putPart (15 * n) (length f) work (omega (arith, p .sized)) f refl in
       lent-column-at (ltb (c .column + 1) n) c ipiv _ (lent-length _ (length-restore s c (c .column) w ∙ e) p)
 

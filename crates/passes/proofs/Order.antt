@@ -25,12 +25,13 @@ use Rattle.attempt.proofs.Laws.{unconverged, failed, restepped}
 use Rattle.order.specs.declared.Branch.{Branch}
 use Rattle.order.specs.declared.Branch.the-variants as Branch
 use Rattle.acceptance.proofs.Laws.{accept-keeps}
-use Rattle.turns.specs.Requires.{Inside}
+use Rattle.between_steps.specs.Ranges.{Inside}
+use Rattle.between_steps.specs.Pass.{isSupplied}
 use Rattle.turns.specs.Turns.{Kept, askedInStepOf, finishedOf}
 use Rattle.turns.proofs.Order.{Low, LowLeft, low-open-pass}
 use Rattle.passes.specs.Pass.{attemptedAt, reportedOf, closedAt, closeOf, acceptedAt, acceptedOf, convergedAt}
 use Rattle.passes.specs.Pass.{convergedOf, unconvergedOf, concludedAt, iterateOf, iterationsOf, factoredAt}
-use Rattle.passes.specs.Pass.{factoredOf, askColumnOf, isSupplied, beginJacobianAt, beginJacobianOf, openedAt}
+use Rattle.passes.specs.Pass.{factoredOf, askColumnOf, beginJacobianAt, beginJacobianOf, openedAt}
 use Rattle.passes.specs.Pass.{openedOf, jacobianOf, columnAt, columnOf, furtherOf, restepOf}
 use Rattle.passes.proofs.Inside.{ready, inside-column, inside-open, inside-judged, inside-factored}
 

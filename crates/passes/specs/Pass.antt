@@ -1,29 +1,25 @@
 -- The replies inside a step, and what they lead to: the Jacobian, the iterations, the verdict, the error test,
 -- acceptance, the report.
-use mathlib.Core.Bool.{Bool, true, false, _&&_}
+use mathlib.Core.Bool.{Bool, true, false}
 use mathlib.Core.List.{List}
-use Prim.Native.Nat.{ℕ, _+_, _*_}
+use Prim.Native.Nat.{ℕ, _+_}
 use lib.Dec.{ltb}
-use lib.ListN.{length}
 use lib.Ieee as Ieee
 use lib.Ieee.{Float}
-use Rattle.loops.specs.Part.{putPart}
 use Rattle.numbers.specs.Float.{zeroF, oneF}
-use Rattle.vectors.specs.Norm.{vmnormOf}
 use Rattle.vectors.specs.declared.Weights.{Weights}
 use Rattle.vectors.specs.declared.Weights.the-variants.{Inverted, Refused}
 use Rattle.common.specs.declared.Settings.{Settings}
 use Rattle.common.specs.declared.Common.{Common}
-use Rattle.common.specs.Layout.{column, ewt}
-use Rattle.common.specs.Record.{isBdf, with-total, with-column}
+use Rattle.common.specs.Layout.{ftemAt, acorAt, yAt, yfdAt}
+use Rattle.common.specs.Record.{with-total, with-column}
 use Rattle.history.specs.Columns.{copyOf, fillOf}
+use Rattle.history.specs.Parts.{storedOf}
 use Rattle.jacobian.specs.Jacobian.{beginOf, perturbOf, restoreOf, finishedOf as factorsOf}
 use Rattle.jacobian.specs.Jacobian as Jacobian
 use Rattle.verdict.specs.declared.Pass.{Pass}
 use Rattle.verdict.specs.declared.Pass.the-variants as Pass
-use Rattle.verdict.specs.declared.Verdict.{Verdict}
-use Rattle.verdict.specs.Verdict.{judgeOf}
-use Rattle.corrector.specs.Iterate.{openOf, Corrected, correctOf}
+use Rattle.corrector.specs.Iterate.{openOf, correctOf}
 use Rattle.attempt.specs.declared.Next.{Next}
 use Rattle.attempt.specs.declared.Next.the-variants as Next
 use Rattle.attempt.specs.Attempt.{Attempt, noConvergenceOf, errorOf, failedOf}
@@ -32,13 +28,15 @@ use Rattle.order.specs.declared.Branch.{Branch}
 use Rattle.order.specs.declared.Branch.the-variants.{Unchanged, SmallGain, Lowered, Kept as KeptOrder, Raised}
 use Rattle.order.specs.declared.Branch.the-variants.{HeldBySm1, FamilyChanged, CoefficientGap}
 use Rattle.acceptance.specs.Accept.{acceptOf, closedOf}
+use Rattle.between_steps.specs.Pass.{verdictOf, isSupplied}
+use Rattle.between_steps.specs.declared.Status.the-variants.{StepTooSmall, PoorConvergence}
+use Rattle.between_steps.specs.declared.Status.the-variants as Status
+use Rattle.between_steps.specs.Start.{withDerivative}
 use Rattle.turns.specs.declared.Phase.the-variants.{JacobianAsked, DifferenceColumn, FurtherDerivative}
 use Rattle.turns.specs.declared.Phase.the-variants.{Restep, Report}
-use Rattle.turns.specs.declared.Status.the-variants.{StepTooSmall, PoorConvergence}
-use Rattle.turns.specs.declared.Status.the-variants as Status
 use Rattle.turns.specs.declared.Question.the-variants as Question
 use Rattle.turns.specs.declared.Turn.{Turn}
-use Rattle.turns.specs.Turns.{Kept, Left, kept, leaving, askedInStepOf, finishedOf, weightRefused, withDerivative}
+use Rattle.turns.specs.Turns.{Kept, Left, kept, leaving, askedInStepOf, finishedOf, weightRefused}
 use Rattle.turns.specs.Begin.{openPassOf}
 
 -- ---- after a pass that was not accepted
@@ -62,7 +60,7 @@ reportedOf n c work =
       phase = Report;
       common = with-total (c .nst + c .rejected) c;
     })
-    (copyOf n (17 * n) 0 work)
+    (copyOf n (yAt n) 0 work)
 
 unfoldable pub closedAt : ℕ → Common → Weights → List Float → Kept
 closedAt n c (Refused i) work = kept (weightRefused c i) work
@@ -110,12 +108,6 @@ concludedAt s Pass.Retry c del rtol atol work = openPassOf (s .n) c work
 concludedAt s Pass.NoConvergence c del rtol atol work = unconvergedOf s c work
 concludedAt s Pass.Further c del rtol atol work = kept (askedInStepOf c FurtherDerivative) work
 
--- the verdict weighs the correction against the norm of the prediction
-abbrev pub verdictOf : Settings → Common → Corrected → Verdict
-verdictOf s c x =
-    judgeOf s c (record { solved = x .solved; del = x .del })
-    (vmnormOf (column (s .n) 0 (x .work)) (ewt (s .n) (x .work)) .value)
-
 unfoldable pub iterateOf : Settings → Common → List Float → List Float → List ℕ → List Float → Kept
 iterateOf s c rtol atol ipiv work =
     let x = correctOf s c ipiv work in
@@ -123,7 +115,7 @@ iterateOf s c rtol atol ipiv work =
     concludedAt s (v .pass) (v .common) (x .del) rtol atol (x .work)
 
 unfoldable pub iterationsOf : Settings → Common → List Float → List Float → List ℕ → List Float → Kept
-iterationsOf s c rtol atol ipiv work = iterateOf s (openOf c) rtol atol ipiv (fillOf (s .n) (16 * s .n) zeroF work)
+iterationsOf s c rtol atol ipiv work = iterateOf s (openOf c) rtol atol ipiv (fillOf (s .n) (acorAt (s .n)) zeroF work)
 
 -- ---- the Jacobian
 
@@ -141,16 +133,12 @@ factoredOf s c rtol atol ipiv work =
 unfoldable pub askColumnOf : Settings → Common → ℕ → List Float → Kept
 askColumnOf s c j work = kept (askedInStepOf (with-column j c) DifferenceColumn) (perturbOf s c j work)
 
--- the host's Jacobian, in the second family alone
-abbrev pub isSupplied : Settings → Common → Bool
-isSupplied s c = isBdf (c .meth) && s .supplied
-
 abbrev pub jacobianAsked : Common → Turn
 jacobianAsked c = record { question = Question.Jacobian (record { time = c .tn }); phase = JacobianAsked; common = c }
 
 unfoldable pub beginJacobianAt : Settings → Bool → Common → List Float → Kept
 beginJacobianAt s true c work = kept (jacobianAsked c) work
-beginJacobianAt s false c work = askColumnOf s c 0 (copyOf (s .n) (18 * s .n) (17 * s .n) work)
+beginJacobianAt s false c work = askColumnOf s c 0 (copyOf (s .n) (yfdAt (s .n)) (yAt (s .n)) work)
 
 unfoldable pub beginJacobianOf : Settings → Common → List Float → Kept
 beginJacobianOf s c work = beginJacobianAt s (isSupplied s c) (beginOf c) work
@@ -179,7 +167,7 @@ columnAt s false c rtol atol ipiv work = factoredOf s (with-column 0 c) rtol ato
 unfoldable pub columnOf : Settings → Common → List Float → List Float → List Float → List ℕ → List Float → Left
 columnOf s c rtol atol f ipiv work =
     columnAt s (ltb (c .column + 1) (s .n)) c rtol atol ipiv
-    (restoreOf s c (c .column) (putPart (15 * s .n) (length f) work f))
+    (restoreOf s c (c .column) (storedOf (ftemAt (s .n)) f work))
 
 -- a further derivative
 unfoldable pub furtherOf : Settings → Common → List Float → List Float → List Float → List ℕ → List Float → Kept

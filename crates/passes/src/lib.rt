@@ -3,22 +3,23 @@ ghost use mathlib.Core.Path.{_≡_};
 ghost use Prim.Native.Nat.{_-_, _*_, _^_, _≤_, _<_};
 ghost use lib.ListN.{length};
 ghost use Rattle.vectors.specs.Tolerance.{List1OrN};
+ghost use Rattle.common.specs.Layout.{matrixAt};
+ghost use Rattle.common.specs.Limits.{maxStates};
 ghost use Rattle.history.specs.Steps.{InRange};
-ghost use Rattle.turns.specs.Ranges.{Lent};
-ghost use Rattle.turns.specs.Requires.{Inside};
+ghost use Rattle.between_steps.specs.Ranges.{Inside, Lent};
 ghost use Rattle.turns.specs.Turns.{kept, leaving};
 ghost use Rattle.passes.specs.Pass.{attemptedAt, reportedOf, closeOf, acceptedOf, convergedOf, unconvergedOf};
 ghost use Rattle.passes.specs.Pass.{iterateOf, iterationsOf, factoredOf, askColumnOf, beginJacobianOf};
 ghost use Rattle.passes.specs.Pass.{openedOf, jacobianOf, columnOf, furtherOf, restepOf};
 
 use attempt::Next;
+use between_steps::Status;
 use common::Common;
 use common::Settings;
 use order::Branch;
 use turns::At;
 use turns::Phase;
 use turns::Question;
-use turns::Status;
 use turns::Step;
 use turns::Turn;
 use verdict::Pass;
@@ -27,7 +28,7 @@ use verdict::Pass;
 
 // After a pass that was not accepted.
 fn attempted(a: attempt::Attempted, n: usize, work: &mut [f64]) -> Turn
-    requires { ⌜ (a .common .nfe < 2 ^ 63) × (a .common .count < 2 ^ 63) × (19 * n ≤ length (now work)) ⌝ }
+    requires { ⌜ (a .common .nfe < 2 ^ 63) × (a .common .count < 2 ^ 63) × (matrixAt n ≤ length (now work)) ⌝ }
     ensures { λ r. ⌜ kept r (now (work .exit)) ≡ attemptedAt n (a .next) (a .common) (now (work .entry)) ⌝ }
 {
     let next = a.next;
@@ -42,10 +43,10 @@ fn attempted(a: attempt::Attempted, n: usize, work: &mut [f64]) -> Turn
 
 // The weights of the new state stand: the report.
 fn report(c: Common, n: usize, work: &mut [f64]) -> Turn
-    requires { ⌜ (c .nst < 2 ^ 63) × (c .rejected < 2 ^ 63) × (19 * n ≤ length (now work)) ⌝ }
+    requires { ⌜ (c .nst < 2 ^ 63) × (c .rejected < 2 ^ 63) × (matrixAt n ≤ length (now work)) ⌝ }
     ensures { λ r. ⌜ kept r (now (work .exit)) ≡ reportedOf n c (now (work .entry)) ⌝ }
 {
-    history::copy_part(work, n, 17 * n, 0);
+    history::copy_part(work, n, common::Y * n, 0);
     let mut d = c;
     d.total = c.nst + c.rejected;
     let step = Step { previous: c.told, time: c.tn, count: c.count, order: c.nq };
@@ -59,7 +60,7 @@ fn close(s: Settings, c: Common, order: usize, rtol: &[f64], atol: &[f64], work:
     requires { ⌜ (c .nst < 2 ^ 63) × (c .rejected < 2 ^ 63) ⌝ }
     requires { ⌜ List1OrN (now rtol) (s .n - 1) ⌝ }
     requires { ⌜ List1OrN (now atol) (s .n - 1) ⌝ }
-    requires { ⌜ 19 * s .n ≤ length (now work) ⌝ }
+    requires { ⌜ matrixAt (s .n) ≤ length (now work) ⌝ }
     ensures { λ r. ⌜ kept r (now (work .exit))
         ≡ closeOf s c order (now (rtol .entry)) (now (atol .entry)) (now (work .entry)) ⌝ }
 {
@@ -76,7 +77,7 @@ fn accept(s: Settings, c: Common, dsm: f64, rtol: &[f64], atol: &[f64], work: &m
     requires { ⌜ Inside s c ⌝ }
     requires { ⌜ List1OrN (now rtol) (s .n - 1) ⌝ }
     requires { ⌜ List1OrN (now atol) (s .n - 1) ⌝ }
-    requires { ⌜ 19 * s .n ≤ length (now work) ⌝ }
+    requires { ⌜ matrixAt (s .n) ≤ length (now work) ⌝ }
     ensures { λ r. ⌜ kept r (now (work .exit))
         ≡ acceptedOf s c dsm (now (rtol .entry)) (now (atol .entry)) (now (work .entry)) ⌝ }
 {
@@ -101,7 +102,7 @@ fn converged(s: Settings, c: Common, del: f64, rtol: &[f64], atol: &[f64], work:
     requires { ⌜ Inside s c ⌝ }
     requires { ⌜ List1OrN (now rtol) (s .n - 1) ⌝ }
     requires { ⌜ List1OrN (now atol) (s .n - 1) ⌝ }
-    requires { ⌜ 19 * s .n ≤ length (now work) ⌝ }
+    requires { ⌜ matrixAt (s .n) ≤ length (now work) ⌝ }
     ensures { λ r. ⌜ kept r (now (work .exit))
         ≡ convergedOf s c del (now (rtol .entry)) (now (atol .entry)) (now (work .entry)) ⌝ }
 {
@@ -114,7 +115,7 @@ fn converged(s: Settings, c: Common, del: f64, rtol: &[f64], atol: &[f64], work:
 
 fn unconverged(s: Settings, c: Common, work: &mut [f64]) -> Turn
     requires { ⌜ Inside s c ⌝ }
-    requires { ⌜ 19 * s .n ≤ length (now work) ⌝ }
+    requires { ⌜ matrixAt (s .n) ≤ length (now work) ⌝ }
     ensures { λ r. ⌜ kept r (now (work .exit)) ≡ unconvergedOf s c (now (work .entry)) ⌝ }
 {
     attempted(attempt::no_convergence(s, c, work), s.n, work)
@@ -131,9 +132,7 @@ fn iterate(s: Settings, c: Common, rtol: &[f64], atol: &[f64], work: &mut [f64],
 {
     let n = s.n;
     let x = corrector::correct(s, c, work, ipiv);
-    let w = 13 * n;
-    let we = 14 * n;
-    let pnorm = vectors::vmnorm(&work[0..n], &work[w..we]).value;
+    let pnorm = history::norm_at(work, n, 0).value;
     let verdict = verdict::judge(s, c, x, pnorm);
     let pass = verdict.pass;
     let d = verdict.common;
@@ -154,8 +153,8 @@ fn iterations(s: Settings, c: Common, rtol: &[f64], atol: &[f64], work: &mut [f6
         ≡ iterationsOf s c (now (rtol .entry)) (now (atol .entry)) (now (ipiv .entry)) (now (work .entry)) ⌝ }
 {
     let n = s.n;
-    let a = 16 * n;
-    let e = 17 * n;
+    let a = common::ACOR * n;
+    let e = common::Y * n;
     let d = corrector::open_iterations(c, &mut work[a..e]);
     iterate(s, d, rtol, atol, work, ipiv)
 }
@@ -183,9 +182,9 @@ fn factored(s: Settings, c: Common, rtol: &[f64], atol: &[f64], work: &mut [f64]
 
 // A difference column is asked for.
 fn ask_column(s: Settings, c: Common, j: usize, work: &mut [f64]) -> Turn
-    requires { ⌜ (s .n ≤ 64) × (j < s .n) ⌝ }
+    requires { ⌜ (s .n ≤ maxStates) × (j < s .n) ⌝ }
     requires { ⌜ (c .nfe < 2 ^ 63) × (c .count < 2 ^ 63) ⌝ }
-    requires { ⌜ 19 * s .n ≤ length (now work) ⌝ }
+    requires { ⌜ matrixAt (s .n) ≤ length (now work) ⌝ }
     ensures { λ r. ⌜ kept r (now (work .exit)) ≡ askColumnOf s c j (now (work .entry)) ⌝ }
 {
     jacobian::perturb(s, c, work, j);
@@ -198,7 +197,7 @@ fn ask_column(s: Settings, c: Common, j: usize, work: &mut [f64]) -> Turn
 fn begin_jacobian(s: Settings, c: Common, work: &mut [f64]) -> Turn
     requires { ⌜ Inside s c ⌝ }
     requires { ⌜ c .nje < 2 ^ 63 ⌝ }
-    requires { ⌜ 19 * s .n ≤ length (now work) ⌝ }
+    requires { ⌜ matrixAt (s .n) ≤ length (now work) ⌝ }
     ensures { λ r. ⌜ kept r (now (work .exit)) ≡ beginJacobianOf s c (now (work .entry)) ⌝ }
 {
     let d = jacobian::begin_jacobian(c);
@@ -210,7 +209,7 @@ fn begin_jacobian(s: Settings, c: Common, work: &mut [f64]) -> Turn
         }
     }
     let n = s.n;
-    history::copy_part(work, n, 18 * n, 17 * n);
+    history::copy_part(work, n, common::Y_FD * n, common::Y * n);
     ask_column(s, d, 0, work)
 }
 
@@ -226,10 +225,7 @@ pub fn opened(s: Settings, c: Common, rtol: &[f64], atol: &[f64], f: &[f64], wor
         ≡ openedOf s c (now (rtol .entry)) (now (atol .entry)) (now (f .entry))
             (now (ipiv .entry)) (now (work .entry)) ⌝ }
 {
-    let n = s.n;
-    let a = 14 * n;
-    let e = 15 * n;
-    history::copy_from(&mut work[a..e], f);
+    history::store(work, common::SAVF * s.n, f);
     let due = c.due;
     if due {
         return begin_jacobian(s, c, work);
@@ -249,7 +245,7 @@ pub fn jacobian(s: Settings, c: Common, rtol: &[f64], atol: &[f64], f: &[f64], w
         ≡ jacobianOf s c (now (rtol .entry)) (now (atol .entry)) (now (f .entry))
             (now (ipiv .entry)) (now (work .entry)) ⌝ }
 {
-    let a = 19 * s.n;
+    let a = common::MATRIX * s.n;
     let e = a + f.len();
     jacobian::store_jacobian(c, &mut work[a..e], f);
     factored(s, c, rtol, atol, work, ipiv)
@@ -267,10 +263,7 @@ pub fn column(s: Settings, c: Common, rtol: &[f64], atol: &[f64], f: &[f64], wor
         ≡ columnOf s c (now (rtol .entry)) (now (atol .entry)) (now (f .entry))
             (now (ipiv .entry)) (now (work .entry)) ⌝ }
 {
-    let n = s.n;
-    let a = 15 * n;
-    let e = 16 * n;
-    history::copy_from(&mut work[a..e], f);
+    history::store(work, common::FTEM * s.n, f);
     let j = c.column;
     jacobian::store_column(s, c, work, j);
     if j + 1 < s.n {
@@ -292,10 +285,7 @@ pub fn further(s: Settings, c: Common, rtol: &[f64], atol: &[f64], f: &[f64], wo
         ≡ furtherOf s c (now (rtol .entry)) (now (atol .entry)) (now (f .entry))
             (now (ipiv .entry)) (now (work .entry)) ⌝ }
 {
-    let n = s.n;
-    let a = 14 * n;
-    let e = 15 * n;
-    history::copy_from(&mut work[a..e], f);
+    history::store(work, common::SAVF * s.n, f);
     iterate(s, c, rtol, atol, work, ipiv)
 }
 
@@ -303,13 +293,10 @@ pub fn further(s: Settings, c: Common, rtol: &[f64], atol: &[f64], f: &[f64], wo
 pub fn restep(s: Settings, c: Common, f: &[f64], work: &mut [f64]) -> Turn
     requires { ⌜ Inside s c ⌝ }
     requires { ⌜ length (now f) ≡ s .n ⌝ }
-    requires { ⌜ 19 * s .n ≤ length (now work) ⌝ }
+    requires { ⌜ matrixAt (s .n) ≤ length (now work) ⌝ }
     ensures { λ r. ⌜ kept r (now (work .exit)) ≡ restepOf s c (now (f .entry)) (now (work .entry)) ⌝ }
 {
-    let n = s.n;
-    let a = 14 * n;
-    let e = 15 * n;
-    history::copy_from(&mut work[a..e], f);
+    history::store(work, common::SAVF * s.n, f);
     let d = attempt::restep(s, c, work);
     turns::open_pass(d, s.n, work)
 }

@@ -5,9 +5,9 @@ use native.Mathlib.Nat.{mul-le-mul-right}
 use native.Mathlib.Omega.{arith}
 use Rattle.common.specs.declared.Settings.{Settings}
 use Rattle.common.specs.declared.Common.{Common}
-use Rattle.turns.specs.Ranges.{Orders}
-use Rattle.turns.specs.Requires.{Inside}
-use Rattle.reports.specs.Reports.{restartOf}
+use Rattle.between_steps.specs.Ranges.{Orders}
+use Rattle.between_steps.specs.Ranges.{Inside}
+use Rattle.between_steps.specs.Start.{restartOf}
 
 module _ {s : Settings} {c : Common} (o : Orders s c) where
   -- order 1: nqnyh stays

@@ -19,13 +19,12 @@ use Rattle.common.specs.Layout.{ewt}
 use Rattle.common.specs.Record.{with-tn}
 use Rattle.history.specs.Columns.{copyOf, slopeOf}
 use Rattle.history.proofs.Laws.{length-copy, length-slope}
-use Rattle.turns.specs.declared.Answer.{Answer}
-use Rattle.turns.specs.declared.Answer.the-variants.{Continue, Interrupt, Modified}
-use Rattle.turns.specs.Turns.{withDerivative}
+use Rattle.between_steps.specs.declared.Answer.{Answer}
+use Rattle.between_steps.specs.declared.Answer.the-variants.{Continue, Interrupt, Modified}
+use Rattle.between_steps.specs.Start.{withDerivative, takenOf, inverted, firstStepOf, restartOf}
 use Rattle.turns.proofs.Lengths.{As, length-go-on, length-derivative}
-use Rattle.reports.specs.Reports.{sizedAt, sizedOf, firstStepOf, weightedAt, inverted, firstDerivativeOf}
-use Rattle.reports.specs.Reports.{firstReportOf, firstModifiedOf, afterReportOf, modifiedOf, restartOf}
-use Rattle.reports.specs.Reports as Reports
+use Rattle.reports.specs.Reports.{sizedAt, sizedOf, weightedAt, firstDerivativeOf}
+use Rattle.reports.specs.Reports.{firstReportOf, firstModifiedOf, afterReportOf, modifiedOf}
 
 module _ (s : Settings) (rtol atol : List Float) where
   length-sized-at : (no : Bool) (c : Common) (h : Float) (work : List Float) → As work (sizedAt s no c h work)
@@ -59,7 +58,7 @@ module _ (s : Settings) (rtol atol : List Float) where
       length-weighted-at c (outcomeOf (invertOf (ewt n w))) _ ∙ length-inverted w (omega (arith, e)) ∙ e
 
 length-taken : (n : ℕ) (y work : List Float) → length y ≡ n → 19 * n ≤ length work
-    → length (Reports.takenOf n y work) ≡ length work
+    → length (takenOf n y work) ≡ length work
 length-taken n y work l room =
     let e = length-putPart (17 * n) (length y) work (omega arith) y refl in
     length-putPart 0 (length y) _ (omega (arith, e)) y refl ∙ e

@@ -10,14 +10,16 @@ use Rattle.vectors.specs.declared.Weights.the-variants.{Inverted, Refused}
 use Rattle.common.specs.declared.Settings.{Settings}
 use Rattle.common.specs.declared.Common.{Common}
 use Rattle.common.specs.Record.{with-tn}
-use Rattle.turns.specs.declared.Answer.{Answer}
-use Rattle.turns.specs.declared.Answer.the-variants.{Continue, Interrupt, Modified}
-use Rattle.turns.specs.Ranges.{Accepted, Orders}
+use Rattle.between_steps.specs.declared.Answer.{Answer}
+use Rattle.between_steps.specs.declared.Answer.the-variants.{Continue, Interrupt, Modified}
+use Rattle.between_steps.specs.Ranges.{Accepted, Orders}
+use Rattle.between_steps.specs.Start.{firstStepOf}
+use Rattle.between_steps.specs.Start.{restartOf}
+use Rattle.between_steps.proofs.Keeps.{orders-tn}
 use Rattle.turns.specs.Turns.{askedOf, finishedOf}
-use Rattle.turns.proofs.Keeps.{orders-tn}
 use Rattle.turns.proofs.Order.{Low, low-go-on}
-use Rattle.reports.specs.Reports.{sizedAt, sizedOf, firstStepOf, weightedAt, firstDerivativeOf, firstReportOf}
-use Rattle.reports.specs.Reports.{firstModifiedOf, afterReportOf, modifiedOf, restartOf}
+use Rattle.reports.specs.Reports.{sizedAt, sizedOf, weightedAt, firstDerivativeOf, firstReportOf}
+use Rattle.reports.specs.Reports.{firstModifiedOf, afterReportOf, modifiedOf}
 use Rattle.reports.proofs.Keeps.{orders-restart}
 
 module _ (s : Settings) (rtol atol : List Float) where

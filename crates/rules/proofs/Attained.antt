@@ -19,6 +19,7 @@ use Rattle.vectors.specs.Weights.{ewsetOf, invertOf}
 use Rattle.common.specs.declared.MethodFamily.the-variants.{Adams}
 use Rattle.common.specs.declared.Settings.{Settings}
 use Rattle.common.specs.Rules.{firstCallInitOf, resetOf}
+use Rattle.common.specs.State.{Given}
 use Rattle.history.specs.Columns.{predictColumnsOf, retractColumnsOf, scaleColumnOf, rescaleColumnsOf}
 use Rattle.history.specs.Columns.{copyOf, slopeOf, fillOf}
 use Rattle.history.specs.Steps.{limitedOf, adjustOf, staleOf, predictedOf}
@@ -26,11 +27,12 @@ use Rattle.verdict.specs.Verdict.{judgeOf, ratedOf, dconOf, estimatedOf, conver
 use Rattle.corrector.specs.Iterate.{openOf, adamsResidualOf, adamsUpdateOf, adamsOf, correctOf}
 use Rattle.attempt.specs.Attempt.{retractedOf, repredictOf, errorOf, shrunkOf, tenthOf, missedAt, missedOf, overshotOf}
 use Rattle.attempt.specs.Attempt.{failedOf, restepOf}
-use Rattle.turns.specs.declared.Answer.the-variants.{Continue}
-use Rattle.turns.specs.declared.Kind.the-variants.{Derivative, Report}
-use Rattle.turns.specs.Begin.{setupOf, preparedAt, preparedOf, predictedAt}
-use Rattle.reports.specs.Reports.{initialOf, firstSizeOf}
-use Rattle.rules.specs.Play.{Given, tooSmall}
+use Rattle.between_steps.specs.declared.Answer.the-variants.{Continue}
+use Rattle.between_steps.specs.declared.Kind.the-variants.{Derivative, Report}
+use Rattle.between_steps.specs.Begin.{setupOf, preparedAt, preparedOf, predictedAt}
+use Rattle.between_steps.specs.Start.{firstSizeOf}
+use Rattle.reports.specs.Reports.{initialOf}
+use Rattle.rules.specs.Play.{tooSmall}
 use Rattle.rules.specs.Pass.{iterated, turns, iterations, passAt, pass}
 use Rattle.rules.specs.Rules.{follow, attempted, tested, decide, attempts, stepped, step, solveAt, Start}
 use Rattle.rules.specs.Rules.{beginning, firstAnswered, sized, weighted, started, start, limitsOf}

@@ -19,7 +19,8 @@ use Rattle.common.specs.declared.Settings.{Settings}
 use Rattle.common.specs.declared.Common.{Common}
 use Rattle.common.specs.Limits.{mxncfOf}
 use Rattle.common.specs.Record.{isBdf}
-use Rattle.rules.specs.Play.{Given, State, Play}
+use Rattle.common.specs.State.{Given, State}
+use Rattle.rules.specs.Play.{Play}
 use Rattle.rules.specs.Rules.{Ended, endedAccepted, endedSmall, endedPoor, limitsOf}
 use Rattle.rules.specs.Steps.{Tally, Step}
 use Rattle.rules.specs.Caps.{passesOf, retriesOf, jacobiansOf, derivativesOf, Capped}

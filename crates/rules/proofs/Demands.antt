@@ -11,8 +11,9 @@ use native.Mathlib.Omega.{arith}
 use Rattle.common.specs.declared.Settings.{Settings}
 use Rattle.common.specs.declared.Common.{Common}
 use Rattle.common.specs.Limits.{mxncfOf}
-use Rattle.turns.specs.Ranges.{Accepted, Counts}
-use Rattle.rules.specs.Play.{Given, Play, ret, ask, tell, say}
+use Rattle.common.specs.State.{Given}
+use Rattle.between_steps.specs.Ranges.{Accepted, Counts}
+use Rattle.rules.specs.Play.{Play, ret, ask, tell, say}
 use Rattle.rules.specs.Rules.{start}
 use Rattle.rules.specs.Steps.{Step}
 use Rattle.rules.specs.Demands.{InEveryRun, AfterAll, NamedAt, Demand3At, repliesOf, Demand1}

@@ -11,14 +11,15 @@ use lib.Ieee.{Float}
 use Rattle.vectors.specs.declared.Weights.{Weights}
 use Rattle.vectors.specs.declared.Weights.the-variants.{Inverted, Refused}
 use Rattle.common.specs.declared.Settings.{Settings}
+use Rattle.common.specs.State.{Given, State}
 use Rattle.verdict.specs.declared.Pass.{Pass}
 use Rattle.verdict.specs.declared.Pass.the-variants.{Converged, Retry, NoConvergence, Further}
 use Rattle.attempt.specs.declared.Next.{Next}
 use Rattle.attempt.specs.declared.Next.the-variants as Next
-use Rattle.turns.specs.declared.Answer.{Answer}
-use Rattle.turns.specs.declared.Answer.the-variants.{Continue, Interrupt, Modified}
-use Rattle.turns.specs.Ranges.{Accepted}
-use Rattle.rules.specs.Play.{Given, State, Play}
+use Rattle.between_steps.specs.declared.Answer.{Answer}
+use Rattle.between_steps.specs.declared.Answer.the-variants.{Continue, Interrupt, Modified}
+use Rattle.between_steps.specs.Ranges.{Accepted}
+use Rattle.rules.specs.Play.{Play}
 use Rattle.rules.specs.Pass.{Outcome, converged, toRetry, unconverged, furtherAllowed, turns, iterations}
 use Rattle.rules.specs.Pass.{factoredAt, afterMatrix, columns, matrix, passAt, pass}
 use Rattle.rules.specs.Rules.{Ended, endedAccepted, endedSmall, endedPoor, follow, attempted, tested, decide}

@@ -7,7 +7,7 @@ use Prim.Native.Nat.{ℕ, zero, suc, _≤_}
 use native.Mathlib.Omega.{arith}
 use lib.ListN.{length}
 use lib.Ieee.{Float}
-use Rattle.turns.specs.declared.Answer.{Answer}
+use Rattle.between_steps.specs.declared.Answer.{Answer}
 use Rattle.rules.specs.Play.{Play, ret, ask, tell, say}
 use Rattle.rules.specs.Steps.{Step, noted, marked}
 use Rattle.rules.specs.Replies.{Reply, answers, answersReport, Seen, waits, answerOf, fed, AllAsked}

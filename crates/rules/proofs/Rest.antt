@@ -18,12 +18,13 @@ use Rattle.common.specs.declared.MethodFamily.the-variants.{Bdf}
 use Rattle.common.specs.declared.Settings.{Settings}
 use Rattle.common.specs.declared.Common.{Common}
 use Rattle.common.specs.Rules.{icount20}
+use Rattle.common.specs.State.{Given, State}
 use Rattle.acceptance.specs.Accept.{acceptOf}
 use Rattle.acceptance.proofs.Laws.{accept-keeps}
-use Rattle.turns.specs.declared.Answer.{Answer}
-use Rattle.turns.specs.declared.Answer.the-variants.{Continue, Interrupt, Modified}
-use Rattle.turns.specs.Ranges.{Accepted}
-use Rattle.rules.specs.Play.{Given, State, Question, Play, Ending, accepted, gap, tooSmall, poor}
+use Rattle.between_steps.specs.declared.Answer.{Answer}
+use Rattle.between_steps.specs.declared.Answer.the-variants.{Continue, Interrupt, Modified}
+use Rattle.between_steps.specs.Ranges.{Accepted}
+use Rattle.rules.specs.Play.{Question, Play, Ending, accepted, gap, tooSmall, poor}
 use Rattle.rules.specs.Pass.{put-w, asked}
 use Rattle.rules.specs.Rules.{reportedState, taken, timed, modified, restarted, answered, closed, closing}
 use Rattle.rules.specs.Rules.{settled, acceptance, settledState, stepped, limitsOf}

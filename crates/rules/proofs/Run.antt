@@ -19,13 +19,14 @@ use Rattle.common.specs.declared.Settings.{Settings}
 use Rattle.common.specs.declared.Common.{Common}
 use Rattle.common.specs.Limits.{mxncfOf}
 use Rattle.common.specs.Rules.{icount20, firstCallInitOf, resetOf}
+use Rattle.common.specs.State.{Given, State}
 use Rattle.history.specs.Steps.{adjustOf, predictedOf}
-use Rattle.turns.specs.declared.Answer.{Answer}
-use Rattle.turns.specs.declared.Answer.the-variants.{Continue, Interrupt, Modified}
-use Rattle.turns.specs.Ranges.{Accepted}
-use Rattle.turns.specs.Begin.{cutOf, setupOf, preparedAt, preparedOf, predictedAt}
+use Rattle.between_steps.specs.declared.Answer.{Answer}
+use Rattle.between_steps.specs.declared.Answer.the-variants.{Continue, Interrupt, Modified}
+use Rattle.between_steps.specs.Ranges.{Accepted}
+use Rattle.between_steps.specs.Begin.{cutOf, setupOf, preparedAt, preparedOf, predictedAt}
 use Rattle.reports.specs.Reports.{initialOf}
-use Rattle.rules.specs.Play.{Given, State, Play}
+use Rattle.rules.specs.Play.{Play}
 use Rattle.rules.specs.Pass.{put-c, put-w}
 use Rattle.rules.specs.Rules.{timed, stepped, predicted, limitsOf, passesAllowed, step, solveAt, solve, Start}
 use Rattle.rules.specs.Rules.{beginning, sizedState, firstModified, firstRestarted, firstAnswered, sized}

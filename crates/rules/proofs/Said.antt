@@ -20,6 +20,7 @@ use Rattle.common.specs.declared.Common.{Common}
 use Rattle.common.specs.Record.{isBdf, with-rmax}
 use Rattle.common.specs.Limits.{mxncfOf}
 use Rattle.common.specs.Rules.{firstCallInitOf, resetOf, tinyOf}
+use Rattle.common.specs.State.{Given, State}
 use Rattle.history.specs.Columns.{retractColumnsOf}
 use Rattle.history.specs.Steps.{limitedOf, adjustOf, predictedOf}
 use Rattle.verdict.specs.declared.Pass.the-variants as Pass
@@ -43,9 +44,9 @@ use Rattle.order.specs.declared.Factors.{Factors}
 use Rattle.order.specs.Order.{Settled, heldOf, settledOf, raiseOf, lowerOf, sameLargest, chooseOf, chooseOrderOf}
 use Rattle.acceptance.specs.Accept.{correctedOf, keepFamilyOf, testedOf as testedFamily, testFamilyOf, acceptOf}
 use Rattle.acceptance.proofs.Laws.{accept-keeps}
-use Rattle.turns.specs.declared.Status.the-variants as Status
-use Rattle.turns.specs.Begin.{isGoing, isCut, cutOf, setupOf, preparedAt, preparedOf, predictedAt}
-use Rattle.rules.specs.Play.{Given, State, finished, ret}
+use Rattle.between_steps.specs.declared.Status.the-variants as Status
+use Rattle.between_steps.specs.Begin.{isGoing, isCut, cutOf, setupOf, preparedAt, preparedOf, predictedAt}
+use Rattle.rules.specs.Play.{finished, ret}
 use Rattle.rules.specs.Rules.{step, solveAt, solve, predicted}
 use Rattle.rules.specs.Said.{Tiny, floorOf, Old, NoConvergenceSaid, ErrorSaid, SingleSaid}
 use Rattle.rules.specs.Said.{GapSaid, BetweenSaid, OpenedSaid, StepSaid}

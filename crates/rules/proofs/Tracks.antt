@@ -15,9 +15,10 @@ use Rattle.common.specs.declared.MethodFamily.the-variants.{Adams, Bdf}
 use Rattle.common.specs.declared.Settings.{Settings}
 use Rattle.common.specs.declared.Common.{Common}
 use Rattle.common.specs.Rules.{icount20}
+use Rattle.common.specs.State.{Given, State}
 use Rattle.jacobian.proofs.Laws.{SameStep}
-use Rattle.turns.specs.Ranges.{Accepted}
-use Rattle.rules.specs.Play.{Given, State, Limits, Play}
+use Rattle.between_steps.specs.Ranges.{Accepted}
+use Rattle.rules.specs.Play.{Limits, Play}
 use Rattle.rules.specs.Rules.{limitsOf}
 use Rattle.rules.specs.Steps.{Tally, Step, isEnded, isEndedKeeping, number}
 use Rattle.rules.specs.Caps.{passesOf, jacobiansOf, Capped, Every}

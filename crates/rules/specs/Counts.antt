@@ -6,8 +6,9 @@ use Rattle.common.specs.declared.Settings.{Settings}
 use Rattle.common.specs.declared.Common.{Common}
 use Rattle.common.specs.declared.MethodFamily.the-variants.{Bdf}
 use Rattle.common.specs.Rules.{icount20}
-use Rattle.turns.specs.Ranges.{Counts}
-use Rattle.rules.specs.Play.{Given, Play, ret, ask, tell, say}
+use Rattle.common.specs.State.{Given}
+use Rattle.between_steps.specs.Ranges.{Counts}
+use Rattle.rules.specs.Play.{Play, ret, ask, tell, say}
 use Rattle.rules.specs.Rules.{limitsOf}
 use Rattle.rules.specs.Steps.{Step}
 use Rattle.rules.specs.Caps.{derivativesOf, jacobiansOf}

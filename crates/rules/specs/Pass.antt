@@ -4,24 +4,24 @@
 -- `on` is what comes after. A bound of a recursion is its first argument: further derivatives, columns.
 use mathlib.Core.Bool.{Bool, true, false}
 use mathlib.Core.List.{List}
-use Prim.Native.Nat.{ℕ, zero, suc, _+_, _-_, _*_}
-use lib.ListN.{length}
+use Prim.Native.Nat.{ℕ, zero, suc, _+_, _-_}
 use lib.Ieee.{Float}
-use Rattle.loops.specs.Part.{putPart}
 use Rattle.numbers.specs.Float.{zeroF}
 use Rattle.common.specs.declared.Settings.{Settings}
 use Rattle.common.specs.declared.Common.{Common}
-use Rattle.common.specs.Layout.{y, yfd}
+use Rattle.common.specs.Layout.{ftemAt, acorAt, yAt, yfdAt, y, yfd}
 use Rattle.common.specs.Record.{with-nfe, with-count, with-column}
+use Rattle.common.specs.State.{Given, State}
 use Rattle.history.specs.Columns.{copyOf, fillOf}
+use Rattle.history.specs.Parts.{storedOf}
 use Rattle.jacobian.specs.Jacobian.{beginOf, perturbOf, restoreOf, suppliedOf, Factored, finishedOf as factorsOf}
 use Rattle.verdict.specs.declared.Pass.{Pass}
 use Rattle.verdict.specs.declared.Pass.the-variants.{Converged, Retry, NoConvergence, Further}
 use Rattle.corrector.specs.Iterate.{openOf, correctOf}
 use Rattle.attempt.specs.Attempt.{Moved}
-use Rattle.turns.specs.Turns.{withDerivative}
-use Rattle.passes.specs.Pass.{verdictOf, isSupplied}
-use Rattle.rules.specs.Play.{Given, State, Question, derivativeAt, jacobianAt}
+use Rattle.between_steps.specs.Start.{withDerivative}
+use Rattle.between_steps.specs.Pass.{verdictOf, isSupplied}
+use Rattle.rules.specs.Play.{Question, derivativeAt, jacobianAt}
 use Rattle.rules.specs.Play.{Source, byDifferences, supplied, opens, jacobian, retries}
 use Rattle.rules.specs.Play.{exhausted, Play, ret, ask, say}
 
@@ -92,7 +92,7 @@ turns (suc k) g on Further del x =
 
 -- the iterations begin, with no correction yet
 abbrev pub fresh : Given → State → State
-fresh g x = made x (openOf (x .c)) (fillOf (g .s .n) (16 * g .s .n) zeroF (x .w))
+fresh g x = made x (openOf (x .c)) (fillOf (g .s .n) (acorAt (g .s .n)) zeroF (x .w))
 
 -- further derivatives of a pass
 abbrev pub furtherAllowed : Settings → ℕ
@@ -126,7 +126,7 @@ columnAsked g j x = made x (askedInStep (with-column j (x .c))) (perturbOf (g .s
 -- and its reply stored
 abbrev pub columnStored : Given → List Float → State → State
 columnStored g f x =
-    put-w (restoreOf (g .s) (x .c) (x .c .column) (putPart (15 * g .s .n) (length f) (x .w) f)) x
+    put-w (restoreOf (g .s) (x .c) (x .c .column) (storedOf (ftemAt (g .s .n)) f (x .w))) x
 
 abbrev pub wantedColumn : Given → State → Question
 wantedColumn g x = derivativeAt (x .c .tn) (yfd (g .s .n) (x .w))
@@ -140,7 +140,7 @@ columns (suc k) j g on x =
 
 -- the perturbed state begins as y
 abbrev pub unperturbed : Given → State → State
-unperturbed g x = put-w (copyOf (g .s .n) (18 * g .s .n) (17 * g .s .n) (x .w)) x
+unperturbed g x = put-w (copyOf (g .s .n) (yfdAt (g .s .n)) (yAt (g .s .n)) (x .w)) x
 
 abbrev pub matrixGiven : Given → List Float → State → State
 matrixGiven g f x = put-w (suppliedOf (g .s) (x .c) f (x .w)) x
@@ -172,7 +172,7 @@ passAt g on false x = iterations g on x
 
 -- y is the prediction, column 0
 abbrev pub opened : Given → State → State
-opened g x = made x (askedInStep (x .c)) (copyOf (g .s .n) (17 * g .s .n) 0 (x .w))
+opened g x = made x (askedInStep (x .c)) (copyOf (g .s .n) (yAt (g .s .n)) 0 (x .w))
 
 unfoldable pub pass : Given → (Outcome → Play) → State → Play
 pass g on x =

@@ -5,22 +5,9 @@ use mathlib.Core.List.{List}
 use Prim.Native.Nat.{ℕ}
 use lib.Ieee.{Float}
 use Rattle.common.specs.declared.MethodFamily.{MethodFamily}
-use Rattle.common.specs.declared.Settings.{Settings}
-use Rattle.common.specs.declared.Common.{Common}
-use Rattle.turns.specs.declared.Answer.{Answer}
-use Rattle.turns.specs.declared.Status.{Status}
-
--- what the start fixes: the settings and the tolerance lists
-pub record Given : Type 0 where
-  pub s : Settings
-  pub rtol : List Float
-  pub atol : List Float
-
--- what the steps change: the record, the work and the pivots
-pub record State : Type 0 where
-  pub c : Common
-  pub w : List Float
-  pub p : List ℕ
+use Rattle.common.specs.State.{State}
+use Rattle.between_steps.specs.declared.Answer.{Answer}
+use Rattle.between_steps.specs.declared.Status.{Status}
 
 -- wanted at this time and state
 pub data Question : Type 0 where

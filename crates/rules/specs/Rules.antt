@@ -16,9 +16,10 @@ use Rattle.vectors.specs.declared.Weights.{Weights}
 use Rattle.vectors.specs.declared.Weights.the-variants.{Inverted, Refused}
 use Rattle.vectors.specs.Weights.{ewsetOf, ewsetLikeOf, invertOf, outcomeOf}
 use Rattle.common.specs.declared.Settings.{Settings}
-use Rattle.common.specs.Layout.{y, ewt}
+use Rattle.common.specs.Layout.{ewtAt, yAt, workLength, y, ewt}
 use Rattle.common.specs.Limits.{mxncfOf}
 use Rattle.common.specs.Record.{with-total, with-tn, with-h}
+use Rattle.common.specs.State.{Given, State}
 use Rattle.history.specs.Columns.{copyOf, slopeOf}
 use Rattle.attempt.specs.declared.Next.{Next}
 use Rattle.attempt.specs.declared.Next.the-variants as Next
@@ -27,12 +28,13 @@ use Rattle.order.specs.declared.Branch.{Branch}
 use Rattle.order.specs.declared.Branch.the-variants as Branch
 use Rattle.order.specs.Order.{Settled}
 use Rattle.acceptance.specs.Accept.{acceptOf, Closed, closedOf}
-use Rattle.turns.specs.declared.Answer.{Answer}
-use Rattle.turns.specs.declared.Answer.the-variants.{Continue, Interrupt, Modified}
-use Rattle.turns.specs.declared.Status.the-variants as Status
-use Rattle.turns.specs.Begin.{isGoing, preparedOf, enteredOf, predictedAt}
-use Rattle.reports.specs.Reports.{initialOf, firstSizeOf, firstStepOf, inverted, takenOf, restartOf}
-use Rattle.rules.specs.Play.{Given, State, Report, Limits, accepted, gap, tooSmall, poor}
+use Rattle.between_steps.specs.declared.Answer.{Answer}
+use Rattle.between_steps.specs.declared.Answer.the-variants.{Continue, Interrupt, Modified}
+use Rattle.between_steps.specs.declared.Status.the-variants as Status
+use Rattle.between_steps.specs.Begin.{isGoing, preparedOf, enteredOf, predictedAt}
+use Rattle.between_steps.specs.Start.{firstSizeOf, firstStepOf, inverted, takenOf, restartOf}
+use Rattle.reports.specs.Reports.{initialOf}
+use Rattle.rules.specs.Play.{Report, Limits, accepted, gap, tooSmall, poor}
 use Rattle.rules.specs.Play.{begins, ends, finished, stepRefused, weightRefused, exhausted}
 use Rattle.rules.specs.Play.{Play, ret, ask, tell, say}
 use Rattle.rules.specs.Pass.{made, put-c, put-w, moved, asked, askedInStep, wanted, stored, columnsOf}
@@ -98,7 +100,7 @@ snapshotOf g x =
 -- the total is refreshed here alone; y is the new state
 abbrev pub reportedState : Given → State → State
 reportedState g x =
-    made x (with-total (x .c .nst + x .c .rejected) (x .c)) (copyOf (g .s .n) (17 * g .s .n) 0 (x .w))
+    made x (with-total (x .c .nst + x .c .rejected) (x .c)) (copyOf (g .s .n) (yAt (g .s .n)) 0 (x .w))
 
 abbrev pub reportOf : Given → State → Report
 reportOf g x = record {
@@ -124,7 +126,7 @@ modified g f x = taken g f (put-c (asked (with-tn (x .c .told ⊕ x .c .hu) (x .
 abbrev pub restarted : Given → List Float → State → State
 restarted g f x =
     let n = g .s .n in
-    made x (restartOf (x .c)) (inverted n (ewsetLikeOf n (13 * n) (slopeOf n (x .c .h) (stored g f x .w))))
+    made x (restartOf (x .c)) (inverted n (ewsetLikeOf n (ewtAt n) (slopeOf n (x .c .h) (stored g f x .w))))
 
 -- the answer to a step's report; `on` goes on with the run
 unfoldable pub answered : Given → (State → Play) → State → Answer → List Float → Float → Play
@@ -223,7 +225,7 @@ beginning g a =
     let n = g .s .n in
     record {
       c = initialOf (g .s) (a .x0) (a .h) (a .hmin) (a .hmxi);
-      w = putPart (17 * n) n (replicate (n * n + 19 * n) zeroF) (a .y0);
+      w = putPart (yAt n) n (replicate (workLength n) zeroF) (a .y0);
       p = replicate n 0;
     }
 
@@ -271,7 +273,7 @@ weighted g Inverted x = sized g (refused (firstStep g x) (g .s .direction)) (fir
 abbrev pub firstWeights : Given → List Float → State → List Float
 firstWeights g f x =
     let n = g .s .n in
-    ewsetOf (g .rtol) (g .atol) n (13 * n) (copyOf n 0 (17 * n) (stored g f x .w))
+    ewsetOf (g .rtol) (g .atol) n (ewtAt n) (copyOf n 0 (yAt n) (stored g f x .w))
 
 unfoldable pub started : Given → List Float → State → Play
 started g f x =

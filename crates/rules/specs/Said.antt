@@ -17,6 +17,7 @@ use Rattle.common.specs.declared.Settings.{Settings}
 use Rattle.common.specs.declared.Common.{Common}
 use Rattle.common.specs.Record.{isBdf, with-rmax}
 use Rattle.common.specs.Limits.{mxncfOf}
+use Rattle.common.specs.State.{Given, State}
 use Rattle.history.specs.Columns.{retractColumnsOf}
 use Rattle.history.specs.Steps.{limitedOf}
 use Rattle.verdict.specs.declared.Pass.the-variants as Pass
@@ -28,8 +29,8 @@ use Rattle.attempt.specs.Attempt.{Attempt, Moved, noConvergenceOf, failedOf, re
 use Rattle.order.specs.declared.Branch.the-variants.{CoefficientGap}
 use Rattle.order.specs.Order.{Settled}
 use Rattle.acceptance.specs.Accept.{acceptOf}
-use Rattle.turns.specs.declared.Status.the-variants as Status
-use Rattle.rules.specs.Play.{Given, State, Report, finished, ret}
+use Rattle.between_steps.specs.declared.Status.the-variants as Status
+use Rattle.rules.specs.Play.{Report, finished, ret}
 use Rattle.rules.specs.Rules.{predicted, step, solve, reportedState, reportOf, modified, restarted}
 
 -- |h| ≤ hmin·1.00001

@@ -12,9 +12,11 @@ use Rattle.loops.specs.Part.{length-putPart}
 use Rattle.common.specs.declared.Settings.{Settings}
 use Rattle.common.specs.declared.Common.{Common}
 use Rattle.history.proofs.Laws.{length-copy}
-use Rattle.turns.specs.Turns.{Kept, withDerivative}
-use Rattle.turns.specs.Begin.{openPassOf, beganOf, isGoing, goOnAt, goOnOf}
-use Rattle.turns.proofs.Keeps.{begun}
+use Rattle.between_steps.specs.Begin.{isGoing}
+use Rattle.between_steps.specs.Start.{withDerivative}
+use Rattle.between_steps.proofs.Keeps.{begun}
+use Rattle.turns.specs.Turns.{Kept}
+use Rattle.turns.specs.Begin.{openPassOf, beganOf, goOnAt, goOnOf}
 
 abbrev pub As : List Float → Kept → Type 0
 As work k = length (k .work) ≡ length work

@@ -1,4 +1,2 @@
-pub mod Keeps
-pub mod Inside
 pub mod Lengths
 pub mod Order

@@ -7,10 +7,11 @@ use lib.Dec.{leb}
 use lib.Ieee.{Float}
 use Rattle.common.specs.declared.Settings.{Settings}
 use Rattle.common.specs.declared.Common.{Common}
-use Rattle.turns.specs.Ranges.{Accepted, Orders}
+use Rattle.between_steps.specs.Ranges.{Accepted, Orders}
+use Rattle.between_steps.specs.Begin.{isGoing}
+use Rattle.between_steps.proofs.Keeps.{begun}
 use Rattle.turns.specs.Turns.{Kept, Left, askedInStepOf, finishedOf}
-use Rattle.turns.specs.Begin.{openPassOf, beganOf, isGoing, goOnAt, goOnOf}
-use Rattle.turns.proofs.Keeps.{begun}
+use Rattle.turns.specs.Begin.{openPassOf, beganOf, goOnAt, goOnOf}
 
 -- the order is at most 12
 abbrev pub Low : Kept → Type 0

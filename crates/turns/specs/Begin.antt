@@ -1,79 +1,24 @@
--- Between steps, as in `solve`: the interval's end, the largest number of steps, and what opens a step.
--- The interval's end cuts the step or the setup is done, not both: a cut skips the setup.
+-- Between steps, as in `solve`: the interval's end, the largest number of steps, and a step's first pass.
 use mathlib.Core.Bool.{Bool, true, false}
 use mathlib.Core.List.{List}
-use Prim.Native.Nat.{ℕ, _+_, _*_}
+use Prim.Native.Nat.{ℕ}
 use lib.Dec.{leb}
-use lib.Ieee as Ieee
 use lib.Ieee.{Float}
-use Rattle.numbers.specs.Float.{_⊖_, _⊗_, _⊘_, zeroF}
-use Rattle.numbers.specs.Sign.{absOf}
-use Rattle.vectors.specs.Norm.{vmnormOf}
 use Rattle.common.specs.declared.Settings.{Settings}
 use Rattle.common.specs.declared.Common.{Common}
-use Rattle.common.specs.Layout.{column, ewt}
-use Rattle.common.specs.Record.{with-setup, with-kflag, with-ncf, with-count, with-jcur, with-told, with-pnorm}
-use Rattle.common.specs.Rules.{firstCallInitOf, resetOf}
-use Rattle.history.specs.Columns.{rescaleColumnsOf, copyOf}
-use Rattle.history.specs.Steps.{limitedOf, adjustOf, predictedOf, predictedWorkOf}
-use Rattle.attempt.specs.Attempt.{Moved}
+use Rattle.common.specs.Layout.{yAt}
+use Rattle.history.specs.Columns.{copyOf}
+use Rattle.between_steps.specs.declared.Status.the-variants.{Success, NeedsMoreSteps}
+use Rattle.between_steps.specs.Begin.{isGoing, firstPredictionOf}
 use Rattle.turns.specs.declared.Phase.the-variants.{Opened}
-use Rattle.turns.specs.declared.Status.the-variants.{Success, NeedsMoreSteps}
 use Rattle.turns.specs.Turns.{Kept, kept, askedInStepOf, finishedOf}
-
--- what is left of the interval
-abbrev pub remainingOf : Settings → Common → Float
-remainingOf s c = s .xend ⊖ c .tn
-
--- |h| > |what is left|
-abbrev pub isCut : Settings → Common → Bool
-isCut s c = Ieee.lt (absOf (remainingOf s c)) (absOf (c .h))
-
--- the columns rescaled to what is left
-unfoldable pub cutOf : Settings → Common → List Float → Moved
-cutOf s c work =
-    let d = with-setup false c in
-    let rh = remainingOf s c ⊘ c .h in
-    record { common = adjustOf d rh; work = rescaleColumnsOf (s .n) (d .nq + 1) (limitedOf d rh) work }
-
-unfoldable pub setupOf : Settings → Common → Common
-setupOf s c = resetOf s (firstCallInitOf s (with-setup false c))
-
-abbrev pub stays : Common → List Float → Moved
-stays c work = record { common = c; work = work }
-
--- cut; setup due
-unfoldable pub preparedAt : Settings → Bool → Bool → Common → List Float → Moved
-preparedAt s true due c work = cutOf s c work
-preparedAt s false true c work = stays (setupOf s c) work
-preparedAt s false false c work = stays c work
-
-unfoldable pub preparedOf : Settings → Common → List Float → Moved
-preparedOf s c work = preparedAt s (isCut s c) (c .setup) c work
-
--- no failure and no derivative yet; the time before the step is kept
-abbrev pub enteredOf : Float → Common → Common
-enteredOf told c = with-kflag 0 (with-ncf 0 (with-count 0 (with-jcur false (with-told told c))))
 
 -- the derivative at the prediction is wanted
 unfoldable pub openPassOf : ℕ → Common → List Float → Kept
-openPassOf n c work = kept (askedInStepOf c Opened) (copyOf n (17 * n) 0 work)
-
--- the prediction that opens a step, with its norm
-unfoldable pub predictedAt : Settings → Common → List Float → Moved
-predictedAt s c work =
-    let w = predictedWorkOf s c work in
-    record { common = with-pnorm (vmnormOf (column (s .n) 0 w) (ewt (s .n) w) .value) (predictedOf s c); work = w }
-
-unfoldable pub openedOf : Settings → Common → List Float → Moved
-openedOf s c work = let p = preparedOf s c work in predictedAt s (enteredOf (c .tn) (p .common)) (p .work)
+openPassOf n c work = kept (askedInStepOf c Opened) (copyOf n (yAt n) 0 work)
 
 unfoldable pub beganOf : Settings → Common → List Float → Kept
-beganOf s c work = let p = openedOf s c work in openPassOf (s .n) (p .common) (p .work)
-
--- (xend - tn)·direction > 0
-abbrev pub isGoing : Settings → Common → Bool
-isGoing s c = Ieee.lt zeroF (remainingOf s c ⊗ s .direction)
+beganOf s c work = let p = firstPredictionOf s c work in openPassOf (s .n) (p .common) (p .work)
 
 -- the interval is not done; as many steps as may be are
 unfoldable pub goOnAt : Settings → Bool → Bool → Common → List Float → Kept

@@ -1,4 +1,3 @@
-pub mod Ranges
-pub mod Requires
 pub mod Turns
 pub mod Begin
+pub mod Requires

@@ -1,22 +1,12 @@
--- What the functions inside a reply ask of the record, and what a reply asks of a session and of what is lent.
--- A count rises at most once or twice in a reply, so that below 2^62 none can overflow.
+-- What a reply asks of a session and of what is lent.
 use mathlib.Core.List.{List}
-use Prim.Native.Nat.{ℕ, _-_, _^_, _<_}
+use Prim.Native.Nat.{ℕ, _-_}
 use lib.Ieee.{Float}
 use Rattle.vectors.specs.Tolerance.{List1OrN}
-use Rattle.common.specs.declared.Settings.{Settings}
-use Rattle.common.specs.declared.Common.{Common}
+use Rattle.between_steps.specs.Ranges.{Ranges, Lent}
 use Rattle.turns.specs.declared.Session.{Session}
 use Rattle.turns.specs.declared.Phase.{Phase}
 use Rattle.turns.specs.declared.Phase.the-variants as Phase
-use Rattle.turns.specs.Ranges.{Accepted, Orders, Ranges, Lent}
-
--- inside a reply; nslp becomes nst where a Jacobian is made
-pub record Inside (s : Settings) (c : Common) : Type 0 where
-  pub settings : Accepted s
-  pub orders : Orders s c
-  pub steps : (c .nslp < 2 ^ 62) × (c .nst < 2 ^ 62)
-  pub counts : (c .nfe < 2 ^ 63) × (c .count < 2 ^ 63) × (c .rejected < 2 ^ 63)
 
 -- a session, the tolerance lists, the work and the pivots that a reply takes
 pub record Resumes (x : Session) (rtol atol work : List Float) (ipiv : List ℕ) : Type 0 where

@@ -1,15 +1,13 @@
 -- What a reply leads to: the next question, the phase that waits for its reply, the record, the work and the pivots.
 -- The counts of derivatives rise when the question is asked.
 use mathlib.Core.List.{List}
-use Prim.Native.Nat.{ℕ, _+_, _*_}
-use lib.ListN.{length}
+use Prim.Native.Nat.{ℕ, _+_}
 use lib.Ieee.{Float}
-use Rattle.loops.specs.Part.{putPart}
 use Rattle.common.specs.declared.Common.{Common}
 use Rattle.common.specs.Record.{with-nfe, with-count}
+use Rattle.between_steps.specs.declared.Status.{Status}
 use Rattle.turns.specs.declared.Phase.{Phase}
 use Rattle.turns.specs.declared.Phase.the-variants.{Finished}
-use Rattle.turns.specs.declared.Status.{Status}
 use Rattle.turns.specs.declared.Question.the-variants as Question
 use Rattle.turns.specs.declared.Turn.{Turn}
 
@@ -66,7 +64,3 @@ finishedOf c status = record {
 -- 12: the weight at this index is at most 0
 abbrev pub weightRefused : Common → ℕ → Turn
 weightRefused c i = record { question = Question.WeightRefused i; phase = Finished; common = c }
-
--- savf becomes the reply
-abbrev pub withDerivative : ℕ → List Float → List Float → List Float
-withDerivative n f work = putPart (14 * n) (length f) work f

@@ -1,14 +1,14 @@
 // What a run asks, what it is replied, what it then waits for, and what it keeps; and the way from one step to the
 // next.
 ghost use mathlib.Core.Path.{_≡_};
-ghost use Prim.Native.Nat.{_*_, _^_, _≤_, _<_};
+ghost use Prim.Native.Nat.{_^_, _≤_, _<_};
 ghost use lib.ListN.{length};
-ghost use Rattle.attempt.specs.Attempt.{Moved};
-ghost use Rattle.turns.specs.Ranges.{Accepted};
-ghost use Rattle.turns.specs.Requires.{Inside};
+ghost use Rattle.common.specs.Layout.{matrixAt};
+ghost use Rattle.between_steps.specs.Ranges.{Inside};
 ghost use Rattle.turns.specs.Turns.{kept, askedOf, askedInStepOf, finishedOf};
-ghost use Rattle.turns.specs.Begin.{cutOf, setupOf, preparedOf, openPassOf, beganOf, goOnOf};
+ghost use Rattle.turns.specs.Begin.{openPassOf, beganOf, goOnOf};
 
+use between_steps::Status;
 use common::Common;
 use common::Settings;
 
@@ -31,15 +31,6 @@ pub struct Session {
     pub settings: Settings,
     pub common: Common,
     pub phase: Phase,
-}
-
-pub enum Status {
-    Success,
-    Interrupted,
-    NeedsMoreSteps,
-    StepTooSmall,
-    PoorConvergence,
-    CoefficientGap,
 }
 
 // A question about the state at a time.
@@ -76,20 +67,6 @@ pub enum Question {
     StepRefused(f64),
     WeightRefused(usize),
     Unasked,
-}
-
-// What the host says to a report; the Rust's `XOut` is Continue.
-pub enum Answer {
-    Continue,
-    Interrupt,
-    Modified,
-}
-
-// The kind of a reply.
-pub enum Kind {
-    Derivative,
-    Jacobian,
-    Report(Answer),
 }
 
 // The next question, the phase that waits for its reply, and the record then.
@@ -140,78 +117,28 @@ pub fn finish(c: Common, status: Status) -> Turn
 
 // ---- between steps
 
-// The interval's end cuts the step: rescaled to what is left. Its setup is skipped.
-fn cut(s: Settings, c: Common, work: &mut [f64]) -> Common
-    requires { ⌜ Inside s c ⌝ }
-    requires { ⌜ 19 * s .n ≤ length (now work) ⌝ }
-    ensures { λ r. ⌜ _≡_ {A = Moved} (record { common = r; work = now (work .exit) })
-        (cutOf s c (now (work .entry))) ⌝ }
-{
-    let mut d = c;
-    d.setup = false;
-    history::stoda_adjust_step_size(s, d, (s.xend - c.tn) / c.h, work)
-}
-
-// First-call setup.
-fn setup(s: Settings, c: Common) -> Common
-    requires { ⌜ Accepted s ⌝ }
-    ensures { λ r. ⌜ r ≡ setupOf s c ⌝ }
-{
-    let mut d = c;
-    d.setup = false;
-    common::stoda_reset(s, common::stoda_first_call_init(s, d))
-}
-
-// What comes before a step's first prediction: the cut, else the setup if it is due.
-fn prepare(s: Settings, c: Common, work: &mut [f64]) -> Common
-    requires { ⌜ Inside s c ⌝ }
-    requires { ⌜ 19 * s .n ≤ length (now work) ⌝ }
-    ensures { λ r. ⌜ _≡_ {A = Moved} (record { common = r; work = now (work .exit) })
-        (preparedOf s c (now (work .entry))) ⌝ }
-{
-    if numbers::abs(c.h) > numbers::abs(s.xend - c.tn) {
-        return cut(s, c, work);
-    }
-    let due = c.setup;
-    if due {
-        return setup(s, c);
-    }
-    c
-}
-
 // A pass opens: the derivative at the prediction is wanted.
 pub fn open_pass(c: Common, n: usize, work: &mut [f64]) -> Turn
-    requires { ⌜ (c .nfe < 2 ^ 63) × (c .count < 2 ^ 63) × (19 * n ≤ length (now work)) ⌝ }
+    requires { ⌜ (c .nfe < 2 ^ 63) × (c .count < 2 ^ 63) × (matrixAt n ≤ length (now work)) ⌝ }
     ensures { λ r. ⌜ kept r (now (work .exit)) ≡ openPassOf n c (now (work .entry)) ⌝ }
 {
-    history::copy_part(work, n, 17 * n, 0);
+    history::copy_part(work, n, common::Y * n, 0);
     ask_in_step(c, Phase::Opened)
 }
 
-// A step begins: prepared, predicted, its first pass opened.
+// A step begins: its first prediction, its first pass.
 fn begin_step(s: Settings, c: Common, work: &mut [f64]) -> Turn
     requires { ⌜ Inside s c ⌝ }
-    requires { ⌜ 19 * s .n ≤ length (now work) ⌝ }
+    requires { ⌜ matrixAt (s .n) ≤ length (now work) ⌝ }
     ensures { λ r. ⌜ kept r (now (work .exit)) ≡ beganOf s c (now (work .entry)) ⌝ }
 {
-    let mut d = prepare(s, c, work);
-    d.kflag = 0;
-    d.ncf = 0;
-    d.count = 0;
-    d.jcur = false;
-    d.told = c.tn;
-    let mut e = history::stoda_get_predicted_values(s, d, work);
-    let n = s.n;
-    let w = 13 * n;
-    let we = 14 * n;
-    e.pnorm = vectors::vmnorm(&work[0..n], &work[w..we]).value;
-    open_pass(e, n, work)
+    open_pass(between_steps::first_prediction(s, c, work), s.n, work)
 }
 
 // The loop of `solve`: the interval's end, the largest number of steps, another step.
 pub fn go_on(s: Settings, c: Common, work: &mut [f64]) -> Turn
     requires { ⌜ Inside s c ⌝ }
-    requires { ⌜ 19 * s .n ≤ length (now work) ⌝ }
+    requires { ⌜ matrixAt (s .n) ≤ length (now work) ⌝ }
     ensures { λ r. ⌜ kept r (now (work .exit)) ≡ goOnOf s c (now (work .entry)) ⌝ }
 {
     if (s.xend - c.tn) * s.direction > 0.0 {

@@ -9,13 +9,14 @@ use native.Mathlib.Omega.{arith}
 use denote.Enum.Declared.{tagOf}
 use types.Run.{OneOf, miss}
 use borrow.Author.Needs.{needs}
+use Rattle.between_steps.specs.declared.Kind.{Kind}
+use Rattle.between_steps.specs.declared.Kind.the-variants.{Derivative, Jacobian, Report}
+use Rattle.between_steps.specs.Replies.{isDerivative, isJacobian, isAnswer}
+use Rattle.between_steps.proofs.Kind.{the-type as kinds}
 use Rattle.turns.specs.declared.Phase.{Phase}
 use Rattle.turns.specs.declared.Phase.the-variants as Phase
-use Rattle.turns.specs.declared.Kind.{Kind}
-use Rattle.turns.specs.declared.Kind.the-variants.{Derivative, Jacobian, Report}
 use Rattle.turns.proofs.Phase.{the-type as phases}
-use Rattle.turns.proofs.Kind.{the-type as kinds}
-use Rattle.machine.specs.Resume.{isAsked, isDerivative, isJacobian, isAnswer}
+use Rattle.machine.specs.Resume.{isAsked}
 use Rattle.machine.proofs.is_asked.Statement.{statement}
 use Rattle.machine.proofs.is_asked.Tie as tie
 

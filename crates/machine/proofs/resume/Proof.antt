@@ -4,10 +4,10 @@ use mathlib.Core.Path.{refl, sym, ap, _∙_}
 use native.Mathlib.Omega.{arith}
 use borrow.Author.Needs.{needs}
 use borrow.Author.Tests.{not-true, not-false}
+use Rattle.between_steps.specs.declared.Kind.{Kind}
+use Rattle.between_steps.proofs.Inside.{inside-ranges}
 use Rattle.turns.specs.Turns.{leaving}
-use Rattle.turns.proofs.Inside.{inside-ranges}
 use Rattle.turns.specs.declared.Phase.the-variants as Phase
-use Rattle.turns.specs.declared.Kind.{Kind}
 use Rattle.machine.specs.Resume.{With, firstAnsweredOf, answeredOf, takenOf}
 use denote.Ref.{now}
 use Rattle.machine.proofs.Replies.{derivative-length, jacobian-length, answer-length, held, asked-in}

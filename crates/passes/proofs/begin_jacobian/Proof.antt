@@ -6,7 +6,8 @@ use mathlib.Core.Logic.{⊎-elim}
 use native.Mathlib.Omega.{arith}
 use borrow.Author.Needs.{needs}
 use Rattle.jacobian.specs.Jacobian.{beginOf}
-use Rattle.passes.specs.Pass.{beginJacobianOf, beginJacobianAt, isSupplied}
+use Rattle.between_steps.specs.Pass.{isSupplied}
+use Rattle.passes.specs.Pass.{beginJacobianOf, beginJacobianAt}
 use Rattle.passes.proofs.begin_jacobian.Statement.{statement}
 use Rattle.passes.proofs.begin_jacobian.Tie as tie
 

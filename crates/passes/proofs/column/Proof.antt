@@ -1,9 +1,7 @@
 -- `column` meets its contract: the column is stored, and the next is asked for or the matrix is factored.
 -- Assumes nothing.
-use mathlib.Core.Path.{_≡_, ap}
+use mathlib.Core.Path.{ap}
 use native.Mathlib.Omega.{arith}
-use Prim.Native.Nat.{_-_, _*_}
-use lib.ListN.{length}
 use borrow.Author.Needs.{needs}
 use borrow.Author.Tests.{lt-ltb, le-ltb}
 use Rattle.turns.specs.Turns.{leaving}
@@ -12,48 +10,30 @@ use Rattle.passes.proofs.Inside.{inside-column, lent-length}
 use Rattle.passes.proofs.column.Statement.{statement}
 use Rattle.passes.proofs.column.Tie as tie
 
-mul-a : tie.Need-mul-a
-mul-a c = search needs
+mul-store : tie.Need-mul-store
+mul-store c = search needs
 
-mul-e : tie.Need-mul-e
-mul-e c = search needs
-
-mul-copy-from : tie.Need-mul-copy-from
-mul-copy-from c = search needs
-
-sub-copy-from : tie.Need-sub-copy-from
-sub-copy-from c = search needs
-
-part-copy-from-start : tie.Need-part-copy-from-start
-part-copy-from-start c = search needs
-
-part-copy-from-end : tie.Need-part-copy-from-end
-part-copy-from-end c = search needs
-
-copy-from-requires : tie.Need-copy-from-requires
-copy-from-requires c κs = search needs
+store-requires : tie.Need-store-requires
+store-requires c κs = search needs
 
 store-column-requires : tie.Need-store-column-requires
 store-column-requires c κs =
-    let p = c .before .before .before .before .before .before .before .before .before .before .pre in
+    let p = c .before .before .before .before .before .before .before .before .before .before .before .pre in
     (p .0 .settings .n .1, omega (arith, p .1 .1 .1 .1 .1 .sized), p .0 .orders .column)
 
 add-if1 : tie.Need-add-if1
 add-if1 c =
-    let p = c .before .before .before .before .before .before .before .before .before .before .before
-      .before .before .pre .0 in
+    let p = c .before .before .before .before .before .before .before .before .before .before .before .before .before .before .pre .0 in
     omega (arith, p .settings .n, p .orders .column)
 
 add-ask-column : tie.Need-add-ask-column
 add-ask-column c =
-    let p = c .before .before .before .before .before .before .before .before .before .before .before
-      .before .before .before .before .pre .0 in
+    let p = c .before .before .before .before .before .before .before .before .before .before .before .before .before .before .before .before .pre .0 in
     omega (arith, p .settings .n, p .orders .column)
 
 ask-column-requires : tie.Need-ask-column-requires
 ask-column-requires c κs =
-    let p = c .before .before .before .before .before .before .before .before .before .before .before
-      .before .before .before .before .before .pre in
+    let p = c .before .before .before .before .before .before .before .before .before .before .before .before .before .before .before .before .before .pre in
     let l = p .1 .1 .1 .1 .1 .sized in
     ((p .0 .settings .n .1, c .before .if1 .taken), ((p .0 .counts .0, p .0 .counts .1), omega arith))
 
@@ -63,19 +43,13 @@ same-length c = search needs
 returns : tie.Need-returns
 unfolding columnOf columnAt
 returns c =
-    let k = c .before .before .before .before .before .before .before .before in
-    let o = k .before .before .before .before in
-    let a = o .before .before .before .before .before .before .before in
-    let x = a .args in
-    let size : 16 * x .s .n - 15 * x .s .n ≡ length (x .f .now) = omega (arith, a .pre .1 .1 .1 .1 .0) in
-    let stored = rw (o .copy-from .ensures, size) at (k .store-column .ensures) in
-    rw (lt-ltb _ _ (c .before .before .before .before .if1 .taken), ← stored)
+    rw (lt-ltb _ _ (c .before .before .before .before .if1 .taken), ← c .before .before .before .before .before .before .before .before .before .before .before .before .store .ensures,
+      ← c .before .before .before .before .before .before .before .before .store-column .ensures)
     (ap (leaving _) (c .before .before .ask-column .ensures))
 
 factored-requires : tie.Need-factored-requires
 factored-requires c κs =
-    let p = c .before .before .before .before .before .before .before .before .before .before .before
-      .before .before .before .before .before .before .pre in
+    let p = c .before .before .before .before .before .before .before .before .before .before .before .before .before .before .before .before .before .before .pre in
     let first = inside-column 0 (p .0 .settings .n .0) (p .0) in
     (first, (p .1 .0, (p .1 .1 .0, (p .1 .1 .1 .0, lent-length _ (omega arith) (p .1 .1 .1 .1 .1)))))
 
@@ -89,25 +63,15 @@ returns-2 : tie.Need-returns-2
 unfolding columnOf columnAt
 returns-2 c =
     let k = c .before .before .before .before .before .before .before .before .before .before .before in
-    let o = k .before .before .before .before in
-    let a = o .before .before .before .before .before .before .before in
-    let x = a .args in
-    let size : 16 * x .s .n - 15 * x .s .n ≡ length (x .f .now) = omega (arith, a .pre .1 .1 .1 .1 .0) in
-    let stored = rw (o .copy-from .ensures, size) at (k .store-column .ensures) in
-    rw (le-ltb _ _ (c .before .before .before .before .before .before .before .if1 .left), ← stored)
-      (c .before .before .before .before .factored .ensures)
+    rw (le-ltb _ _ (c .before .before .before .before .before .before .before .if1 .left), ← k .before .before .before .before .store .ensures, ← k .store-column .ensures)
+    (c .before .before .before .before .factored .ensures)
 
 pub column-spec : {M : Type 1} → statement M
 column-spec =
     tie.close
     (tie.spec
-    mul-a
-    mul-e
-    mul-copy-from
-    sub-copy-from
-    part-copy-from-start
-    part-copy-from-end
-    copy-from-requires
+    mul-store
+    store-requires
     store-column-requires
     add-if1
     add-ask-column

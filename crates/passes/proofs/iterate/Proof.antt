@@ -1,16 +1,15 @@
 -- `iterate` meets its contract: one iteration, the verdict on it, and one way for each verdict.
 -- Assumes nothing.
-use mathlib.Core.Path.{_≡_, ap, _∙_}
-use Prim.Native.Nat.{_-_, _*_}
+use mathlib.Core.Path.{ap, _∙_}
 use native.Mathlib.Omega.{arith}
 use lib.ListN.{length}
 use borrow.Author.Needs.{needs}
-use Rattle.turns.specs.Requires.{Inside}
-use Rattle.turns.proofs.Inside.{in-range}
-use Rattle.passes.specs.Pass.{iterateOf, concludedAt}
-use Rattle.passes.proofs.Inside.{inside-judged}
 use Rattle.corrector.specs.Iterate.{Corrected}
 use Rattle.corrector.proofs.Laws.{length-iteration}
+use Rattle.between_steps.specs.Ranges.{Inside}
+use Rattle.between_steps.proofs.Inside.{in-range}
+use Rattle.passes.specs.Pass.{iterateOf, concludedAt}
+use Rattle.passes.proofs.Inside.{inside-judged}
 use Rattle.passes.proofs.iterate.Statement.{statement}
 use Rattle.passes.proofs.iterate.Tie as tie
 
@@ -20,35 +19,8 @@ correct-requires c κs =
     let l = a .pre .1 .1 .1 in
     (in-range (a .pre .0), ((omega (arith, l .sized), omega (arith, l .pivots)), l .below))
 
-mul-w : tie.Need-mul-w
-mul-w c = search needs
-
-mul-we : tie.Need-mul-we
-mul-we c = search needs
-
-sub-vmnorm : tie.Need-sub-vmnorm
-sub-vmnorm c = search needs
-
-part-vmnorm-start : tie.Need-part-vmnorm-start
-part-vmnorm-start c = search needs
-
-part-vmnorm-end : tie.Need-part-vmnorm-end
-part-vmnorm-end c = search needs
-
-mul-vmnorm : tie.Need-mul-vmnorm
-mul-vmnorm c = search needs
-
-sub-vmnorm-2 : tie.Need-sub-vmnorm-2
-sub-vmnorm-2 c = search needs
-
-part-vmnorm-start-2 : tie.Need-part-vmnorm-start-2
-part-vmnorm-start-2 c = search needs
-
-part-vmnorm-end-2 : tie.Need-part-vmnorm-end-2
-part-vmnorm-end-2 c = search needs
-
-vmnorm-requires : tie.Need-vmnorm-requires
-vmnorm-requires c κs = search needs
+norm-at-requires : tie.Need-norm-at-requires
+norm-at-requires c κs = search needs
 
 judge-requires : tie.Need-judge-requires
 judge-requires c κs = search needs
@@ -59,7 +31,7 @@ enum-told c = search needs
 converged-requires : tie.Need-converged-requires
 converged-requires c κs =
     let j = c .before .before .before .before in
-    let x = j .before .before .before .before .before .before .before in
+    let x = j .before .before .before .before .before in
     let a = x .before .before .before .before .before .before in
     let p : Inside (a .args .s) (j .judge .result .common) = rw (j .judge .ensures) (inside-judged _ _ (a .pre .0)) in
     let l = a .pre .1 .1 .1 .sized in
@@ -73,7 +45,7 @@ enum-told-2 c = search needs
 open-pass-requires : tie.Need-open-pass-requires
 open-pass-requires c κs =
     let j = c .before .before .before .before in
-    let x = j .before .before .before .before .before .before .before in
+    let x = j .before .before .before .before .before in
     let a = x .before .before .before .before .before .before in
     let p : Inside (a .args .s) (j .judge .result .common) = rw (j .judge .ensures) (inside-judged _ _ (a .pre .0)) in
     let l = a .pre .1 .1 .1 .sized in
@@ -87,7 +59,7 @@ enum-told-3 c = search needs
 unconverged-requires : tie.Need-unconverged-requires
 unconverged-requires c κs =
     let j = c .before .before .before .before in
-    let x = j .before .before .before .before .before .before .before in
+    let x = j .before .before .before .before .before in
     let a = x .before .before .before .before .before .before in
     let p : Inside (a .args .s) (j .judge .result .common) = rw (j .judge .ensures) (inside-judged _ _ (a .pre .0)) in
     let l = a .pre .1 .1 .1 .sized in
@@ -101,7 +73,7 @@ enum-told-4 c = search needs
 ask-in-step-requires : tie.Need-ask-in-step-requires
 ask-in-step-requires c κs =
     let j = c .before .before .before in
-    let a = j .before .before .before .before .before .before .before .before .before .before .before .before .before in
+    let a = j .before .before .before .before .before .before .before .before .before .before .before in
     let p : Inside (a .args .s) (j .judge .result .common) = rw (j .judge .ensures) (inside-judged _ _ (a .pre .0)) in
     (p .counts .0, p .counts .1)
 
@@ -112,14 +84,7 @@ returns : tie.Need-returns
 unfolding iterateOf concludedAt
 returns c =
     let j = c .before .before .before .before .before .before .before in
-    let v = j .before in
-    let x = v .before .before .before .before .before .before in
-    let n = x .before .before .before .before .before .before .args .s .n in
-    let first : 0 * n ≡ 0 = omega arith in
-    let size : n - 0 ≡ n = omega arith in
-    let weights : 14 * n - 13 * n ≡ n = omega arith in
-    let norm = rw (size, weights) at (v .vmnorm .ensures) in
-    rw (← x .correct .ensures, first, ← norm, ← j .judge .ensures,
+    rw (← j .before .before .before .before .before .correct .ensures, ← j .before .norm-at .ensures, ← j .judge .ensures,
       c .before .before .before .before .enum-told .given .1)
     (c .before .before .converged .ensures)
 
@@ -130,14 +95,7 @@ returns-2 : tie.Need-returns-2
 unfolding iterateOf concludedAt
 returns-2 c =
     let j = c .before .before .before .before .before .before .before in
-    let v = j .before in
-    let x = v .before .before .before .before .before .before in
-    let n = x .before .before .before .before .before .before .args .s .n in
-    let first : 0 * n ≡ 0 = omega arith in
-    let size : n - 0 ≡ n = omega arith in
-    let weights : 14 * n - 13 * n ≡ n = omega arith in
-    let norm = rw (size, weights) at (v .vmnorm .ensures) in
-    rw (← x .correct .ensures, first, ← norm, ← j .judge .ensures,
+    rw (← j .before .before .before .before .before .correct .ensures, ← j .before .norm-at .ensures, ← j .judge .ensures,
       c .before .before .before .before .enum-told2 .given .1)
     (c .before .before .open-pass .ensures)
 
@@ -148,14 +106,7 @@ returns-3 : tie.Need-returns-3
 unfolding iterateOf concludedAt
 returns-3 c =
     let j = c .before .before .before .before .before .before .before in
-    let v = j .before in
-    let x = v .before .before .before .before .before .before in
-    let n = x .before .before .before .before .before .before .args .s .n in
-    let first : 0 * n ≡ 0 = omega arith in
-    let size : n - 0 ≡ n = omega arith in
-    let weights : 14 * n - 13 * n ≡ n = omega arith in
-    let norm = rw (size, weights) at (v .vmnorm .ensures) in
-    rw (← x .correct .ensures, first, ← norm, ← j .judge .ensures,
+    rw (← j .before .before .before .before .before .correct .ensures, ← j .before .norm-at .ensures, ← j .judge .ensures,
       c .before .before .before .before .enum-told3 .given .1)
     (c .before .before .unconverged .ensures)
 
@@ -166,14 +117,7 @@ returns-4 : tie.Need-returns-4
 unfolding iterateOf concludedAt
 returns-4 c =
     let j = c .before .before .before .before in
-    let v = j .before in
-    let x = v .before .before .before .before .before .before in
-    let n = x .before .before .before .before .before .before .args .s .n in
-    let first : 0 * n ≡ 0 = omega arith in
-    let size : n - 0 ≡ n = omega arith in
-    let weights : 14 * n - 13 * n ≡ n = omega arith in
-    let norm = rw (size, weights) at (v .vmnorm .ensures) in
-    rw (← x .correct .ensures, first, ← norm, ← j .judge .ensures, c .before .enum-told4 .given .1,
+    rw (← j .before .before .before .before .before .correct .ensures, ← j .before .norm-at .ensures, ← j .judge .ensures, c .before .enum-told4 .given .1,
       c .ask-in-step .ensures)
 
 pub iterate-spec : {M : Type 1} → statement M
@@ -181,16 +125,7 @@ iterate-spec =
     tie.close
     (tie.spec
     correct-requires
-    mul-w
-    mul-we
-    sub-vmnorm
-    part-vmnorm-start
-    part-vmnorm-end
-    mul-vmnorm
-    sub-vmnorm-2
-    part-vmnorm-start-2
-    part-vmnorm-end-2
-    vmnorm-requires
+    norm-at-requires
     judge-requires
     enum-told
     converged-requires

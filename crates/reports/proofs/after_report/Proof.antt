@@ -1,7 +1,7 @@
 -- `after_report` meets its contract: the state is taken, then one way for each answer. Assumes nothing.
 use native.Mathlib.Omega.{arith}
 use borrow.Author.Needs.{needs}
-use Rattle.turns.proofs.Inside.{inside-tn}
+use Rattle.between_steps.proofs.Inside.{inside-tn}
 use Rattle.reports.specs.Reports.{afterReportOf}
 use Rattle.reports.proofs.after_report.Statement.{statement}
 use Rattle.reports.proofs.after_report.Tie as tie

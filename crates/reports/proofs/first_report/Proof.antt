@@ -1,6 +1,6 @@
 -- `first_report` meets its contract: one way for each answer. Assumes nothing.
 use borrow.Author.Needs.{needs}
-use Rattle.turns.proofs.Inside.{inside-tn}
+use Rattle.between_steps.proofs.Inside.{inside-tn}
 use Rattle.reports.specs.Reports.{firstReportOf}
 use Rattle.reports.proofs.first_report.Statement.{statement}
 use Rattle.reports.proofs.first_report.Tie as tie

@@ -7,11 +7,12 @@ use native.Mathlib.Omega.{arith}
 use lib.Ieee.{Float}
 use borrow.Author.Needs.{needs}
 use Rattle.loops.specs.Part.{length-part}
+use Rattle.vectors.specs.FirstStep.{initialStepOf}
 use Rattle.common.specs.declared.Settings.{Settings}
 use Rattle.common.specs.declared.Common.{Common}
 use Rattle.common.specs.Layout.{column, ewt, savf}
-use Rattle.reports.specs.Reports.{sizedOf, firstStepOf}
-use Rattle.vectors.specs.FirstStep.{initialStepOf}
+use Rattle.between_steps.specs.Start.{firstStepOf}
+use Rattle.reports.specs.Reports.{sizedOf}
 use denote.Ref.{now}
 use Rattle.reports.proofs.weighted.Statement.{statement}
 use Rattle.reports.proofs.weighted.Tie as tie

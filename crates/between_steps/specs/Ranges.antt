@@ -1,5 +1,6 @@
 -- The ranges of 13: what holds of the record, the work and the pivots of every run between two calls, and of every
--- session that a reply takes.
+-- session that a reply takes; and what the functions inside a reply ask of the record. A count rises at most once or
+-- twice in a reply, so that below 2^62 none can overflow.
 -- (icount is kept with 1,000,000 added, kflag as the number of error failures.)
 use mathlib.Core.List.{List}
 use mathlib.Core.Path.{_≡_}
@@ -8,11 +9,12 @@ use lib.ListN.{length, getD}
 use lib.Ieee.{Float}
 use Rattle.common.specs.declared.Settings.{Settings}
 use Rattle.common.specs.declared.Common.{Common}
-use Rattle.common.specs.Limits.{mxncfOf}
+use Rattle.common.specs.Layout.{workLength}
+use Rattle.common.specs.Limits.{maxStates, mxncfOf}
 
 -- settings as start accepts
 pub record Accepted (s : Settings) : Type 0 where
-  pub n : (1 ≤ s .n) × (s .n ≤ 64)
+  pub n : (1 ≤ s .n) × (s .n ≤ maxStates)
   pub maxsteps : (1 ≤ s .maxsteps) × (s .maxsteps ≤ 1000000)
   pub mxordn : (1 ≤ s .mxordn) × (s .mxordn ≤ 1000000)
   pub mxords : (1 ≤ s .mxords) × (s .mxords ≤ 1000000)
@@ -50,8 +52,15 @@ pub record Ranges (s : Settings) (c : Common) : Type 0 where
   pub counts : Counts c (2 ^ 62 - 1)
   pub orders : Orders s c
 
--- n·n + 19·n numbers, n pivots, each below n
+-- inside a reply; nslp becomes nst where a Jacobian is made
+pub record Inside (s : Settings) (c : Common) : Type 0 where
+  pub settings : Accepted s
+  pub orders : Orders s c
+  pub steps : (c .nslp < 2 ^ 62) × (c .nst < 2 ^ 62)
+  pub counts : (c .nfe < 2 ^ 63) × (c .count < 2 ^ 63) × (c .rejected < 2 ^ 63)
+
+-- the whole of the work, n pivots, each below n
 pub record Lent (n : ℕ) (work : List Float) (ipiv : List ℕ) : Type 0 where
-  pub sized : length work ≡ n * n + 19 * n
+  pub sized : length work ≡ workLength n
   pub pivots : length ipiv ≡ n
   pub below : (k : ℕ) → k < n → getD ipiv k 0 < n

@@ -3,10 +3,10 @@ use mathlib.Core.Path.{refl}
 use native.Mathlib.Omega.{arith}
 use borrow.Author.Needs.{needs}
 use Rattle.history.proofs.Laws.{same-range}
-use Rattle.turns.specs.Begin.{cutOf}
-use Rattle.turns.proofs.Inside.{in-range}
-use Rattle.turns.proofs.cut.Statement.{statement}
-use Rattle.turns.proofs.cut.Tie as tie
+use Rattle.between_steps.specs.Begin.{cutOf}
+use Rattle.between_steps.proofs.Inside.{in-range}
+use Rattle.between_steps.proofs.cut.Statement.{statement}
+use Rattle.between_steps.proofs.cut.Tie as tie
 
 stoda-adjust-step-size-requires : tie.Need-stoda-adjust-step-size-requires
 stoda-adjust-step-size-requires c κs =

@@ -1,7 +1,7 @@
 -- `restart` meets its contract: field by field. Assumes nothing.
 use borrow.Author.Needs.{needs}
-use Rattle.reports.proofs.restart.Statement.{statement}
-use Rattle.reports.proofs.restart.Tie as tie
+use Rattle.between_steps.proofs.restart.Statement.{statement}
+use Rattle.between_steps.proofs.restart.Tie as tie
 
 with-family-requires : tie.Need-with-family-requires
 with-family-requires c κs = search needs

@@ -3,8 +3,8 @@ use mathlib.Core.Path.{_≡_}
 use Prim.Native.Nat.{_-_, _*_}
 use native.Mathlib.Omega.{arith}
 use borrow.Author.Needs.{needs}
-use Rattle.reports.proofs.state_weights.Statement.{statement}
-use Rattle.reports.proofs.state_weights.Tie as tie
+use Rattle.between_steps.proofs.state_weights.Statement.{statement}
+use Rattle.between_steps.proofs.state_weights.Tie as tie
 
 mul-w : tie.Need-mul-w
 mul-w c = search needs

@@ -1,9 +1,9 @@
 -- `prepare` meets its contract: each way returns what `preparedOf` picks under the tests that led there.
 -- Assumes nothing.
 use borrow.Author.Needs.{needs}
-use Rattle.turns.specs.Begin.{preparedOf, preparedAt}
-use Rattle.turns.proofs.prepare.Statement.{statement}
-use Rattle.turns.proofs.prepare.Tie as tie
+use Rattle.between_steps.specs.Begin.{preparedOf, preparedAt}
+use Rattle.between_steps.proofs.prepare.Statement.{statement}
+use Rattle.between_steps.proofs.prepare.Tie as tie
 
 abs-requires : tie.Need-abs-requires
 abs-requires c κs = search needs

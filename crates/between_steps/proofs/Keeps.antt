@@ -22,8 +22,8 @@ use Rattle.common.specs.Rules.{resetOf, firstCallInitOf}
 use Rattle.history.specs.Steps.{adjustOf, predictedOf}
 use Rattle.history.proofs.Laws.{length-rescale, length-predict}
 use Rattle.attempt.specs.Attempt.{Moved}
-use Rattle.turns.specs.Ranges.{Accepted, Orders}
-use Rattle.turns.specs.Begin.{isCut, cutOf, setupOf, preparedAt, preparedOf, enteredOf, predictedAt, openedOf}
+use Rattle.between_steps.specs.Ranges.{Accepted, Orders}
+use Rattle.between_steps.specs.Begin.{isCut, cutOf, setupOf, preparedAt, preparedOf, enteredOf, predictedAt, firstPredictionOf}
 
 -- ---- one field, or some that `Orders` does not read
 
@@ -140,8 +140,8 @@ module _ (s : Settings) (c : Common) (work : List Float) where
         kflag = o .kflag; ncf = o .ncf; m = o .m; column = o .column;
       }
 
-  pub begun : Begun s c work (openedOf s c work)
-  unfolding openedOf predictedAt predictedOf
+  pub begun : Begun s c work (firstPredictionOf s c work)
+  unfolding firstPredictionOf predictedAt predictedOf
   begun =
       let q = prepared s c work in
       record {

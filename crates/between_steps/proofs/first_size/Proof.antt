@@ -7,10 +7,10 @@ use borrow.Author.Needs.{needs}
 use Rattle.numbers.specs.Float.{zeroF, oneF, _⊖_, _⊗_, _⊘_}
 use Rattle.numbers.specs.Sign.{absOf}
 use Rattle.numbers.specs.Order.{maxOf}
-use Rattle.reports.specs.Reports.{firstSizeOf}
+use Rattle.between_steps.specs.Start.{firstSizeOf}
 use lib.Ieee as Ieee
-use Rattle.reports.proofs.first_size.Statement.{statement}
-use Rattle.reports.proofs.first_size.Tie as tie
+use Rattle.between_steps.proofs.first_size.Statement.{statement}
+use Rattle.between_steps.proofs.first_size.Tie as tie
 
 abs-requires : tie.Need-abs-requires
 abs-requires c κs = search needs

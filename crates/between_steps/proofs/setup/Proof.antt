@@ -2,9 +2,9 @@
 use native.Mathlib.Omega.{arith}
 use borrow.Author.Needs.{needs}
 use Rattle.common.specs.Rules.{firstCallInitOf}
-use Rattle.turns.specs.Begin.{setupOf}
-use Rattle.turns.proofs.setup.Statement.{statement}
-use Rattle.turns.proofs.setup.Tie as tie
+use Rattle.between_steps.specs.Begin.{setupOf}
+use Rattle.between_steps.proofs.setup.Statement.{statement}
+use Rattle.between_steps.proofs.setup.Tie as tie
 
 stoda-first-call-init-requires : tie.Need-stoda-first-call-init-requires
 stoda-first-call-init-requires c κs = search needs

@@ -10,9 +10,9 @@ use Rattle.common.specs.declared.Settings.{Settings}
 use Rattle.common.specs.declared.Common.{Common}
 use Rattle.common.specs.Record.{with-tn}
 use Rattle.history.specs.Steps.{InRange}
-use Rattle.turns.specs.Ranges.{Accepted, Orders, Ranges}
-use Rattle.turns.specs.Requires.{Inside}
-use Rattle.turns.proofs.Keeps.{orders-tn}
+use Rattle.between_steps.specs.Ranges.{Accepted, Orders, Ranges}
+use Rattle.between_steps.specs.Ranges.{Inside}
+use Rattle.between_steps.proofs.Keeps.{orders-tn}
 
 module _ {s : Settings} {c : Common} where
   pub orders-range : Accepted s → c .nslp < 2 ^ 62 → Orders s c → InRange s c

@@ -1,0 +1,5 @@
+pub mod Ranges
+pub mod Begin
+pub mod Start
+pub mod Pass
+pub mod Replies
