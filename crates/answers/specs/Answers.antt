@@ -3,8 +3,8 @@
 use Prim.Native.Nat.{ℕ}
 use lib.Ieee.{Float}
 use Rattle.numbers.specs.Float.{zeroF}
-use Rattle.turns.specs.declared.Status.{Status}
-use Rattle.turns.specs.declared.Status.the-variants as Status
+use Rattle.between_steps.specs.declared.Status.{Status}
+use Rattle.between_steps.specs.declared.Status.the-variants as Status
 use Rattle.turns.specs.declared.Step.{Step}
 use Rattle.turns.specs.declared.End.{End}
 use Rattle.turns.specs.declared.Question.{Question}

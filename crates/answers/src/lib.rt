@@ -6,7 +6,7 @@ ghost use Rattle.answers.specs.Answers.{plainOf, statusNumber, firstRepo
 use refusals::Refusal;
 use turns::End;
 use turns::Question;
-use turns::Status;
+use between_steps::Status;
 use turns::Step;
 
 // Fields that a case has no use for are 0.

@@ -22,7 +22,7 @@ use Rattle.machine.specs.Resume.{unasked}
 use Rattle.session.specs.Session.{encodeOf, decodeOf, finishedIn}
 use Rattle.refusals.specs.declared.Refusal.{Refusal}
 use Rattle.refusals.specs.Refusal.{none, plain, alsoOf, inOrder, orElse}
-use Rattle.rules.specs.Play.{Given}
+use Rattle.common.specs.State.{Given}
 use Rattle.rules.specs.Rules.{Start}
 use Rattle.follows.specs.Seen.{sessionOf, withOf, next, isTaken}
 use Rattle.answers.specs.Answers.{plainOf, answerOf}

@@ -12,15 +12,16 @@ use lib.Dec.{eqb}
 use lib.Ieee.{Float}
 use Rattle.loops.specs.Test.{both}
 use Rattle.common.specs.declared.Common.{Common}
-use Rattle.turns.specs.declared.Answer.{Answer}
+use Rattle.between_steps.specs.declared.Answer.{Answer}
 use Rattle.turns.specs.declared.Question.{Question}
 use Rattle.turns.specs.declared.Question.the-variants as Question
-use Rattle.turns.specs.declared.Status.{Status}
-use Rattle.turns.specs.declared.Status.the-variants as Status
+use Rattle.between_steps.specs.declared.Status.{Status}
+use Rattle.between_steps.specs.declared.Status.the-variants as Status
 use Rattle.turns.specs.declared.Session.{Session}
 use Rattle.turns.specs.Turns.{Left}
 use Rattle.session.specs.Session.{decodeOf}
-use Rattle.rules.specs.Play.{Given, derivativeAt, jacobianAt, Ending, Play, ret, ask, tell, say}
+use Rattle.common.specs.State.{Given}
+use Rattle.rules.specs.Play.{derivativeAt, jacobianAt, Ending, Play, ret, ask, tell, say}
 use Rattle.rules.specs.Play.{finished, stepRefused, weightRefused, exhausted}
 use Rattle.rules.specs.Rules.{Start}
 use Rattle.rules.specs.Steps.{Step, Tally, requested, put-tally, noted, marked}

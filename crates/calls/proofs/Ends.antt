@@ -13,7 +13,8 @@ use Rattle.turns.specs.declared.Question.the-variants as Question
 use Rattle.turns.specs.Turns.{Left}
 use Rattle.refusals.specs.Start.{settingsOf}
 use Rattle.fits.specs.Host.{IsF64}
-use Rattle.rules.specs.Play.{Given, Play, ret, ask, tell, say}
+use Rattle.common.specs.State.{Given}
+use Rattle.rules.specs.Play.{Play, ret, ask, tell, say}
 use Rattle.rules.specs.Rules.{Start}
 use Rattle.rules.specs.Steps.{Step, noted, marked}
 use Rattle.rules.specs.Replies.{Reply as Fed, waits, fed, AllAsked}

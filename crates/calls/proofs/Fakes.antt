@@ -35,10 +35,11 @@ use Rattle.order.specs.Order as Order
 use Rattle.acceptance.specs.Accept as Accept
 use Rattle.turns.specs.declared.Phase.{Phase}
 use Rattle.turns.specs.declared.Phase.the-variants as Phase
-use Rattle.turns.specs.Begin as Begin
+use Rattle.between_steps.specs.Begin as Begin
+use Rattle.between_steps.specs.Start as Start
 use Rattle.reports.specs.Reports as Reports
 use Rattle.machine.specs.Resume.{isAsked}
-use Rattle.turns.specs.declared.Kind.the-variants as Kind
+use Rattle.between_steps.specs.declared.Kind.the-variants as Kind
 use Rattle.refusals.specs.Refusal.{alsoOf, inOrder, orElse}
 use Rattle.refusals.specs.Start as Refusals
 use Rattle.refusals.specs.Start.{startRefusalOf, settingsOf, firstStepOf}
@@ -178,7 +179,7 @@ unfolding toldBy standsAt kindOf settingsOf firstStepOf Refusals.smallestOf Refu
     Rules.start Rules.beginning Rules.started Rules.weighted Rules.sized Rules.firstAnswered Rules.solveAt Rules.step
     Rules.attempts Rules.decide Rules.tested Rules.stepped Rules.settled Rules.closed Rules.answered Rules.follow
     Rules.attempted iterated turns iterations passAt pass
-    Begin.setupOf Begin.preparedAt Begin.preparedOf Begin.predictedAt Reports.initialOf Reports.firstSizeOf
+    Begin.setupOf Begin.preparedAt Begin.preparedOf Begin.predictedAt Reports.initialOf Start.firstSizeOf
     Attempt.retractedOf Attempt.repredictOf Attempt.errorOf Attempt.shrunkOf Attempt.missedAt
     Attempt.missedOf Attempt.overshotOf Attempt.failedOf Attempt.unconvergedOf Attempt.quarteredOf
     Attempt.noConvergenceAt Attempt.noConvergenceOf Accept.correctedOf Accept.keepFamilyOf Accept.testFamilyOf

@@ -24,7 +24,7 @@ use Rattle.vectors.proofs.Laws.{length-ewset, ewset-written, inverted, stopped}
 use Rattle.common.specs.Layout.{ewt}
 use Rattle.history.specs.Columns.{copyAt, copyOf}
 use Rattle.history.proofs.Laws.{length-copy}
-use Rattle.turns.specs.Turns.{withDerivative}
+use Rattle.between_steps.specs.Start.{withDerivative}
 use Rattle.refusals.specs.declared.Refusal.{Refusal}
 use Rattle.refusals.specs.Refusal.{none}
 use Rattle.refusals.specs.Start.{settingsOf}
@@ -33,7 +33,8 @@ use Rattle.refusals.specs.Rows.{Row}
 use Rattle.refusals.proofs.Decides.{Decides}
 use Rattle.refusals.proofs.FirstStep.{step-decides}
 use Rattle.refusals.proofs.Rows.{IsFirst, After, exactly, Each, numbered}
-use Rattle.rules.specs.Play.{Given, Play, State}
+use Rattle.common.specs.State.{Given, State}
+use Rattle.rules.specs.Play.{Play}
 use Rattle.rules.specs.Rules.{Start, start, beginning, firstStep, firstWeights, weighted, sized, started}
 use Rattle.fits.specs.Host.{IsF64}
 use Rattle.answers.specs.declared.Reply.{Reply}

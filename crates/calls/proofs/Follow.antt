@@ -11,13 +11,14 @@ use lib.Dec.{eqb}
 use Rattle.turns.specs.declared.Phase.{Phase}
 use Rattle.turns.specs.declared.Question.{Question}
 use Rattle.turns.specs.declared.Question.the-variants as Question
-use Rattle.turns.specs.declared.Status.{Status}
-use Rattle.turns.specs.declared.Status.the-variants as Status
+use Rattle.between_steps.specs.declared.Status.{Status}
+use Rattle.between_steps.specs.declared.Status.the-variants as Status
 use Rattle.turns.specs.declared.Session.{Session}
 use Rattle.turns.specs.Turns.{Left}
 use Rattle.common.specs.declared.Common.{Common}
 use Rattle.refusals.specs.Start.{settingsOf}
-use Rattle.rules.specs.Play.{Given, Play}
+use Rattle.common.specs.State.{Given}
+use Rattle.rules.specs.Play.{Play}
 use Rattle.rules.specs.Rules.{Start}
 use Rattle.follows.specs.Seen.{next, step}
 use Rattle.follows.specs.Stands.{startedAt}

@@ -16,12 +16,13 @@ use Rattle.loops.specs.Part.{part, putPart, length-part}
 use Rattle.numbers.specs.Float.{zeroF}
 use Rattle.common.specs.declared.Common.{Common}
 use Rattle.common.specs.Layout.{y}
-use Rattle.turns.specs.declared.Answer.the-variants.{Continue}
+use Rattle.between_steps.specs.declared.Answer.the-variants.{Continue}
 use Rattle.turns.specs.declared.Phase.{Phase}
 use Rattle.turns.specs.declared.Question.{Question}
 use Rattle.turns.specs.declared.Question.the-variants as Question
 use Rattle.turns.specs.Turns.{Left}
-use Rattle.rules.specs.Play.{Given, Play}
+use Rattle.common.specs.State.{Given}
+use Rattle.rules.specs.Play.{Play}
 use Rattle.rules.specs.Rules.{Start}
 use Rattle.follows.specs.Seen.{Shown, snapshotOf, shownAs, isTaken, next, step}
 use Rattle.follows.specs.Stands.{derivative, answer}

@@ -18,7 +18,7 @@ use Rattle.loops.specs.Part.{part}
 use Rattle.turns.specs.declared.Phase.{Phase}
 use Rattle.turns.specs.declared.Phase.the-variants as Phase
 use Rattle.turns.specs.declared.Session.{Session}
-use Rattle.turns.specs.Ranges.{Counts, Lent}
+use Rattle.between_steps.specs.Ranges.{Counts, Lent}
 use Rattle.turns.specs.Requires.{Resumes, UnlessFinished}
 use Rattle.turns.specs.Turns.{Left}
 use Rattle.machine.proofs.Lengths.{resume-lent}
@@ -27,7 +27,7 @@ use Rattle.session.specs.Session.{encodeOf, decodeOf, rtolSlots, atolSlots, sto
 use Rattle.session.specs.Session.{tolerancesInRange, inRangeOf}
 use Rattle.session.proofs.Back.{length-encode, encoded-count, finished-encode, decode-encode, rtol-kept, atol-kept}
 use Rattle.session.proofs.Passes.{passes, tolerances-kept}
-use Rattle.rules.specs.Play.{Given}
+use Rattle.common.specs.State.{Given}
 use Rattle.rules.specs.Rules.{Start}
 use Rattle.rules.specs.Replies.{Reply as Fed}
 use Rattle.follows.specs.Seen.{sessionOf, withOf, next}

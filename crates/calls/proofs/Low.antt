@@ -33,7 +33,7 @@ use Rattle.order.specs.declared.Factors.{Factors}
 use Rattle.order.specs.Order.{Settled, heldOf, settledOf, raiseOf, lowerOf, sameLargest, chooseOf}
 use Rattle.order.specs.Order.{forgottenOf, factorsOf as sizesOf, limitedFactorsOf, raisedLeftOf, chooseOrderOf}
 use Rattle.acceptance.specs.Accept.{correctedOf, countedDown, keepFamilyOf, testedOf, testFamilyOf, acceptOf}
-use Rattle.turns.specs.Begin.{setupOf}
+use Rattle.between_steps.specs.Begin.{setupOf}
 use Rattle.fits.proofs.Floats.{either}
 
 module _ (B : ℕ) where

@@ -13,7 +13,8 @@ use Rattle.turns.specs.declared.Phase.the-variants as Phase
 use Rattle.turns.specs.declared.Question.{Question}
 use Rattle.turns.specs.declared.Question.the-variants as Question
 use Rattle.turns.specs.Turns.{Left}
-use Rattle.rules.specs.Play.{Given, Report, derivativeAt, jacobianAt}
+use Rattle.common.specs.State.{Given}
+use Rattle.rules.specs.Play.{Report, derivativeAt, jacobianAt}
 use Rattle.rules.specs.Play.{finished, stepRefused, weightRefused, exhausted, Play, ret, ask, tell, say}
 use Rattle.follows.specs.Seen.{Shown, wantsDerivative, wantsJacobian, reports, ends, refusesStep, refusesWeight}
 use Rattle.follows.specs.Seen.{refuses, stuck, wantedAt, shownAs}

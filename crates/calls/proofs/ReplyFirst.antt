@@ -21,7 +21,8 @@ use Rattle.vectors.specs.Weights.{Inversion, invertOne, invertAt, invertOf, out
 use Rattle.interpolation.proofs.Laws.{reaches}
 use Rattle.turns.specs.declared.Phase.the-variants as Phase
 use Rattle.turns.specs.declared.Session.{Session}
-use Rattle.reports.specs.Reports.{inverted, sizedAt, sizedOf, weightedAt, firstDerivativeOf}
+use Rattle.between_steps.specs.Start.{inverted}
+use Rattle.reports.specs.Reports.{sizedAt, sizedOf, weightedAt, firstDerivativeOf}
 use Rattle.machine.specs.Resume.{With, takenOf}
 use Rattle.session.specs.Session.{decodeOf, rtolOf, atolOf}
 use Rattle.answers.specs.declared.Reply.{Reply}

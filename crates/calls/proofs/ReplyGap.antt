@@ -15,7 +15,7 @@ use Rattle.family.specs.Family.{toAdamsOf, changeOf}
 use Rattle.order.specs.declared.Branch.{Branch}
 use Rattle.order.specs.declared.Branch.the-variants as Branch
 use Rattle.acceptance.specs.Accept.{correctedOf, settled, testedOf, testFamilyOf, acceptOf}
-use Rattle.turns.specs.declared.Status.the-variants as Status
+use Rattle.between_steps.specs.declared.Status.the-variants as Status
 use Rattle.turns.specs.Turns.{finishedOf}
 use Rattle.passes.specs.Pass.{acceptedAt, acceptedOf}
 use Rattle.rules.proofs.Said.{step-said}

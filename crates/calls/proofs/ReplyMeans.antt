@@ -16,20 +16,21 @@ use Rattle.numbers.specs.Float.{_⊕_, zeroF}
 use Rattle.common.specs.declared.Settings.{Settings}
 use Rattle.common.specs.declared.Common.{Common}
 use Rattle.common.specs.Record.{with-tn}
-use Rattle.turns.specs.declared.Answer.{Answer}
-use Rattle.turns.specs.declared.Answer.the-variants.{Continue, Interrupt, Modified}
-use Rattle.turns.specs.declared.Kind.{Kind}
-use Rattle.turns.specs.declared.Kind.the-variants as Kind
+use Rattle.between_steps.specs.declared.Answer.{Answer}
+use Rattle.between_steps.specs.declared.Answer.the-variants.{Continue, Interrupt, Modified}
+use Rattle.between_steps.specs.declared.Kind.{Kind}
+use Rattle.between_steps.specs.declared.Kind.the-variants as Kind
 use Rattle.turns.specs.declared.Phase.{Phase}
 use Rattle.turns.specs.declared.Phase.the-variants as Phase
 use Rattle.turns.specs.declared.Question.{Question}
 use Rattle.turns.specs.declared.Question.the-variants as Question
 use Rattle.turns.specs.declared.Session.{Session}
-use Rattle.turns.specs.declared.Status.{Status}
-use Rattle.turns.specs.declared.Status.the-variants as Status
+use Rattle.between_steps.specs.declared.Status.{Status}
+use Rattle.between_steps.specs.declared.Status.the-variants as Status
 use Rattle.turns.specs.declared.Turn.{Turn}
 use Rattle.turns.specs.Turns.{Left, askedOf, askedInStepOf, finishedOf}
-use Rattle.turns.specs.Begin.{openPassOf, beganOf, isGoing, goOnAt, goOnOf}
+use Rattle.between_steps.specs.Begin.{isGoing}
+use Rattle.turns.specs.Begin.{openPassOf, beganOf, goOnAt, goOnOf}
 use Rattle.reports.specs.Reports.{firstReportOf, afterReportOf}
 use Rattle.machine.specs.Resume.{With, isAsked, takenOf, resumeOf}
 use Rattle.session.specs.Session.{decodeOf, encodeOf, rtolOf, atolOf}

@@ -19,7 +19,8 @@ use Rattle.common.specs.declared.Settings.{Settings}
 use Rattle.turns.specs.declared.Phase.{Phase}
 use Rattle.turns.specs.declared.Phase.the-variants as Phase
 use Rattle.turns.specs.declared.Turn.{Turn}
-use Rattle.machine.specs.Resume.{With, isDerivative, isJacobian, isAnswer, isAsked}
+use Rattle.between_steps.specs.Replies.{isDerivative, isJacobian, isAnswer}
+use Rattle.machine.specs.Resume.{With, isAsked}
 use Rattle.words.specs.Words.{countsIn}
 use Rattle.words.proofs.Rows.{counts-at}
 use Rattle.fields.specs.States.{phaseOf}

@@ -33,27 +33,33 @@ use Rattle.attempt.specs.Attempt as Attempt
 use Rattle.order.specs.declared.Branch.{Branch}
 use Rattle.order.specs.declared.Branch.the-variants as Branch
 use Rattle.acceptance.specs.Accept.{acceptOf, closedOf}
-use Rattle.turns.specs.declared.Answer.{Answer}
-use Rattle.turns.specs.declared.Answer.the-variants.{Continue, Interrupt, Modified}
-use Rattle.turns.specs.declared.Kind.{Kind}
-use Rattle.turns.specs.declared.Kind.the-variants as Kind
+use Rattle.between_steps.specs.declared.Answer.{Answer}
+use Rattle.between_steps.specs.declared.Answer.the-variants.{Continue, Interrupt, Modified}
+use Rattle.between_steps.specs.declared.Kind.{Kind}
+use Rattle.between_steps.specs.declared.Kind.the-variants as Kind
 use Rattle.turns.specs.declared.Phase.{Phase}
 use Rattle.turns.specs.declared.Phase.the-variants as Phase
 use Rattle.turns.specs.declared.Question.{Question}
 use Rattle.turns.specs.declared.Question.the-variants as Question
 use Rattle.turns.specs.declared.Session.{Session}
-use Rattle.turns.specs.declared.Status.{Status}
-use Rattle.turns.specs.declared.Status.the-variants as Status
+use Rattle.between_steps.specs.declared.Status.{Status}
+use Rattle.between_steps.specs.declared.Status.the-variants as Status
 use Rattle.turns.specs.declared.Turn.{Turn}
-use Rattle.turns.specs.Turns.{Kept, Left, askedOf, askedInStepOf, finishedOf, withDerivative}
-use Rattle.turns.specs.Begin.{openPassOf, beganOf, isGoing, goOnAt, goOnOf}
+use Rattle.between_steps.specs.Start.{withDerivative}
+use Rattle.turns.specs.Turns.{Kept, Left, askedOf, askedInStepOf, finishedOf}
+use Rattle.between_steps.specs.Begin.{isGoing}
+use Rattle.turns.specs.Begin.{openPassOf, beganOf, goOnAt, goOnOf}
 use Rattle.passes.specs.Pass.{attemptedAt, attemptedOf, reportedOf, closedAt, closeOf, acceptedAt, acceptedOf}
-use Rattle.passes.specs.Pass.{convergedAt, convergedOf, unconvergedOf, concludedAt, verdictOf, iterateOf}
-use Rattle.passes.specs.Pass.{iterationsOf, factoredAt, factoredOf, askColumnOf, isSupplied}
+use Rattle.between_steps.specs.Pass.{verdictOf}
+use Rattle.passes.specs.Pass.{convergedAt, convergedOf, unconvergedOf, concludedAt, iterateOf}
+use Rattle.between_steps.specs.Pass.{isSupplied}
+use Rattle.passes.specs.Pass.{iterationsOf, factoredAt, factoredOf, askColumnOf}
 use Rattle.passes.specs.Pass.{beginJacobianAt, beginJacobianOf, openedAt, openedOf, jacobianOf, columnAt, columnOf}
 use Rattle.passes.specs.Pass.{furtherOf, restepOf}
-use Rattle.reports.specs.Reports.{sizedAt, sizedOf, firstStepOf, weightedAt, firstDerivativeOf, firstReportOf}
-use Rattle.reports.specs.Reports.{firstModifiedOf, afterReportOf, restartOf, modifiedOf}
+use Rattle.between_steps.specs.Start.{firstStepOf}
+use Rattle.reports.specs.Reports.{sizedAt, sizedOf, weightedAt, firstDerivativeOf, firstReportOf}
+use Rattle.between_steps.specs.Start.{restartOf}
+use Rattle.reports.specs.Reports.{firstModifiedOf, afterReportOf, modifiedOf}
 use Rattle.machine.specs.Resume.{With, isAsked, takenOf, resumeOf}
 use Rattle.calls.specs.ReplyMeans.{Kinds, Numbers, AtReport, Ended, Meant}
 use Rattle.calls.proofs.ReplyGap.{gap-held}

@@ -22,7 +22,8 @@ use Rattle.turns.specs.declared.Phase.the-variants as Phase
 use Rattle.turns.specs.declared.Question.{Question}
 use Rattle.turns.specs.declared.Question.the-variants as Question
 use Rattle.turns.specs.Turns.{Left}
-use Rattle.rules.specs.Play.{Given, Play, ret, ask, tell, say, derivativeAt, jacobianAt}
+use Rattle.common.specs.State.{Given}
+use Rattle.rules.specs.Play.{Play, ret, ask, tell, say, derivativeAt, jacobianAt}
 use Rattle.rules.specs.Play.{finished, stepRefused, weightRefused, exhausted}
 use Rattle.follows.specs.Seen.{shownAs}
 use Rattle.follows.specs.Seen as Seen

@@ -14,11 +14,12 @@ use lib.ListN.{length}
 use borrow.Author.Tests.{eqb-true, leb-true}
 use Rattle.loops.specs.Test.{both}
 use Rattle.turns.specs.declared.Question.{Question}
-use Rattle.turns.specs.declared.Status.{Status}
-use Rattle.turns.specs.declared.Status.the-variants as Status
+use Rattle.between_steps.specs.declared.Status.{Status}
+use Rattle.between_steps.specs.declared.Status.the-variants as Status
 use Rattle.turns.specs.Turns.{Left}
-use Rattle.machine.specs.Resume.{isDerivative, isJacobian, isAnswer as isReply}
-use Rattle.rules.specs.Play.{Given, derivativeAt, jacobianAt, Play, ret, ask, tell, say}
+use Rattle.between_steps.specs.Replies.{isDerivative, isJacobian, isAnswer as isReply}
+use Rattle.common.specs.State.{Given}
+use Rattle.rules.specs.Play.{derivativeAt, jacobianAt, Play, ret, ask, tell, say}
 use Rattle.rules.specs.Play.{finished, stepRefused, weightRefused, exhausted}
 use Rattle.follows.specs.Seen.{asks}
 use Rattle.follows.specs.Stands.{Stands}

@@ -30,7 +30,7 @@ use Rattle.session.proofs.Back.{length-encode, encoded-count, finished-encode, 
 use Rattle.session.proofs.Back.{length-put-tolerances, put-other, counts-put, decode-put, rtol-put, atol-put}
 use Rattle.session.proofs.Back.{rtol-slot, atol-slot}
 use Rattle.session.proofs.Passes.{assembled, counts-fit, fields-in-range, pivots-in-range, tolerances-put}
-use Rattle.rules.specs.Play.{Given}
+use Rattle.common.specs.State.{Given}
 use Rattle.rules.specs.Rules.{Start, beginning}
 use Rattle.follows.specs.Seen.{sessionOf, after}
 use Rattle.follows.specs.Stands.{startedAt}

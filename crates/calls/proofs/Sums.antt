@@ -34,7 +34,9 @@ use Rattle.corrector.specs.Iterate.{openOf, adamsResidualOf, adamsUpdateOf, ada
 use Rattle.attempt.specs.Attempt as Attempt
 use Rattle.acceptance.specs.Accept as Accept
 use Rattle.turns.specs.Turns.{askedInStepOf, finishedOf}
-use Rattle.turns.specs.Begin as Begin
+use Rattle.between_steps.specs.Begin as Begin
+use Rattle.between_steps.specs.Start as Start
+use Rattle.turns.specs.Begin as Turns
 use Rattle.passes.specs.Pass as Pass
 use Rattle.reports.specs.Reports as Reports
 use Rattle.machine.specs.Resume.{takenOf, resumeOf}
@@ -44,7 +46,7 @@ use Rattle.refusals.specs.Start as Refusals
 use Rattle.refusals.specs.Start.{startRefusalOf, settingsOf, firstStepOf}
 use Rattle.fields.specs.Fields.{Fit}
 use Rattle.session.specs.Session.{ListFits}
-use Rattle.rules.specs.Play.{Given}
+use Rattle.common.specs.State.{Given}
 use Rattle.rules.specs.Rules.{Start, beginning}
 use Rattle.turns.specs.Turns.{Left}
 use Rattle.follows.specs.Seen.{Shown, wantsDerivative, wantsJacobian, reports, ends, refusesStep, refusesWeight}
@@ -238,10 +240,10 @@ accepted = (refl, refl, refl, refl)
 computed : Ends row8 × Ends row9 × Ends row10 × Ends row11 × Ends row12
 unfolding allowed hosted shownAs settingsOf firstStepOf Refusals.smallestOf Refusals.largestOf Refusals.inverseOf
     Refusals.inverseLargestOf beginning takenOf resumeOf askedInStepOf finishedOf
-    Begin.setupOf Begin.preparedAt Begin.preparedOf Begin.openPassOf Begin.predictedAt Begin.openedOf Begin.beganOf
-    Begin.goOnAt Begin.goOnOf Pass.attemptedAt Pass.reportedOf Pass.closedAt Pass.closeOf Pass.acceptedAt
+    Begin.setupOf Begin.preparedAt Begin.preparedOf Begin.predictedAt Begin.firstPredictionOf Turns.openPassOf
+    Turns.beganOf Turns.goOnAt Turns.goOnOf Pass.attemptedAt Pass.reportedOf Pass.closedAt Pass.closeOf Pass.acceptedAt
     Pass.acceptedOf Pass.convergedAt Pass.convergedOf Pass.unconvergedOf Pass.concludedAt Pass.iterateOf
-    Pass.iterationsOf Pass.openedAt Pass.openedOf Pass.furtherOf Reports.initialOf Reports.firstSizeOf
+    Pass.iterationsOf Pass.openedAt Pass.openedOf Pass.furtherOf Reports.initialOf Start.firstSizeOf
     Reports.sizedAt Reports.sizedOf Reports.weightedAt Reports.firstDerivativeOf Reports.firstReportOf
     Reports.afterReportOf Attempt.retractedOf Attempt.repredictOf Attempt.errorOf Attempt.shrunkOf Attempt.missedAt
     Attempt.missedOf Attempt.overshotOf Attempt.failedOf Attempt.unconvergedOf Attempt.quarteredOf

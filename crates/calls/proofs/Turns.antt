@@ -31,26 +31,33 @@ use Rattle.attempt.specs.Attempt as Attempt
 use Rattle.order.specs.declared.Branch.{Branch}
 use Rattle.order.specs.declared.Branch.the-variants as Branch
 use Rattle.acceptance.specs.Accept.{acceptOf, closedOf}
-use Rattle.turns.specs.declared.Answer.{Answer}
-use Rattle.turns.specs.declared.Answer.the-variants.{Continue, Interrupt, Modified}
-use Rattle.turns.specs.declared.Kind.{Kind}
-use Rattle.turns.specs.declared.Kind.the-variants as Kind
+use Rattle.between_steps.specs.declared.Answer.{Answer}
+use Rattle.between_steps.specs.declared.Answer.the-variants.{Continue, Interrupt, Modified}
+use Rattle.between_steps.specs.declared.Kind.{Kind}
+use Rattle.between_steps.specs.declared.Kind.the-variants as Kind
 use Rattle.turns.specs.declared.Phase.{Phase}
 use Rattle.turns.specs.declared.Phase.the-variants as Phase
 use Rattle.turns.specs.declared.Question.{Question}
 use Rattle.turns.specs.declared.Question.the-variants as Question
 use Rattle.turns.specs.declared.Session.{Session}
 use Rattle.turns.specs.declared.Turn.{Turn}
-use Rattle.turns.specs.Turns.{Kept, Left, askedOf, askedInStepOf, finishedOf, withDerivative}
-use Rattle.turns.specs.Begin.{isCut, cutOf, preparedAt, preparedOf, predictedAt, openPassOf}
-use Rattle.turns.specs.Begin.{beganOf, isGoing, goOnAt, goOnOf}
-use Rattle.turns.specs.Begin as Begin
+use Rattle.between_steps.specs.Start.{withDerivative}
+use Rattle.turns.specs.Turns.{Kept, Left, askedOf, askedInStepOf, finishedOf}
+use Rattle.between_steps.specs.Begin.{isCut, cutOf, preparedAt, preparedOf, predictedAt}
+use Rattle.turns.specs.Begin.{openPassOf}
+use Rattle.between_steps.specs.Begin.{isGoing}
+use Rattle.turns.specs.Begin.{beganOf, goOnAt, goOnOf}
+use Rattle.between_steps.specs.Begin.{firstPredictionOf}
 use Rattle.passes.specs.Pass.{attemptedAt, reportedOf, closedAt, closeOf, acceptedAt, acceptedOf, convergedAt}
-use Rattle.passes.specs.Pass.{convergedOf, unconvergedOf, concludedAt, verdictOf, iterateOf, iterationsOf, factoredAt}
-use Rattle.passes.specs.Pass.{factoredOf, askColumnOf, isSupplied, beginJacobianAt, beginJacobianOf}
+use Rattle.between_steps.specs.Pass.{verdictOf}
+use Rattle.passes.specs.Pass.{convergedOf, unconvergedOf, concludedAt, iterateOf, iterationsOf, factoredAt}
+use Rattle.between_steps.specs.Pass.{isSupplied}
+use Rattle.passes.specs.Pass.{factoredOf, askColumnOf, beginJacobianAt, beginJacobianOf}
 use Rattle.passes.specs.Pass.{openedAt, openedOf, jacobianOf, columnAt, columnOf, furtherOf, restepOf}
-use Rattle.reports.specs.Reports.{sizedAt, sizedOf, firstStepOf, weightedAt, firstDerivativeOf, firstReportOf}
-use Rattle.reports.specs.Reports.{firstModifiedOf, afterReportOf, restartOf, modifiedOf}
+use Rattle.between_steps.specs.Start.{firstStepOf}
+use Rattle.reports.specs.Reports.{sizedAt, sizedOf, weightedAt, firstDerivativeOf, firstReportOf}
+use Rattle.between_steps.specs.Start.{restartOf}
+use Rattle.reports.specs.Reports.{firstModifiedOf, afterReportOf, modifiedOf}
 use Rattle.machine.specs.Resume.{With, isAsked, unasked, takenOf, resumeOf}
 use Rattle.fields.specs.States.{phaseNumber}
 use Rattle.calls.proofs.Low.{Low, small, adjust-low, setup-low, predicted-low, no-convergence-low, failed-low}
@@ -114,7 +121,7 @@ module _ (B : ℕ) where
     prepared-at false false c work f = f
 
     began-well : (c : Common) (work : List Float) → Low B c → KeptWell (beganOf s c work)
-    unfolding beganOf Begin.openedOf preparedOf predictedAt
+    unfolding beganOf firstPredictionOf preparedOf predictedAt
     began-well c work f =
         open-pass (s .n) _ _ (predicted-low B s _ (prepared-at (isCut s c) (c .setup) c work f))
 

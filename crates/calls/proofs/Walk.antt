@@ -17,7 +17,7 @@ use borrow.Author.Tests.{eqb-true}
 use Rattle.loops.specs.Test.{both}
 use Rattle.loops.specs.Part.{part, putPart}
 use Rattle.numbers.specs.Float.{zeroF}
-use Rattle.turns.specs.declared.Kind.{Kind}
+use Rattle.between_steps.specs.declared.Kind.{Kind}
 use Rattle.turns.specs.declared.Phase.{Phase}
 use Rattle.turns.specs.declared.Phase.the-variants as Phase
 use Rattle.turns.specs.Turns.{Left}
@@ -27,7 +27,8 @@ use Rattle.refusals.specs.Start.{settingsOf}
 use Rattle.fits.specs.Host.{IsF64}
 use Rattle.fits.proofs.Host.{is-f64-fits}
 use Rattle.session.specs.Session.{encodeOf}
-use Rattle.rules.specs.Play.{Given, Play}
+use Rattle.common.specs.State.{Given}
+use Rattle.rules.specs.Play.{Play}
 use Rattle.rules.specs.Rules.{Start, beginning, start}
 use Rattle.rules.specs.Replies.{Reply as Fed}
 use Rattle.follows.specs.Seen.{sessionOf, withOf, next, after, isTaken, asks, step}

@@ -10,10 +10,10 @@ use lib.Ieee.{Float, nan}
 use Rattle.numbers.specs.Float.{_⊕_, _⊖_, _⊗_, zeroF}
 use Rattle.numbers.specs.Sign.{absOf}
 use Rattle.vectors.specs.Tolerance.{toleranceOf}
-use Rattle.reports.specs.Reports.{inverted}
+use Rattle.between_steps.specs.Start.{inverted}
 use Rattle.refusals.specs.FirstStep.{StepRefused}
 use Rattle.refusals.specs.Rows.{Row, ExactlyFirst}
-use Rattle.rules.specs.Play.{State}
+use Rattle.common.specs.State.{State}
 use Rattle.rules.specs.Pass.{put-w}
 use Rattle.rules.specs.Rules.{beginning, firstStep, firstWeights}
 use Rattle.answers.specs.Answers.{refusedOf}

@@ -15,8 +15,8 @@ use Rattle.vectors.specs.Weights.{ewsetOf}
 use Rattle.common.specs.Layout.{ewt}
 use Rattle.history.specs.Columns.{copyOf}
 use Rattle.turns.specs.declared.Phase.the-variants as Phase
-use Rattle.turns.specs.Turns.{withDerivative}
-use Rattle.reports.specs.Reports.{inverted, firstStepOf}
+use Rattle.between_steps.specs.Start.{withDerivative}
+use Rattle.between_steps.specs.Start.{inverted, firstStepOf}
 use Rattle.session.specs.Session.{decodeOf, rtolOf, atolOf}
 use Rattle.answers.specs.Answers.{plainOf}
 use Rattle.answers.specs.Called.{Buffers}

@@ -19,20 +19,21 @@ use Rattle.common.specs.Rules.{tinyOf}
 use Rattle.order.specs.declared.Branch.the-variants.{CoefficientGap}
 use Rattle.acceptance.specs.Accept.{acceptOf}
 use Rattle.turns.specs.declared.At.{At}
-use Rattle.turns.specs.declared.Answer.the-variants as Answer
+use Rattle.between_steps.specs.declared.Answer.the-variants as Answer
 use Rattle.turns.specs.declared.End.{End}
-use Rattle.turns.specs.declared.Kind.{Kind}
-use Rattle.turns.specs.declared.Kind.the-variants as Kind
+use Rattle.between_steps.specs.declared.Kind.{Kind}
+use Rattle.between_steps.specs.declared.Kind.the-variants as Kind
 use Rattle.turns.specs.declared.Phase.{Phase}
 use Rattle.turns.specs.declared.Phase.the-variants as Phase
 use Rattle.turns.specs.declared.Question.{Question}
 use Rattle.turns.specs.declared.Question.the-variants as Question
-use Rattle.turns.specs.declared.Status.{Status}
-use Rattle.turns.specs.declared.Status.the-variants as Status
+use Rattle.between_steps.specs.declared.Status.{Status}
+use Rattle.between_steps.specs.declared.Status.the-variants as Status
 use Rattle.turns.specs.declared.Step.{Step}
 use Rattle.turns.specs.declared.Turn.{Turn}
-use Rattle.turns.specs.Begin.{isGoing}
-use Rattle.passes.specs.Pass.{isSupplied, acceptedOf}
+use Rattle.between_steps.specs.Begin.{isGoing}
+use Rattle.between_steps.specs.Pass.{isSupplied}
+use Rattle.passes.specs.Pass.{acceptedOf}
 use Rattle.session.specs.Session.{decodeOf, encodeOf}
 use Rattle.refusals.specs.Rows.{NoneHolds}
 use Rattle.answers.specs.declared.Reply.{Reply}

@@ -24,7 +24,7 @@ use Rattle.common.specs.declared.Settings.{Settings}
 use Rattle.turns.specs.declared.Phase.{Phase}
 use Rattle.turns.specs.declared.Phase.the-variants as Phase
 use Rattle.turns.specs.declared.Session.{Session}
-use Rattle.turns.specs.Ranges.{Ranges}
+use Rattle.between_steps.specs.Ranges.{Ranges}
 use Rattle.words.specs.Words.{word, float, countsIn, slotOf}
 use Rattle.fields.specs.States.{flagNumber, familyNumber, phaseNumber}
 use Rattle.fields.specs.Fields.{countsOf, lowest, highest, CountsFit, Fits}

@@ -3,7 +3,7 @@ ghost use mathlib.Core.Path.{_≡_};
 ghost use Prim.Native.Nat.{ℕ, _+_, _*_, _≤_};
 ghost use lib.ListN.{length};
 ghost use Rattle.loops.specs.For.{for};
-ghost use Rattle.turns.specs.Ranges.{Accepted};
+ghost use Rattle.between_steps.specs.Ranges.{Accepted};
 ghost use Rattle.answers.specs.Called.{Called};
 ghost use Rattle.starts.specs.Starts.{laidOf, beganOf, clearedOf, keptOf};
 
