@@ -1,48 +1,110 @@
--- What the functions inside a reply ask of the record (`Inside`) holds at each of their calls between steps.
---     orders-range, in-range     what a step's functions ask
---     inside-ranges              a session in range
---     inside-tn                  another time
+-- What the functions inside a reply ask of the record (`Inside`) holds at each of their calls: it is `Within` with one
+-- step under way, and bounds on the counts.
+--     inside-ranges                  a session in range
+--     in-range, ready                what a step's functions ask
+--     inside-tn, inside-restart, inside-column, inside-open, inside-judged, inside-factored     what each change keeps
+--     lent-length, lent-factored     the work and the pivots after a change
 -- Assumes nothing.
-use Prim.Native.Nat.{_^_, _<_}
+use mathlib.Core.Path.{_≡_, _∙_}
+use mathlib.Core.List.{List}
+use Prim.Native.Nat.{ℕ, _+_, _^_, _<_}
 use native.Mathlib.Omega.{arith}
 use lib.Ieee.{Float}
+use lib.ListN.{length}
 use Rattle.common.specs.declared.Settings.{Settings}
 use Rattle.common.specs.declared.Common.{Common}
-use Rattle.common.specs.Record.{with-tn}
+use Rattle.common.specs.Record.{with-tn, with-column}
 use Rattle.history.specs.Steps.{InRange}
-use Rattle.between_steps.specs.Ranges.{Accepted, Orders, Ranges}
-use Rattle.between_steps.specs.Ranges.{Inside}
-use Rattle.between_steps.proofs.Keeps.{orders-tn}
+use Rattle.jacobian.specs.Jacobian.{finishedOf}
+use Rattle.jacobian.proofs.Laws.{length-finished, length-finished-ipiv, finished-below}
+use Rattle.verdict.specs.declared.Correction.{Correction}
+use Rattle.verdict.specs.Verdict.{judgeOf}
+use Rattle.verdict.proofs.Laws.{same-judge}
+use Rattle.corrector.specs.Iterate.{openOf}
+use Rattle.order.proofs.Ranges.{Ready}
+use Rattle.between_steps.specs.Ranges.{Ranges, Inside, Lent}
+use Rattle.between_steps.specs.Begin.{preparedOf}
+use Rattle.between_steps.specs.Start.{restartOf}
+use Rattle.between_steps.proofs.Within.{coreOf, Within, orders-of, range-of, ready-of, within-open, within-judged}
+use Rattle.between_steps.proofs.Within.{within-factored, within-column, within-restart, within-prepared}
 
-module _ {s : Settings} {c : Common} where
-  pub orders-range : Accepted s → c .nslp < 2 ^ 62 → Orders s c → InRange s c
-  orders-range a few o =
+pub inside-ranges : {s : Settings} {c : Common} → Ranges s c → Inside s c
+inside-ranges p =
+    let k = p .counts in
+    record {
+      settings = p .settings;
+      orders = p .orders;
+      steps = (omega (arith, k .nslp), omega (arith, k .nst));
+      counts = (omega (arith, k .nfe), omega (arith, k .count), omega (arith, k .rejected));
+    }
+
+-- nst stays inside a reply until a step is accepted, so icount stays at least 20
+module _ {s : Settings} {c : Common} (p : Inside s c) where
+  abbrev Core-of : Common → Type 0
+  Core-of d = Within s (20 + c .nst) (c .nst + 1) 1 (coreOf d)
+
+  within-of : Core-of c
+  within-of =
+      let o = p .orders in
       record {
-        n = a .n;
-        order = o .nq;
-        table = omega (arith, o .table);
-        used = (o .nqnyh .1, o .nqnyh .2);
-        steps = (few, a .msbp);
+        nq = o .nq; lmax = o .lmax; nqnyh = o .nqnyh; table = o .table; ialth = o .ialth;
+        icount = (omega (arith, o .icount), o .icount .1);
+        kflag = o .kflag; ncf = o .ncf; m = o .m; column = o .column; nslp = p .steps .0; steps = omega arith;
       }
 
-  pub in-range : Inside s c → InRange s c
-  in-range p = orders-range (p .settings) (p .steps .0) (p .orders)
+  inside-by : (d : Common) → Core-of d → (d .nfe < 2 ^ 63) × (d .count < 2 ^ 63) × (d .rejected < 2 ^ 63) → Inside s d
+  inside-by d q k = record {
+    settings = p .settings;
+    orders = orders-of (p .settings) d q (omega arith);
+    steps = (q .nslp, omega (arith, q .steps, p .steps));
+    counts = k;
+  }
 
-  pub inside-ranges : Ranges s c → Inside s c
-  inside-ranges p =
-      let k = p .counts in
-      record {
-        settings = p .settings;
-        orders = p .orders;
-        steps = (omega (arith, k .nslp), omega (arith, k .nst));
-        counts = (omega (arith, k .nfe), omega (arith, k .count), omega (arith, k .rejected));
-      }
+  pub in-range : InRange s c
+  in-range = range-of (p .settings) c within-of
 
-  pub inside-tn : (t : Float) → Inside s c → Inside s (with-tn t c)
-  inside-tn t p =
-      record {
-        settings = p .settings;
-        orders = orders-tn (p .orders) t;
-        steps = p .steps;
-        counts = p .counts;
-      }
+  pub prepared-range : (work : List Float) → InRange s (preparedOf s c work .common)
+  prepared-range work = range-of (p .settings) _ (within-prepared (p .settings) c within-of work)
+
+  -- what an accepted step asks
+  pub ready : Ready s c
+  ready = ready-of (p .settings) c within-of
+
+  pub inside-tn : (t : Float) → Inside s (with-tn t c)
+  inside-tn t = inside-by (with-tn t c) within-of (p .counts)
+
+  pub inside-restart : Inside s (restartOf c)
+  inside-restart = inside-by (restartOf c) (within-restart (p .settings) c within-of) (p .counts)
+
+  pub inside-column : (j : ℕ) → j < s .n → Inside s (with-column j c)
+  inside-column j h = inside-by (with-column j c) (within-column (p .settings) c within-of j h) (p .counts)
+
+  pub inside-open : Inside s (openOf c)
+  unfolding openOf
+  inside-open = inside-by (openOf c) (within-open (p .settings) c within-of) (p .counts)
+
+  pub inside-judged : (x : Correction) (pnorm : Float) → Inside s (judgeOf s c x pnorm .common)
+  inside-judged x pnorm =
+      let q = same-judge s c x pnorm in
+      inside-by _ (within-judged (p .settings) c within-of x pnorm) (rw (q .nfe, q .count, q .rejected) (p .counts))
+
+  pub inside-factored : (work : List Float) (ipiv : List ℕ) → Inside s (finishedOf s c work ipiv .common)
+  unfolding finishedOf
+  inside-factored work ipiv =
+      inside-by (finishedOf s c work ipiv .common)
+      (within-factored (p .settings) c within-of (p .steps .1) work ipiv) (p .counts)
+
+-- ---- the work and the pivots
+
+-- another work of the same length
+pub lent-length : {n : ℕ} {work : List Float} {ipiv : List ℕ} (w : List Float) → length w ≡ length work
+    → Lent n work ipiv → Lent n w ipiv
+lent-length w e p = record { sized = e ∙ p .sized; pivots = p .pivots; below = p .below }
+
+pub lent-factored : (s : Settings) (c : Common) (work : List Float) (ipiv : List ℕ) → Lent (s .n) work ipiv
+    → Lent (s .n) (finishedOf s c work ipiv .work) (finishedOf s c work ipiv .ipiv)
+lent-factored s c work ipiv p = record {
+  sized = length-finished s c work ipiv ∙ p .sized;
+  pivots = length-finished-ipiv s c work ipiv ∙ p .pivots;
+  below = finished-below s c work ipiv (p .below);
+}

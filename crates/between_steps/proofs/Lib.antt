@@ -1,2 +1,3 @@
-pub mod Keeps
+pub mod Within
 pub mod Inside
+pub mod Lengths

@@ -4,13 +4,17 @@
 -- Assumes nothing.
 use mathlib.Core.List.{List, [], _∷_}
 use mathlib.Core.Path.{_≡_, _∙_}
-use Prim.Native.Nat.{ℕ, _+_, _-_, _*_, _^_}
+use Prim.Native.Nat.{ℕ, _-_, _^_}
 use native.Mathlib.Omega.{arith}
+use lib.Ieee.{Float}
 use lib.ListN.{length, replicate, length-replicate, getD-replicate}
 use Rattle.loops.specs.Part.{length-putPart}
 use Rattle.numbers.specs.Float.{zeroF}
 use Rattle.common.specs.State.{Given}
+use Rattle.common.specs.Layout.{yAt, workLength}
+use Rattle.common.specs.Rules.{icount20}
 use Rattle.between_steps.specs.Ranges.{Counts, Lent}
+use Rattle.between_steps.proofs.Within.{coreOf, Within, orders-of}
 use Rattle.turns.specs.declared.Phase.{Phase}
 use Rattle.turns.specs.declared.Phase.the-variants as Phase
 use Rattle.turns.specs.Requires.{Resumes, UnlessFinished}
@@ -21,15 +25,30 @@ use Rattle.rules.specs.Steps.{Step}
 use Rattle.rules.specs.Replies.{Reply, fed}
 use Rattle.rules.specs.Counts.{Counted, CountedAt}
 use Rattle.rules.proofs.Demands.{counts-kept, counts-below}
+use Rattle.invariants.proofs.Keeps.{Invariant, Held, HoldsLeft, each, Keeps}
+use Rattle.invariants.proofs.Walk.{resume-keeps}
+use Rattle.invariants.proofs.Lent.{lent-keeps}
+use Rattle.invariants.proofs.Ranges.{Closing, closing-of, Ranged, Closed, ranges-keep, within-initial}
 use Rattle.follows.specs.Seen.{sessionOf, withOf, next, after}
 use Rattle.follows.specs.Stands.{startedAt}
 use Rattle.follows.specs.Follows.{stateAt}
 use Rattle.follows.specs.InRun.{Accepts, SessionKept}
 use Rattle.follows.proofs.Follows.{follows}
-use Rattle.follows.proofs.Ranges.{coreOf, Within, orders-of, within-initial}
-use Rattle.follows.proofs.Closing.{Closing, closing-of}
-use Rattle.follows.proofs.Session.{underWay, Either, FineLeft}
-use Rattle.follows.proofs.Resumed.{resume-fine}
+
+-- what holds while a run goes on
+unless : {B S O X : Type 0} (phase : Phase) → (B → X) → (S → X) → (O → Unit {0}) → Held phase B S O
+    → UnlessFinished phase X
+unless Phase.FirstDerivative b s o h = b h
+unless Phase.FirstReport b s o h = b h
+unless Phase.FirstModified b s o h = b h
+unless Phase.Opened b s o h = s h
+unless Phase.JacobianAsked b s o h = s h
+unless Phase.DifferenceColumn b s o h = s h
+unless Phase.FurtherDerivative b s o h = s h
+unless Phase.Restep b s o h = s h
+unless Phase.Report b s o h = b h
+unless Phase.Modified b s o h = b h
+unless Phase.Finished b s o h = tt
 
 -- ---- the start
 
@@ -38,72 +57,42 @@ module _ (g : Given) (a : Start) (ok : Accepts g a) where
   unfolding beginning
   lent-start =
       let n = g .s .n in
-      let zeros = replicate (n * n + 19 * n) zeroF in
-      let long : length zeros ≡ n * n + 19 * n = length-replicate _ _ in
+      let zeros = replicate (workLength n) zeroF in
+      let long : length zeros ≡ workLength n = length-replicate _ _ in
       record {
-        sized = length-putPart (17 * n) n zeros (omega arith) (a .y0) (ok .sized) ∙ long;
+        sized = length-putPart (yAt n) n zeros (omega arith) (a .y0) (ok .sized) ∙ long;
         pivots = length-replicate _ _;
         below = λ k h. omega (arith, getD-replicate {A = ℕ} n k 0 0 h);
       }
 
-  fine-start : FineLeft (g .s) (startedAt g a)
-  unfolding beginning
-  fine-start = (within-initial (g .s) (ok .settings) (a .x0) (a .h) (a .hmin) (a .hmxi), lent-start)
-
   -- ---- the replies
 
-  fine-after : (l : Left) (rs : List Reply) → FineLeft (g .s) l → FineLeft (g .s) (after g l rs)
+  -- what a reply keeps a list of replies keeps
+  after-keeps : {B S O : Invariant} → ((time : Float) → Keeps (g .s) (g .rtol) (g .atol) time B S O) → (l : Left)
+      (rs : List Reply) → HoldsLeft B S O l → HoldsLeft B S O (after g l rs)
   unfolding after
-  fine-after l [] p = p
-  fine-after l (r ∷ rs) p =
-      fine-after (next g l r) rs
-      (resume-fine (g .s) (ok .settings) (l .turn .common) (l .turn .phase) (r .kind) (r .numbers) (r .time)
-      (withOf g l) p)
+  after-keeps k l [] h = h
+  after-keeps k l (r ∷ rs) h =
+      after-keeps k (next g l r) rs
+      (resume-keeps (sessionOf g l) (r .kind) (r .numbers) (r .time) (withOf g l) (k (r .time)) h)
 
-  module _ (l : Left) (k : Counts (l .turn .common) (2 ^ 62 - 1)) where
-    abbrev Ranged : ℕ → Type 0
-    Ranged under = Within (g .s) under (coreOf (l .turn .common)) × Lent (g .s .n) (l .work) (l .ipiv)
+  -- at most as many steps as may be, so icount is at least 20
+  abbrev Kept : Left → Type 0
+  Kept l = HoldsLeft (Ranged (g .s) icount20 (g .s .maxsteps) 0) (Ranged (g .s) icount20 (g .s .maxsteps) 1)
+      (Closed (g .s) icount20 (g .s .maxsteps)) l
 
-    resumes : (under : ℕ) → Ranged under → Resumes (sessionOf g l) (g .rtol) (g .atol) (l .work) (l .ipiv)
-    resumes under p =
-        record {
-          ranges = record {
-            settings = ok .settings;
-            counts = k;
-            orders = orders-of (g .s) (ok .settings) under (l .turn .common) (p .0);
-          };
-          relative = ok .relative;
-          absolute = ok .absolute;
-          lent = p .1;
-        }
+  kept-after : (rs : List Reply) → Kept (after g (startedAt g a) rs)
+  unfolding beginning
+  kept-after rs =
+      after-keeps
+      (ranges-keep (g .s) icount20 (g .s .maxsteps) (ok .settings) (omega arith) (omega (arith, ok .settings .maxsteps))
+      (g .rtol) (g .atol))
+      (startedAt g a) rs (within-initial (g .s) (ok .settings) (a .x0) (a .h) (a .hmin) (a .hmxi))
 
-    in-run : (phase : Phase) → Either phase (Ranged (underWay phase)) (Closing (g .s) (coreOf (l .turn .common)))
-        → UnlessFinished phase (Resumes (sessionOf g l) (g .rtol) (g .atol) (l .work) (l .ipiv))
-    in-run Phase.FirstDerivative p = resumes _ p
-    in-run Phase.FirstReport p = resumes _ p
-    in-run Phase.FirstModified p = resumes _ p
-    in-run Phase.Opened p = resumes _ p
-    in-run Phase.JacobianAsked p = resumes _ p
-    in-run Phase.DifferenceColumn p = resumes _ p
-    in-run Phase.FurtherDerivative p = resumes _ p
-    in-run Phase.Restep p = resumes _ p
-    in-run Phase.Report p = resumes _ p
-    in-run Phase.Modified p = resumes _ p
-    in-run Phase.Finished p = tt
-
-    closing : (phase : Phase) → Either phase (Ranged (underWay phase)) (Closing (g .s) (coreOf (l .turn .common)))
-        → Closing (g .s) (coreOf (l .turn .common))
-    closing Phase.FirstDerivative p = closing-of (p .0)
-    closing Phase.FirstReport p = closing-of (p .0)
-    closing Phase.FirstModified p = closing-of (p .0)
-    closing Phase.Opened p = closing-of (p .0)
-    closing Phase.JacobianAsked p = closing-of (p .0)
-    closing Phase.DifferenceColumn p = closing-of (p .0)
-    closing Phase.FurtherDerivative p = closing-of (p .0)
-    closing Phase.Restep p = closing-of (p .0)
-    closing Phase.Report p = closing-of (p .0)
-    closing Phase.Modified p = closing-of (p .0)
-    closing Phase.Finished p = p
+  lent-after : (rs : List Reply) → let l = after g (startedAt g a) rs in Lent (g .s .n) (l .work) (l .ipiv)
+  lent-after rs =
+      each (after g (startedAt g a) rs .turn .phase) (λ h. h) (λ h. h) (λ h. h)
+      (after-keeps (lent-keeps (g .s) (g .rtol) (g .atol)) (startedAt g a) rs lent-start)
 
   pub counts-after : (rs : List Reply) → Counts (after g (startedAt g a) rs .turn .common) (2 ^ 62 - 1)
   counts-after rs =
@@ -120,10 +109,24 @@ module _ (g : Given) (a : Start) (ok : Accepts g a) where
 
   pub closing-after : (rs : List Reply) → Closing (g .s) (coreOf (after g (startedAt g a) rs .turn .common))
   closing-after rs =
-      let l = after g (startedAt g a) rs in
-      closing l (counts-after rs) (l .turn .phase) (fine-after (startedAt g a) rs fine-start)
+      each (after g (startedAt g a) rs .turn .phase) (λ h. closing-of h) (λ h. closing-of h) (λ h. h) (kept-after rs)
 
   pub session-kept : SessionKept g a
   session-kept rs =
       let l = after g (startedAt g a) rs in
-      in-run l (counts-after rs) (l .turn .phase) (fine-after (startedAt g a) rs fine-start)
+      unless (l .turn .phase) (λ h. resumes 0 h) (λ h. resumes 1 h) (λ h. tt) (kept-after rs)
+    where
+      resumes : (under : ℕ) → let l = after g (startedAt g a) rs in
+          Within (g .s) icount20 (g .s .maxsteps) under (coreOf (l .turn .common))
+          → Resumes (sessionOf g l) (g .rtol) (g .atol) (l .work) (l .ipiv)
+      resumes under h = record {
+        ranges = record {
+          settings = ok .settings;
+          counts = counts-after rs;
+          orders = orders-of (ok .settings) (after g (startedAt g a) rs .turn .common) h
+            (omega (arith, ok .settings .maxsteps));
+        };
+        relative = ok .relative;
+        absolute = ok .absolute;
+        lent = lent-after rs;
+      }

@@ -5,8 +5,4 @@ pub mod Step
 pub mod Start
 pub mod Follows
 pub mod Ends
-pub mod Ranges
-pub mod Closing
-pub mod Session
-pub mod Resumed
 pub mod Kept

@@ -1,13 +1,11 @@
 -- `first_prediction` meets its contract: prepared, predicted, the prediction's norm.
 -- Assumes nothing.
 use mathlib.Core.Path.{refl}
-use Prim.Native.Nat.{_^_, _<_}
 use native.Mathlib.Omega.{arith}
 use borrow.Author.Needs.{needs}
 use Rattle.history.proofs.Laws.{same-range}
 use Rattle.between_steps.specs.Begin.{firstPredictionOf, predictedAt}
-use Rattle.between_steps.proofs.Inside.{orders-range}
-use Rattle.between_steps.proofs.Keeps.{prepared}
+use Rattle.between_steps.proofs.Inside.{prepared-range}
 use Rattle.between_steps.proofs.first_prediction.Statement.{statement}
 use Rattle.between_steps.proofs.first_prediction.Tie as tie
 
@@ -18,14 +16,9 @@ stoda-get-predicted-values-requires : tie.Need-stoda-get-predicted-values-requir
 stoda-get-predicted-values-requires c κs =
     let r = c .before .before .before in
     let a = r .before .before .before in
-    let p = a .pre .0 in
     let x = a .args in
-    let q = rw (← r .prepare .ensures) at (prepared (x .s) (x .c) (x .work .now)) in
-    let few : r .prepare .result .nslp < 2 ^ 62 = omega (arith, q .nslp, p .steps) in
-    (
-      same-range _ refl refl refl refl (orders-range (p .settings) few (q .orders (p .settings) (p .orders))),
-      omega arith,
-    )
+    let q = rw (← r .prepare .ensures) at (prepared-range (a .pre .0) (x .work .now)) in
+    (same-range _ refl refl refl refl q, omega arith)
 
 norm-at-requires : tie.Need-norm-at-requires
 norm-at-requires c κs = search needs

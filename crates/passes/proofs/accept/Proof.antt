@@ -15,8 +15,8 @@ use Rattle.order.specs.declared.Branch.the-variants.{Unchanged, SmallGain, Lowe
 use Rattle.order.specs.declared.Branch.the-variants.{HeldBySm1, FamilyChanged, CoefficientGap}
 use Rattle.order.proofs.Branch.{the-type}
 use Rattle.acceptance.proofs.Laws.{accept-keeps}
+use Rattle.between_steps.proofs.Inside.{ready}
 use Rattle.passes.specs.Pass.{closeOf, acceptedOf, acceptedAt}
-use Rattle.passes.proofs.Inside.{ready}
 use Rattle.passes.proofs.accept.Statement.{statement}
 use Rattle.passes.proofs.accept.Tie as tie
 

@@ -4,9 +4,9 @@ use mathlib.Core.Path.{ap}
 use native.Mathlib.Omega.{arith}
 use borrow.Author.Needs.{needs}
 use borrow.Author.Tests.{lt-ltb, le-ltb}
+use Rattle.between_steps.proofs.Inside.{inside-column, lent-length}
 use Rattle.turns.specs.Turns.{leaving}
 use Rattle.passes.specs.Pass.{columnOf, columnAt}
-use Rattle.passes.proofs.Inside.{inside-column, lent-length}
 use Rattle.passes.proofs.column.Statement.{statement}
 use Rattle.passes.proofs.column.Tie as tie
 
@@ -50,7 +50,7 @@ returns c =
 factored-requires : tie.Need-factored-requires
 factored-requires c κs =
     let p = c .before .before .before .before .before .before .before .before .before .before .before .before .before .before .before .before .before .before .pre in
-    let first = inside-column 0 (p .0 .settings .n .0) (p .0) in
+    let first = inside-column (p .0) 0 (p .0 .settings .n .0) in
     (first, (p .1 .0, (p .1 .1 .0, (p .1 .1 .1 .0, lent-length _ (omega arith) (p .1 .1 .1 .1 .1)))))
 
 same-length-2 : tie.Need-same-length-2

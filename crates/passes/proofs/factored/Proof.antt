@@ -3,9 +3,9 @@
 use mathlib.Core.Path.{ap}
 use native.Mathlib.Omega.{arith}
 use borrow.Author.Needs.{needs}
+use Rattle.between_steps.proofs.Inside.{inside-factored, lent-factored}
 use Rattle.turns.specs.Turns.{leaving}
 use Rattle.passes.specs.Pass.{factoredOf, factoredAt}
-use Rattle.passes.proofs.Inside.{inside-factored, lent-factored}
 use Rattle.passes.proofs.factored.Statement.{statement}
 use Rattle.passes.proofs.factored.Tie as tie
 
@@ -20,7 +20,7 @@ iterations-requires c κs =
     let x = a .args in
     let l = p .1 .1 .1 .1 in
     let inside = rw (← f .finish-jacobian .ensures) at
-      (inside-factored (x .s) (x .c) (x .work .now) (x .ipiv .now) (p .0)) in
+      (inside-factored (p .0) (x .work .now) (x .ipiv .now)) in
     let lent = rw (← f .finish-jacobian .ensures) at (lent-factored (x .s) (x .c) (x .work .now) (x .ipiv .now) l) in
     (inside, (p .1 .1 .0, (p .1 .1 .1 .0, lent)))
 
@@ -46,7 +46,7 @@ unconverged-requires c κs =
     let x = a .args in
     let l = p .1 .1 .1 .1 .sized in
     let inside = rw (← f .finish-jacobian .ensures) at
-      (inside-factored (x .s) (x .c) (x .work .now) (x .ipiv .now) (p .0)) in
+      (inside-factored (p .0) (x .work .now) (x .ipiv .now)) in
     (inside, omega arith)
 
 same-length-3 : tie.Need-same-length-3

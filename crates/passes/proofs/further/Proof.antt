@@ -1,8 +1,8 @@
 -- `further` meets its contract: savf is the reply, then an iteration. Assumes nothing.
 use native.Mathlib.Omega.{arith}
 use borrow.Author.Needs.{needs}
+use Rattle.between_steps.proofs.Inside.{lent-length}
 use Rattle.passes.specs.Pass.{furtherOf}
-use Rattle.passes.proofs.Inside.{lent-length}
 use Rattle.passes.proofs.further.Statement.{statement}
 use Rattle.passes.proofs.further.Tie as tie
 

@@ -7,9 +7,8 @@ use borrow.Author.Needs.{needs}
 use Rattle.corrector.specs.Iterate.{Corrected}
 use Rattle.corrector.proofs.Laws.{length-iteration}
 use Rattle.between_steps.specs.Ranges.{Inside}
-use Rattle.between_steps.proofs.Inside.{in-range}
+use Rattle.between_steps.proofs.Inside.{in-range, inside-judged}
 use Rattle.passes.specs.Pass.{iterateOf, concludedAt}
-use Rattle.passes.proofs.Inside.{inside-judged}
 use Rattle.passes.proofs.iterate.Statement.{statement}
 use Rattle.passes.proofs.iterate.Tie as tie
 
@@ -33,7 +32,7 @@ converged-requires c κs =
     let j = c .before .before .before .before in
     let x = j .before .before .before .before .before in
     let a = x .before .before .before .before .before .before in
-    let p : Inside (a .args .s) (j .judge .result .common) = rw (j .judge .ensures) (inside-judged _ _ (a .pre .0)) in
+    let p : Inside (a .args .s) (j .judge .result .common) = rw (j .judge .ensures) (inside-judged (a .pre .0) _ _) in
     let l = a .pre .1 .1 .1 .sized in
     let w = ap (λ (k : Corrected). length (k .work)) (x .correct .ensures) ∙ length-iteration (a .args .s)
       (a .args .c) _ _ in
@@ -47,7 +46,7 @@ open-pass-requires c κs =
     let j = c .before .before .before .before in
     let x = j .before .before .before .before .before in
     let a = x .before .before .before .before .before .before in
-    let p : Inside (a .args .s) (j .judge .result .common) = rw (j .judge .ensures) (inside-judged _ _ (a .pre .0)) in
+    let p : Inside (a .args .s) (j .judge .result .common) = rw (j .judge .ensures) (inside-judged (a .pre .0) _ _) in
     let l = a .pre .1 .1 .1 .sized in
     let w = ap (λ (k : Corrected). length (k .work)) (x .correct .ensures) ∙ length-iteration (a .args .s)
       (a .args .c) _ _ in
@@ -61,7 +60,7 @@ unconverged-requires c κs =
     let j = c .before .before .before .before in
     let x = j .before .before .before .before .before in
     let a = x .before .before .before .before .before .before in
-    let p : Inside (a .args .s) (j .judge .result .common) = rw (j .judge .ensures) (inside-judged _ _ (a .pre .0)) in
+    let p : Inside (a .args .s) (j .judge .result .common) = rw (j .judge .ensures) (inside-judged (a .pre .0) _ _) in
     let l = a .pre .1 .1 .1 .sized in
     let w = ap (λ (k : Corrected). length (k .work)) (x .correct .ensures) ∙ length-iteration (a .args .s)
       (a .args .c) _ _ in
@@ -74,7 +73,7 @@ ask-in-step-requires : tie.Need-ask-in-step-requires
 ask-in-step-requires c κs =
     let j = c .before .before .before in
     let a = j .before .before .before .before .before .before .before .before .before .before .before in
-    let p : Inside (a .args .s) (j .judge .result .common) = rw (j .judge .ensures) (inside-judged _ _ (a .pre .0)) in
+    let p : Inside (a .args .s) (j .judge .result .common) = rw (j .judge .ensures) (inside-judged (a .pre .0) _ _) in
     (p .counts .0, p .counts .1)
 
 same-length : tie.Need-same-length

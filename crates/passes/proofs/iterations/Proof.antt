@@ -6,8 +6,8 @@ use Prim.Native.Nat.{_-_, _*_}
 use Rattle.loops.specs.Part.{length-part}
 use borrow.Author.Needs.{needs}
 use Rattle.history.specs.Columns.{fillOf}
+use Rattle.between_steps.proofs.Inside.{inside-open, lent-length}
 use Rattle.passes.specs.Pass.{iterationsOf}
-use Rattle.passes.proofs.Inside.{inside-open, lent-length}
 use Rattle.passes.proofs.iterations.Statement.{statement}
 use Rattle.passes.proofs.iterations.Tie as tie
 

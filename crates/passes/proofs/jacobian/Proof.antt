@@ -4,8 +4,8 @@ use mathlib.Core.Path.{_≡_}
 use Prim.Native.Nat.{_+_, _-_, _*_}
 use lib.ListN.{length}
 use borrow.Author.Needs.{needs}
+use Rattle.between_steps.proofs.Inside.{lent-length}
 use Rattle.passes.specs.Pass.{jacobianOf}
-use Rattle.passes.proofs.Inside.{lent-length}
 use Rattle.passes.proofs.jacobian.Statement.{statement}
 use Rattle.passes.proofs.jacobian.Tie as tie
 

@@ -10,8 +10,8 @@ use borrow.Author.Needs.{needs}
 use Rattle.common.specs.declared.Settings.{Settings}
 use Rattle.common.specs.declared.Common.{Common}
 use Rattle.between_steps.specs.Start.{withDerivative}
+use Rattle.between_steps.proofs.Inside.{lent-length}
 use Rattle.passes.specs.Pass.{openedOf, openedAt}
-use Rattle.passes.proofs.Inside.{lent-length}
 use Rattle.passes.proofs.opened.Statement.{statement}
 use Rattle.passes.proofs.opened.Tie as tie
 

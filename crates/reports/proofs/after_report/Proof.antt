@@ -14,7 +14,7 @@ enum-told c = search needs
 
 go-on-requires : tie.Need-go-on-requires
 go-on-requires c κs =
-    (inside-tn _ (c .before .before .before .before .before .before .before .before .before .pre .0), omega arith)
+    (inside-tn (c .before .before .before .before .before .before .before .before .before .pre .0) _, omega arith)
 
 enum-told-2 : tie.Need-enum-told-2
 enum-told-2 c = search needs

@@ -9,7 +9,7 @@ enum-told : tie.Need-enum-told
 enum-told c = search needs
 
 go-on-requires : tie.Need-go-on-requires
-go-on-requires c κs = let p = c .before .before .before .before .before .pre in (inside-tn _ (p .0), p .1 .1)
+go-on-requires c κs = let p = c .before .before .before .before .before .pre in (inside-tn (p .0) _, p .1 .1)
 
 enum-told-2 : tie.Need-enum-told-2
 enum-told-2 c = search needs

@@ -2,8 +2,8 @@
 -- Assumes nothing.
 use native.Mathlib.Omega.{arith}
 use borrow.Author.Needs.{needs}
+use Rattle.between_steps.proofs.Inside.{inside-restart}
 use Rattle.reports.specs.Reports.{modifiedOf}
-use Rattle.reports.proofs.Keeps.{inside-restart}
 use Rattle.reports.proofs.modified.Statement.{statement}
 use Rattle.reports.proofs.modified.Tie as tie
 

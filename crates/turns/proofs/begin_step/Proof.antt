@@ -1,7 +1,7 @@
 -- `begin_step` meets its contract: the first prediction, the first pass. Assumes nothing.
 use native.Mathlib.Omega.{arith}
 use borrow.Author.Needs.{needs}
-use Rattle.between_steps.proofs.Keeps.{begun}
+use Rattle.between_steps.proofs.Lengths.{first-counts}
 use Rattle.turns.specs.Begin.{beganOf}
 use Rattle.turns.proofs.begin_step.Statement.{statement}
 use Rattle.turns.proofs.begin_step.Tie as tie
@@ -14,8 +14,8 @@ open-pass-requires c κs =
     let r = c .before .before .before in
     let a = r .before .before .before in
     let x = a .args in
-    let q = rw (← r .first-prediction .ensures) at (begun (x .s) (x .c) (x .work .now)) in
-    (omega (arith, q .nfe, a .pre .0 .counts), omega (arith, q .count), omega arith)
+    let q = rw (← r .first-prediction .ensures) at (first-counts (x .s) (x .c) (x .work .now)) in
+    (omega (arith, q .0, a .pre .0 .counts), omega (arith, q .1), omega arith)
 
 same-length : tie.Need-same-length
 same-length c = search needs

@@ -21,10 +21,10 @@ use Rattle.verdict.specs.Verdict.{rmOf, ratedOf, dconOf, pdestOf, estimatedOf, 
 use Rattle.verdict.specs.Verdict.{furtherOf, testedOf, ratedVerdict, solvedVerdict, judgeOf}
 use Rattle.corrector.specs.Iterate.{openOf, Corrected, adamsOf, bdfOf, bdfResidualOf, correctIn, correctOf}
 use Rattle.fields.specs.Fields.{Fit}
-use Rattle.fits.proofs.Floats.{either, literal, product, quotient, maximum}
-use Rattle.fits.proofs.Sizes.{norm}
-use Rattle.fits.proofs.Records.{CommonFits, put-rc, put-pdest, put-pdlast, put-pdnorm, put-convrate, put-rate}
-use Rattle.fits.proofs.Records.{put-delp}
+use Rattle.invariants.proofs.Floats.{either, literal, product, quotient, maximum}
+use Rattle.invariants.proofs.Sizes.{norm}
+use Rattle.invariants.proofs.Records.{CommonFits, put-rc, put-pdest, put-pdlast, put-pdnorm, put-convrate, put-rate}
+use Rattle.invariants.proofs.Records.{put-delp}
 
 -- ---- the Jacobian
 

@@ -8,7 +8,7 @@ use lib.Ieee as Ieee
 use lib.Ieee.{Float, binary64}
 use lib.Ieee.Bits.{ofBits-fits, ofBits-toBits, toBits-lt}
 use Rattle.fields.specs.Fields.{Fit}
-use Rattle.fits.specs.Host.{IsF64}
+use Rattle.invariants.specs.Host.{IsF64}
 
 pub every-f64 : (b : ℕ) → b < 2 ^ 64 → Fit (Ieee.ofBits binary64 b)
 every-f64 b h = ofBits-fits binary64 b

@@ -23,9 +23,9 @@ use Rattle.order.specs.Order.{Settled, heldOf, atOrder, settledOf, raiseOf, low
 use Rattle.order.specs.Order.{forgottenOf, factorsOf, limitedFactorsOf, raisedLeftOf, chooseOrderOf}
 use Rattle.acceptance.specs.Accept.{correctedOf, countedDown, keepFamilyOf, testedOf, testFamilyOf, acceptOf}
 use Rattle.fields.specs.Fields.{Fit}
-use Rattle.fits.proofs.Floats.{either, literal}
-use Rattle.fits.proofs.Records.{CommonFits, put-hu, put-pdest, put-pdlast}
-use Rattle.fits.proofs.Steps.{reset-fits, adjust-fits}
+use Rattle.invariants.proofs.Floats.{either, literal}
+use Rattle.invariants.proofs.Records.{CommonFits, put-hu, put-pdest, put-pdlast}
+use Rattle.invariants.proofs.Steps.{reset-fits, adjust-fits}
 
 abbrev SettledFits : Settled → Type 0
 SettledFits x = CommonFits (x .common)

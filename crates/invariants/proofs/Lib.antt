@@ -1,9 +1,12 @@
+pub mod Keeps
+pub mod Walk
+pub mod Lent
+pub mod Ranges
 pub mod Floats
 pub mod Sizes
 pub mod Records
 pub mod Steps
 pub mod Correct
 pub mod Accept
-pub mod Replies
-pub mod Kept
+pub mod Fits
 pub mod Host

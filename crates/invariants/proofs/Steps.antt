@@ -12,10 +12,10 @@ use Rattle.history.specs.Steps.{adjustOf, predictedOf}
 use Rattle.attempt.specs.Attempt.{retractedOf, retractedWork, repredictOf, unconvergedOf, poorOf, quarteredOf}
 use Rattle.attempt.specs.Attempt.{noConvergenceAt, noConvergenceOf, tenthOf, missedAt, missedOf, overshotOf, failedOf}
 use Rattle.attempt.specs.Attempt.{loweredOf, restepOf}
-use Rattle.fits.proofs.Floats.{literal, sum, product, quotient}
-use Rattle.fits.proofs.Sizes.{elco}
-use Rattle.fits.proofs.Records.{CommonFits, put-tn, put-h, put-rc, put-el0, put-conit, put-rmax, put-pdest}
-use Rattle.fits.proofs.Records.{put-pdlast, put-convrate}
+use Rattle.invariants.proofs.Floats.{literal, sum, product, quotient}
+use Rattle.invariants.proofs.Sizes.{elco}
+use Rattle.invariants.proofs.Records.{CommonFits, put-tn, put-h, put-rc, put-el0, put-conit, put-rmax, put-pdest}
+use Rattle.invariants.proofs.Records.{put-pdlast, put-convrate}
 
 module _ (s : Settings) where
   -- ---- setup, rescale, prediction

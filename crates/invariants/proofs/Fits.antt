@@ -1,0 +1,153 @@
+-- A session's floats are of the format:
+--     floats-kept   a reply keeps them so, if its time is of it; nothing is asked of work, reply or tolerances
+--     start-fits    those of an accepted start are, if x0, xend, min_step and first_step are
+-- Assumes nothing.
+use mathlib.Core.Bool.{Bool, true, false}
+use mathlib.Core.List.{List}
+use lib.Dec.{eqb}
+use lib.Ieee as Ieee
+use lib.Ieee.{Float}
+use Rattle.numbers.specs.Float.{_⊖_, zeroF, oneF}
+use Rattle.common.specs.declared.Settings.{Settings}
+use Rattle.common.specs.declared.Common.{Common}
+use Rattle.common.specs.Record.{with-setup}
+use Rattle.common.specs.Rules.{firstCallInitOf}
+use Rattle.attempt.specs.Attempt.{noConvergenceOf, failedOf}
+use Rattle.between_steps.specs.declared.Kind.{Kind}
+use Rattle.between_steps.specs.Begin.{isCut, cutOf, setupOf, preparedAt, preparedOf, predictedAt, firstPredictionOf}
+use Rattle.between_steps.specs.Start.{firstStepOf as stepOf}
+use Rattle.turns.specs.declared.Session.{Session}
+use Rattle.reports.specs.Reports.{initialOf}
+use Rattle.machine.specs.Resume.{With, resumeOf}
+use Rattle.refusals.specs.declared.Options.{Options}
+use Rattle.refusals.specs.declared.Lengths.{Lengths}
+use Rattle.refusals.specs.Start.{largestOf, smallestOf, inverseOf, inverseLargestOf, settingsOf, firstStepOf}
+use Rattle.fields.specs.Fields.{Fit, FloatsFit}
+use Rattle.invariants.specs.Next.{started, next}
+use Rattle.invariants.proofs.Keeps.{Invariant, each, any, after, Keeps}
+use Rattle.invariants.proofs.Walk.{resume-keeps}
+use Rattle.invariants.proofs.Floats.{either, literal, sum, quotient, absolute, signum}
+use Rattle.invariants.proofs.Sizes.{norm, initial-step, first-size}
+use Rattle.invariants.proofs.Records.{CommonFits, put-tn, put-h, put-told, put-pnorm}
+use Rattle.invariants.proofs.Steps.{first-call-fits, reset-fits, adjust-fits, predicted-fits, failed-fits}
+use Rattle.invariants.proofs.Steps.{no-convergence-fits, restep-fits}
+use Rattle.invariants.proofs.Correct.{begin-fits, finished-fits, open-fits, size-fits, judge-fits}
+use Rattle.invariants.proofs.Accept.{accept-fits}
+
+commons : (x : Session) → FloatsFit x → CommonFits (x .common)
+commons x f = record {
+  hmin = f .hmin; hmxi = f .hmxi;
+  tn = f .tn; h = f .h; hu = f .hu; told = f .told; rc = f .rc; el0 = f .el0; conit = f .conit; rmax = f .rmax;
+  pdest = f .pdest; pdlast = f .pdlast; pdnorm = f .pdnorm; convrate = f .convrate; pnorm = f .pnorm; rate = f .rate;
+  delp = f .delp;
+}
+
+floats : (x : Session) → Fit (x .settings .xend) → Fit (x .settings .direction) → CommonFits (x .common) → FloatsFit x
+floats x xend direction c = record {
+  xend = xend; direction = direction; hmin = c .hmin; hmxi = c .hmxi;
+  tn = c .tn; h = c .h; hu = c .hu; told = c .told; rc = c .rc; el0 = c .el0; conit = c .conit; rmax = c .rmax;
+  pdest = c .pdest; pdlast = c .pdlast; pdnorm = c .pdnorm; convrate = c .convrate; pnorm = c .pnorm; rate = c .rate;
+  delp = c .delp;
+}
+
+-- ---- a reply
+
+-- the record's floats; nothing is asked of the work
+abbrev Fitting : Invariant
+Fitting x = CommonFits (x .c)
+
+module _ (s : Settings) where
+  setup-fits : (c : Common) → CommonFits c → CommonFits (setupOf s c)
+  unfolding setupOf
+  setup-fits c f =
+      reset-fits s (firstCallInitOf s (with-setup false c)) (first-call-fits s (with-setup false c) f)
+
+  prepared-at : (cut due : Bool) (c : Common) (work : List Float) → CommonFits c
+      → CommonFits (preparedAt s cut due c work .common)
+  unfolding preparedAt cutOf
+  prepared-at true due c work f = adjust-fits s _ _ f
+  prepared-at false true c work f = setup-fits c f
+  prepared-at false false c work f = f
+
+  first-fits : (c : Common) (work : List Float) → CommonFits c → CommonFits (firstPredictionOf s c work .common)
+  unfolding firstPredictionOf preparedOf predictedAt
+  first-fits c work f =
+      put-pnorm (norm _ _)
+      (predicted-fits s _ (put-told (f .tn) (prepared-at (isCut s c) (c .setup) c work f)))
+
+  first-step : (rtol atol : List Float) (c : Common) (work : List Float) → CommonFits c
+      → Fit (stepOf s c rtol atol work)
+  first-step rtol atol c work f = either Fit (s .given) (c .h) _ (f .h) (initial-step _ _ _ _ _ _ _)
+
+  floats-keep : (rtol atol : List Float) (time : Float) → Fit time → Keeps s rtol atol time Fitting Fitting Fitting
+  floats-keep rtol atol time t = record {
+    between-work = λ x f w e. f;
+    step-work = λ x f w e. f;
+    over = λ x f. f;
+    asked = λ x f k. f;
+    timed = λ x f. put-tn t f;
+    retimed = λ x f. put-tn (sum _ _) f;
+    first-step = λ x f w. put-h (first-step rtol atol (x .c) w f) f;
+    first-size = λ x f w. put-h (first-size s (x .c) _ (first-step rtol atol (x .c) w f)) f;
+    restarted = λ x f. f;
+    totalled = λ x f k. f;
+    begun = λ x f e. first-fits (x .c) (x .w) f;
+    accepted = λ x f dsm w. accept-fits s (x .c) dsm w f;
+    asked-in-step = λ x f k j. f;
+    opened = λ x f. open-fits (x .c) f;
+    judged = λ x f. judge-fits s (x .c) _ _ (size-fits s (x .c) (x .p) (x .w)) f;
+    jacobian-begun = λ x f. begin-fits (x .c) f;
+    column = λ x f j e. f;
+    factored = λ x f. finished-fits s (x .c) (x .w) (x .p) f;
+    unconverged = λ x f w.
+      let g = no-convergence-fits s (x .c) w f in
+      after (noConvergenceOf s (x .c) w .next) (λ e. g) (λ e. g) g;
+    failed = λ x f dsm w.
+      let g = failed-fits s (x .c) dsm w f in
+      after (failedOf s (x .c) dsm w .next) (λ e. g) (λ e. g) g;
+    restepped = λ x f w. restep-fits s (x .c) w f;
+  }
+
+pub floats-kept : (x : Session) (kind : Kind) (reply : List Float) (time : Float) (w : With) → FloatsFit x → Fit time
+    → FloatsFit (next x (resumeOf x kind reply time w))
+floats-kept x kind reply time w f t =
+    let c = commons x f in
+    floats (next x (resumeOf x kind reply time w)) (f .xend) (f .direction)
+    (each (resumeOf x kind reply time w .turn .phase) (λ g. g) (λ g. g) (λ g. g)
+    (resume-keeps x kind reply time w (floats-keep (x .settings) (w .rtol) (w .atol) time t) (any (x .phase) c c c)))
+
+-- ---- a start
+
+smallest-fits : (o : Options) → Fit (o .«min_step») → Fit (smallestOf o)
+unfolding smallestOf
+smallest-fits o p = either Fit (eqb (o .«has_min_step») 0) zeroF _ (literal _) (absolute _ p)
+
+inverse-fits : (hmax : Float) → Fit (inverseOf hmax)
+unfolding inverseOf
+inverse-fits hmax = either Fit (Ieee.lt zeroF hmax) _ zeroF (quotient oneF hmax) (literal _)
+
+inverse-largest-fits : (x0 xend : Float) (o : Options) → Fit (inverseLargestOf x0 xend o)
+unfolding inverseLargestOf
+inverse-largest-fits x0 xend o = inverse-fits (largestOf o (xend ⊖ x0))
+
+first-step-fits : (o : Options) → Fit (o .«first_step») → Fit (firstStepOf o)
+unfolding firstStepOf
+first-step-fits o p = either Fit (eqb (o .«has_first_step») 0) zeroF _ (literal _) p
+
+initial-fits : (s : Settings) (x0 h hmin hmxi : Float) → Fit x0 → Fit h → Fit hmin → Fit hmxi
+    → CommonFits (initialOf s x0 h hmin hmxi)
+unfolding initialOf
+initial-fits s x0 h hmin hmxi p q m i = record {
+  hmin = m; hmxi = i;
+  tn = p; h = q; hu = literal _; told = p; rc = literal _; el0 = literal _; conit = literal _; rmax = literal _;
+  pdest = literal _; pdlast = literal _; pdnorm = literal _; convrate = literal _; pnorm = literal _; rate = literal _;
+  delp = literal _;
+}
+
+pub start-fits : (x0 xend : Float) (o : Options) (l : Lengths) → Fit x0 → Fit xend → Fit (o .«min_step»)
+    → Fit (o .«first_step») → FloatsFit (started x0 xend o l)
+unfolding settingsOf
+start-fits x0 xend o l p q m h =
+    floats (started x0 xend o l) q (signum (xend ⊖ x0))
+    (initial-fits (settingsOf x0 xend o l) x0 (firstStepOf o) (smallestOf o) (inverseLargestOf x0 xend o)
+    p (first-step-fits o h) (smallest-fits o m) (inverse-largest-fits x0 xend o))

@@ -1,0 +1,59 @@
+-- A reply keeps the length of the work and of the pivots, and every pivot below n (`resume-lent`), whatever the floats:
+-- nothing is asked of the record.
+-- Assumes nothing.
+use mathlib.Core.List.{List}
+use Prim.Native.Nat.{_≤_}
+use native.Mathlib.Omega.{arith}
+use lib.Ieee.{Float}
+use lib.ListN.{length}
+use Rattle.common.specs.State.{State}
+use Rattle.common.specs.declared.Settings.{Settings}
+use Rattle.common.specs.Layout.{matrixAt}
+use Rattle.attempt.specs.Attempt.{noConvergenceOf, failedOf}
+use Rattle.between_steps.specs.declared.Kind.{Kind}
+use Rattle.between_steps.specs.Ranges.{Lent}
+use Rattle.between_steps.proofs.Inside.{lent-length, lent-factored}
+use Rattle.turns.specs.declared.Session.{Session}
+use Rattle.machine.specs.Resume.{With, resumeOf}
+use Rattle.invariants.proofs.Keeps.{Invariant, each, any, after, Keeps}
+use Rattle.invariants.proofs.Walk.{resume-keeps}
+
+module _ (s : Settings) where
+  abbrev pub Long : Invariant
+  Long x = Lent (s .n) (x .w) (x .p)
+
+  room : (x : State) → Long x → matrixAt (s .n) ≤ length (x .w)
+  room x h = omega (arith, h .sized)
+
+  pub lent-keeps : (rtol atol : List Float) (time : Float) → Keeps s rtol atol time Long Long Long
+  lent-keeps rtol atol time = record {
+    between-work = λ x h w e. lent-length w (e (room x h)) h;
+    step-work = λ x h w e. lent-length w (e (room x h)) h;
+    over = λ x h. h;
+    asked = λ x h k. h;
+    timed = λ x h. h;
+    retimed = λ x h. h;
+    first-step = λ x h w. h;
+    first-size = λ x h w. h;
+    restarted = λ x h. h;
+    totalled = λ x h k. h;
+    begun = λ x h e. h;
+    accepted = λ x h dsm w. h;
+    asked-in-step = λ x h k j. h;
+    opened = λ x h. h;
+    judged = λ x h. h;
+    jacobian-begun = λ x h. h;
+    column = λ x h j e. h;
+    factored = λ x h. lent-factored s (x .c) (x .w) (x .p) h;
+    unconverged = λ x h w. after (noConvergenceOf s (x .c) w .next) (λ e. h) (λ e. h) h;
+    failed = λ x h dsm w. after (failedOf s (x .c) dsm w .next) (λ e. h) (λ e. h) h;
+    restepped = λ x h w. h;
+  }
+
+-- whether it was asked for or not
+pub resume-lent : (x : Session) (reply : List Float) (time : Float) (w : With)
+    → Lent (x .settings .n) (w .work) (w .ipiv) → (kind : Kind)
+    → Lent (x .settings .n) (resumeOf x kind reply time w .work) (resumeOf x kind reply time w .ipiv)
+resume-lent x reply time w p kind =
+    each (resumeOf x kind reply time w .turn .phase) (λ h. h) (λ h. h) (λ h. h)
+    (resume-keeps x kind reply time w (lent-keeps (x .settings) (w .rtol) (w .atol) time) (any (x .phase) p p p))

@@ -1,0 +1,175 @@
+-- The orders, columns and counters of a run stay in range, whatever the floats; where a run ends, the last failure may
+-- have reached its limit (`Closing`).
+--     ranges-keep        `Within` is kept by every reply, from any bounds on the steps
+--     order-after        the order after any reply to a session in range is at most 12, whether or not the reply ends
+--                        the run; nothing is asked of icount beyond its range, so the session need not be of a run
+--     within-initial     the record at the start
+-- Assumes nothing.
+use mathlib.Core.List.{List}
+use mathlib.Core.Logic.{_⊎_, inl, inr}
+use mathlib.Core.Path.{_≡_}
+use Prim.Native.Nat.{ℕ, _+_, _*_, _^_, _≤_, _<_}
+use native.Mathlib.Nat.{mod-self}
+use native.Mathlib.Omega.{arith}
+use lib.Ieee.{Float}
+use borrow.Author.Tests.{leb-false}
+use Rattle.common.specs.State.{State}
+use Rattle.common.specs.declared.Settings.{Settings}
+use Rattle.common.specs.declared.Common.{Common}
+use Rattle.common.specs.Limits.{mxncfOf}
+use Rattle.common.specs.Rules.{icount20}
+use Rattle.history.specs.Steps.{InRange}
+use Rattle.jacobian.specs.Jacobian.{beginOf}
+use Rattle.attempt.specs.declared.Next.{Next}
+use Rattle.attempt.specs.declared.Next.the-variants as Next
+use Rattle.attempt.specs.Attempt.{noConvergenceOf, failedOf}
+use Rattle.attempt.proofs.Laws.{Kept, unconverged, failed}
+use Rattle.between_steps.specs.declared.Kind.{Kind}
+use Rattle.between_steps.specs.Ranges.{Accepted, Ranges}
+use Rattle.between_steps.proofs.Within.{Core, coreOf, Within, range-of, within-open, within-judged, within-factored}
+use Rattle.between_steps.proofs.Within.{within-column, within-unconverged, within-failed, failed-pass, failed-restep}
+use Rattle.between_steps.proofs.Within.{within-restep, within-restart, within-first, within-another, within-accept}
+use Rattle.turns.specs.declared.Session.{Session}
+use Rattle.reports.specs.Reports.{initialOf}
+use Rattle.machine.specs.Resume.{With, resumeOf}
+use Rattle.invariants.proofs.Keeps.{Invariant, each, any, after, Keeps}
+use Rattle.invariants.proofs.Walk.{resume-keeps}
+
+-- ---- where a run ends
+
+pub record Closing (s : Settings) (k : Core) : Type 0 where
+  pub nq : k .nq ≤ 12
+  pub lmax : k .lmax ≤ 13
+  pub nqnyh : k .nqnyh ≤ 12 * s .n
+  pub table : k .table ≤ 1
+  pub icount : k .icount ≤ icount20
+  pub kflag : k .kflag ≤ 10
+  pub ncf : k .ncf ≤ mxncfOf s
+  pub m : k .m < s .maxcor
+  pub column : k .column < s .n
+
+pub closing-of : {s : Settings} {base most under : ℕ} {k : Core} → Within s base most under k → Closing s k
+closing-of p = record {
+  nq = p .nq .1;
+  lmax = p .lmax .1;
+  nqnyh = p .nqnyh .2;
+  table = p .table;
+  icount = p .icount .1;
+  kflag = omega (arith, p .kflag);
+  ncf = omega (arith, p .ncf);
+  m = p .m;
+  column = p .column;
+}
+
+module _ {s : Settings} (acc : Accepted s) {base most under : ℕ} (c : Common)
+    (p : Within s base most under (coreOf c)) (work : List Float) where
+  attempt-closing : (d : Common) → Kept c d → InRange s d → d .kflag ≤ 10 → d .ncf ≤ mxncfOf s
+      → Closing s (coreOf d)
+  attempt-closing d k r kflag ncf = record {
+    nq = r .order .1;
+    lmax = rw (k .lmax) (p .lmax .1);
+    nqnyh = r .used .1;
+    table = rw (k .table) (p .table);
+    icount = rw (k .icount) (p .icount .1);
+    kflag = kflag;
+    ncf = ncf;
+    m = rw (k .m) (p .m);
+    column = rw (k .column) (p .column);
+  }
+
+  closing-unconverged : Closing s (coreOf (noConvergenceOf s c work .common))
+  closing-unconverged =
+      let u = unconverged s c work in
+      attempt-closing _ (u .kept) (u .in-range (range-of acc c p)) (omega (arith, u .kflag, p .kflag))
+      (omega (arith, u .ncf, p .ncf))
+
+  closing-failed : (dsm : Float) → Closing s (coreOf (failedOf s c dsm work .common))
+  closing-failed dsm =
+      let u = failed s c dsm work in
+      attempt-closing _ (u .kept) (u .in-range (range-of acc c p)) (omega (arith, u .kflag, p .kflag))
+      (omega (arith, u .ncf, p .ncf))
+
+-- ---- every reply
+
+never : {v : Next} {X : Type 0} → (v ≡ Next.Pass) ⊎ (v ≡ Next.Poor) → v ≡ Next.Restep → X
+never (inl h) e = absurd (let z : _≡_ {A = ℕ} 0 1 = cc in omega arith)
+never (inr h) e = absurd (let z : _≡_ {A = ℕ} 0 1 = cc in omega arith)
+
+module _ (s : Settings) (base most : ℕ) where
+  -- with so many steps under way
+  abbrev pub Ranged : ℕ → Invariant
+  Ranged under x = Within s base most under (coreOf (x .c))
+
+  abbrev pub Closed : Invariant
+  Closed x = Closing s (coreOf (x .c))
+
+  module _ (acc : Accepted s) (enough : s .maxsteps ≤ most) (few : most ≤ 2 ^ 62) where
+    pub ranges-keep : (rtol atol : List Float) (time : Float) → Keeps s rtol atol time (Ranged 0) (Ranged 1) Closed
+    unfolding beginOf
+    ranges-keep rtol atol time = record {
+      between-work = λ x h w e. h;
+      step-work = λ x h w e. h;
+      over = λ x h. closing-of h;
+      asked = λ x h k. h;
+      timed = λ x h. h;
+      retimed = λ x h. h;
+      first-step = λ x h w. h;
+      first-size = λ x h w. h;
+      restarted = λ x h. within-restart acc (x .c) h;
+      totalled = λ x h k. h;
+      begun = λ x h e.
+        within-first acc (x .c)
+        (within-another acc (x .c) h (omega (arith, leb-false (s .maxsteps) (x .c .nst) e))) (x .w);
+      accepted = λ x h dsm w. within-accept acc (x .c) h dsm w;
+      asked-in-step = λ x h k j. h;
+      opened = λ x h. within-open acc (x .c) h;
+      judged = λ x h. within-judged acc (x .c) h _ _;
+      jacobian-begun = λ x h. h;
+      column = λ x h j e. within-column acc (x .c) h j (e (acc .n .0));
+      factored = λ x h. within-factored acc (x .c) h (omega (arith, h .steps)) (x .w) (x .p);
+      unconverged = λ x h w.
+        after (noConvergenceOf s (x .c) w .next) (within-unconverged acc (x .c) h w)
+        (λ e. never (unconverged s (x .c) w .next) e) (closing-unconverged acc (x .c) h w);
+      failed = λ x h dsm w.
+        after (failedOf s (x .c) dsm w .next)
+        (λ e. within-failed acc (x .c) h w dsm (failed-pass acc (x .c) h w dsm e))
+        (λ e. within-failed acc (x .c) h w dsm (failed-restep acc (x .c) h w dsm e))
+        (closing-failed acc (x .c) h w dsm);
+      restepped = λ x h w. within-restep acc (x .c) h w;
+    }
+
+-- ---- the order after any reply
+
+within-ranges : (s : Settings) (c : Common) → Ranges s c → (under : ℕ) → under ≤ 1
+    → Within s 0 (2 ^ 62) under (coreOf c)
+within-ranges s c p under one =
+    let o = p .orders in
+    record {
+      nq = o .nq; lmax = o .lmax; nqnyh = o .nqnyh; table = o .table; ialth = o .ialth;
+      icount = (omega arith, o .icount .1); kflag = o .kflag; ncf = o .ncf; m = o .m; column = o .column;
+      nslp = omega (arith, p .counts .nslp); steps = omega (arith, p .counts .nst);
+    }
+
+pub order-after : (x : Session) (kind : Kind) (reply : List Float) (time : Float) (w : With)
+    → Ranges (x .settings) (x .common) → resumeOf x kind reply time w .turn .common .nq ≤ 12
+order-after x kind reply time w p =
+    let s = x .settings in
+    let between = within-ranges s (x .common) p 0 (omega arith) in
+    let k = ranges-keep s 0 (2 ^ 62) (p .settings) (omega (arith, p .settings .maxsteps)) (omega arith) in
+    each (resumeOf x kind reply time w .turn .phase) (λ h. h .nq .1) (λ h. h .nq .1) (λ h. h .nq)
+    (resume-keeps x kind reply time w (k (w .rtol) (w .atol) time)
+    (any (x .phase) between (within-ranges s (x .common) p 1 (omega arith)) (closing-of between)))
+
+-- ---- the start
+
+pub within-initial : (s : Settings) → Accepted s → (x0 h hmin hmxi : Float)
+    → Within s icount20 (s .maxsteps) 0 (coreOf (initialOf s x0 h hmin hmxi))
+unfolding initialOf
+within-initial s acc x0 h hmin hmxi = record {
+  nq = omega arith;
+  lmax = (omega (arith, acc .mxordn), omega arith, omega (arith, acc .mxordn));
+  nqnyh = (mod-self (s .n), omega arith, omega arith);
+  table = omega arith; ialth = omega arith; icount = (omega arith, omega arith); kflag = omega arith; ncf = omega arith;
+  m = omega (arith, acc .maxcor); column = omega (arith, acc .n); nslp = omega arith;
+  steps = omega (arith, acc .maxsteps);
+}

@@ -1,4 +1,0 @@
-pub mod Keeps
-pub mod Inside
-pub mod Lengths
-pub mod Order
