@@ -12,7 +12,7 @@ use Rattle.loops.specs.Test.{both}
 use Rattle.turns.specs.declared.Question.the-variants as Question
 use Rattle.turns.specs.Turns.{Left}
 use Rattle.refusals.specs.Start.{settingsOf}
-use Rattle.fits.specs.Host.{IsF64}
+use Rattle.invariants.specs.Host.{IsF64}
 use Rattle.common.specs.State.{Given}
 use Rattle.rules.specs.Play.{Play, ret, ask, tell, say}
 use Rattle.rules.specs.Rules.{Start}

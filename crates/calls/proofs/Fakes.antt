@@ -49,9 +49,9 @@ use Rattle.rules.specs.Steps.{Step}
 use Rattle.rules.specs.Pass.{iterated, turns, iterations, passAt, pass}
 use Rattle.rules.specs.Rules as Rules
 use Rattle.follows.specs.Seen.{step}
-use Rattle.fits.specs.Host.{IsF64}
-use Rattle.fits.proofs.Floats.{literal}
-use Rattle.fits.proofs.Host.{fits-is-f64}
+use Rattle.invariants.specs.Host.{IsF64}
+use Rattle.invariants.proofs.Floats.{literal}
+use Rattle.invariants.proofs.Host.{fits-is-f64}
 use Rattle.answers.specs.declared.Reply.{Reply}
 use Rattle.answers.specs.Called.{Buffers, Called}
 use Rattle.replies.specs.Replies.{kindOf}

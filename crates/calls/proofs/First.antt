@@ -36,7 +36,7 @@ use Rattle.refusals.proofs.Rows.{IsFirst, After, exactly, Each, numbered}
 use Rattle.common.specs.State.{Given, State}
 use Rattle.rules.specs.Play.{Play}
 use Rattle.rules.specs.Rules.{Start, start, beginning, firstStep, firstWeights, weighted, sized, started}
-use Rattle.fits.specs.Host.{IsF64}
+use Rattle.invariants.specs.Host.{IsF64}
 use Rattle.answers.specs.declared.Reply.{Reply}
 use Rattle.answers.specs.Answers.{plainOf, refusedOf}
 use Rattle.answers.specs.Called.{Buffers, Called}

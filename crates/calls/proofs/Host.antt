@@ -31,9 +31,9 @@ use Rattle.answers.specs.declared.Reply.{Reply}
 use Rattle.answers.specs.Answers.{answerOf}
 use Rattle.answers.specs.Called.{Called}
 use Rattle.replies.specs.Replies.{isKind, kindOf}
-use Rattle.fits.specs.Host.{IsF64}
-use Rattle.fits.proofs.Floats.{literal}
-use Rattle.fits.proofs.Host.{fits-is-f64}
+use Rattle.invariants.specs.Host.{IsF64}
+use Rattle.invariants.proofs.Floats.{literal}
+use Rattle.invariants.proofs.Host.{fits-is-f64}
 use Rattle.calls.specs.Run.{ReplyCall, answered}
 use Rattle.calls.specs.Follow.{Said, saidBy, saidOf, saidAt, fedAs, isSized}
 use Rattle.calls.specs.Sums.{Act, gives, continues, replyWith, actedBy, hostedBy}

@@ -21,7 +21,7 @@ use Rattle.turns.specs.declared.Session.{Session}
 use Rattle.between_steps.specs.Ranges.{Counts, Lent}
 use Rattle.turns.specs.Requires.{Resumes, UnlessFinished}
 use Rattle.turns.specs.Turns.{Left}
-use Rattle.machine.proofs.Lengths.{resume-lent}
+use Rattle.invariants.proofs.Lent.{resume-lent}
 use Rattle.fields.specs.Fields.{Fit, CountsFit, FloatsFit, Fits}
 use Rattle.session.specs.Session.{encodeOf, decodeOf, rtolSlots, atolSlots, storedN, finishedIn, OneOrN}
 use Rattle.session.specs.Session.{tolerancesInRange, inRangeOf}
@@ -32,9 +32,9 @@ use Rattle.rules.specs.Rules.{Start}
 use Rattle.rules.specs.Replies.{Reply as Fed}
 use Rattle.follows.specs.Seen.{sessionOf, withOf, next}
 use Rattle.follows.specs.InRun.{Accepts, InRun}
-use Rattle.follows.proofs.Ranges.{coreOf}
-use Rattle.follows.proofs.Closing.{Closing}
-use Rattle.fits.proofs.Kept.{floats-kept}
+use Rattle.between_steps.proofs.Within.{coreOf}
+use Rattle.invariants.proofs.Ranges.{Closing}
+use Rattle.invariants.proofs.Fits.{floats-kept}
 use Rattle.calls.specs.Follow.{slotsOf}
 use Rattle.calls.proofs.Low.{Low}
 use Rattle.calls.proofs.Turns.{isOver}

@@ -34,7 +34,7 @@ use Rattle.order.specs.Order.{Settled, heldOf, settledOf, raiseOf, lowerOf, sam
 use Rattle.order.specs.Order.{forgottenOf, factorsOf as sizesOf, limitedFactorsOf, raisedLeftOf, chooseOrderOf}
 use Rattle.acceptance.specs.Accept.{correctedOf, countedDown, keepFamilyOf, testedOf, testFamilyOf, acceptOf}
 use Rattle.between_steps.specs.Begin.{setupOf}
-use Rattle.fits.proofs.Floats.{either}
+use Rattle.invariants.proofs.Floats.{either}
 
 module _ (B : ℕ) where
   abbrev pub LowAt : ℕ → ℕ → Type 0

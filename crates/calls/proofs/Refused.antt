@@ -24,7 +24,7 @@ use Rattle.answers.specs.Called.{Buffers, Called}
 use Rattle.replies.specs.Replies.{kindOf, isUnasked, replyRefusalOf, Settled, settledOf, turned, goOf}
 use Rattle.starts.specs.Starts.{beganOf}
 use Rattle.raimsklo.specs.Calls.{Problem, lengthsOf, startAt, startOf, replyAt, replyOf}
-use Rattle.fits.proofs.Floats.{either}
+use Rattle.invariants.proofs.Floats.{either}
 use Rattle.calls.specs.Run.{isRefusal}
 use Rattle.calls.specs.Refused.{RefusedUnchanged}
 use Rattle.calls.proofs.Turns.{resume-well, resume-same}

@@ -39,7 +39,7 @@ use Rattle.answers.specs.Called.{Buffers, Called}
 use Rattle.replies.specs.Replies.{isKind, kindOf, lengthsRefusal, storedRefusal, replyRefusalOf}
 use Rattle.replies.specs.Replies.{isUnasked, Settled, settledOf, turned, goOf}
 use Rattle.raimsklo.specs.Calls.{replyAt, replyOf}
-use Rattle.fits.proofs.Floats.{either}
+use Rattle.invariants.proofs.Floats.{either}
 use Rattle.calls.specs.Run.{isRefusal}
 use Rattle.calls.specs.ReplyRefused.{Awaited, awaits, Asked}
 use Rattle.calls.specs.ReplyRefused.{derivative, jacobian, answer, phaseIn, replyRows, ReplyRefused}

@@ -35,8 +35,8 @@ use Rattle.rules.specs.Rules.{Start, beginning}
 use Rattle.follows.specs.Seen.{sessionOf, after}
 use Rattle.follows.specs.Stands.{startedAt}
 use Rattle.follows.proofs.Kept.{session-kept}
-use Rattle.fits.proofs.Kept.{start-fits}
-use Rattle.fits.proofs.Host.{is-f64-fits}
+use Rattle.invariants.proofs.Fits.{start-fits}
+use Rattle.invariants.proofs.Host.{is-f64-fits}
 use Rattle.answers.specs.Answers.{plainOf}
 use Rattle.answers.specs.Called.{Buffers, Called}
 use Rattle.starts.specs.Starts.{clearedOf, keptOf, beganOf}

@@ -53,8 +53,8 @@ use Rattle.follows.specs.Seen.{Shown, wantsDerivative, wantsJacobian, reports, 
 use Rattle.follows.specs.Seen.{refuses, stuck, shownAs, shownBy}
 use Rattle.follows.specs.Stands.{startedAt}
 use Rattle.follows.specs.Follows.{stateAt}
-use Rattle.fits.proofs.Floats.{literal}
-use Rattle.fits.proofs.Host.{fits-is-f64}
+use Rattle.invariants.proofs.Floats.{literal}
+use Rattle.invariants.proofs.Host.{fits-is-f64}
 use Rattle.answers.specs.declared.Reply.{Reply}
 use Rattle.answers.specs.Called.{Buffers, Called}
 use Rattle.starts.specs.Starts.{beganOf}

@@ -24,8 +24,8 @@ use Rattle.turns.specs.Turns.{Left}
 use Rattle.reports.specs.Reports.{initialOf}
 use Rattle.machine.specs.Resume.{isAsked}
 use Rattle.refusals.specs.Start.{settingsOf}
-use Rattle.fits.specs.Host.{IsF64}
-use Rattle.fits.proofs.Host.{is-f64-fits}
+use Rattle.invariants.specs.Host.{IsF64}
+use Rattle.invariants.proofs.Host.{is-f64-fits}
 use Rattle.session.specs.Session.{encodeOf}
 use Rattle.common.specs.State.{Given}
 use Rattle.rules.specs.Play.{Play}

@@ -8,7 +8,7 @@ use mathlib.Core.Path.{_≡_}
 use Prim.Native.Nat.{ℕ, _+_, _*_, _≤_}
 use lib.Dec.{eqb, leb}
 use lib.ListN.{length}
-use Rattle.fits.specs.Host.{IsF64}
+use Rattle.invariants.specs.Host.{IsF64}
 use Rattle.session.specs.Session.{decodeOf}
 use Rattle.rules.specs.Play.{derivativeAt, Play, ret, ask, tell, say}
 use Rattle.rules.specs.Steps.{Step, noted, marked, isEnded, isEndedKeeping, number}

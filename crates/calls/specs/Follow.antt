@@ -17,7 +17,7 @@ use Rattle.turns.specs.declared.Phase.{Phase}
 use Rattle.turns.specs.declared.Phase.the-variants as Phase
 use Rattle.machine.specs.Resume.{isAsked}
 use Rattle.refusals.specs.Start.{settingsOf, firstStepOf, smallestOf, inverseLargestOf}
-use Rattle.fits.specs.Host.{IsF64}
+use Rattle.invariants.specs.Host.{IsF64}
 use Rattle.session.specs.Session.{decodeOf, rtolSlots, atolSlots}
 use Rattle.common.specs.State.{Given}
 use Rattle.rules.specs.Play.{derivativeAt, jacobianAt, Report, Play, ret, ask, tell, say}

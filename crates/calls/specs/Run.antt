@@ -7,7 +7,7 @@ use Prim.Native.Nat.{ℕ}
 use lib.Dec.{eqb}
 use lib.Ieee.{Float}
 use Rattle.follows.specs.Seen.{keepIf}
-use Rattle.fits.specs.Host.{IsF64, AreF64}
+use Rattle.invariants.specs.Host.{IsF64, AreF64}
 use Rattle.answers.specs.declared.Reply.{Reply}
 use Rattle.answers.specs.Called.{Buffers, Called}
 use Rattle.raimsklo.specs.Calls.{Problem, startOf, replyOf}

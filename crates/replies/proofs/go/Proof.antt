@@ -11,8 +11,8 @@ use Rattle.numbers.specs.Float.{zeroF}
 use Rattle.turns.specs.declared.Session.{Session}
 use Rattle.turns.specs.Turns.{Left}
 use Rattle.machine.specs.Resume.{With}
-use Rattle.machine.proofs.Order.{order-after}
-use Rattle.machine.proofs.Lengths.{resume-lent}
+use Rattle.invariants.proofs.Ranges.{order-after}
+use Rattle.invariants.proofs.Lent.{resume-lent}
 use Rattle.session.specs.Session.{decodeOf, rtolOf, atolOf, inRangeOf}
 use Rattle.words.proofs.Rows.{length-slots, slots-part}
 use Rattle.session.proofs.Thirteen.{lists-fit, resumes}
