@@ -22,14 +22,15 @@ use Rattle.common.specs.Record.{isBdf, with-due, with-rejected, with-ialth}
 use Rattle.common.specs.Limits.{mxncfOf}
 use Rattle.common.specs.Rules.{resetOf, tinyOf}
 use Rattle.history.specs.Columns.{slopeOf}
-use Rattle.history.specs.Steps.{InRange, adjustOf, predictedOf, staleOf}
-use Rattle.history.proofs.Laws.{same-range, in-range-predicted}
-use Rattle.history.proofs.Laws.{length-predict, length-retract, length-rescale, length-copy, length-slope}
+use Rattle.history.specs.Steps.{StepInRange, adjustOf, predictedOf, staleOf}
+use Rattle.history.proofs.Laws.{same-range, in-range-predicted, length-predict, length-retract, length-rescale}
+use Rattle.history.proofs.Laws.{length-copy, length-slope}
 use Rattle.attempt.specs.declared.Next.the-variants.{Pass, Restep, TooSmall, Poor}
-use Rattle.attempt.specs.Attempt.{Moved, Attempt, retractedOf, retractedWork, leastOf, predictOf, repredictOf}
-use Rattle.attempt.specs.Attempt.{unconvergedOf, poorOf, quarteredOf, noConvergenceAt, noConvergenceOf}
-use Rattle.attempt.specs.Attempt.{shrunkOf, tenthOf, missedAt, missedOf, overshotOf, failedOf}
-use Rattle.attempt.specs.Attempt.{loweredOf, restepOf}
+use Rattle.common.specs.State.{Moved}
+use Rattle.history.specs.Steps.{leastOf}
+use Rattle.attempt.specs.Attempt.{Attempt, retractedOf, retractedWork, predictOf, repredictOf, unconvergedOf}
+use Rattle.attempt.specs.Attempt.{poorOf, quarteredOf, noConvergenceAt, noConvergenceOf, shrunkOf, tenthOf}
+use Rattle.attempt.specs.Attempt.{missedAt, missedOf, overshotOf, failedOf, loweredOf, restepOf}
 use Rattle.attempt.proofs.Ranges.{in-range-unconverged, in-range-overshot, in-range-lowered}
 
 -- d has these fields of c
@@ -106,7 +107,7 @@ pub record Unconverged (s : Settings) (c : Common) (work : List Float) (a : Atte
   pub due : a .next ≡ Pass → a .common .due ≡ isBdf (c .meth)
   pub below : c .ncf < mxncfOf s → a .next ≡ Pass → c .ncf + 1 < mxncfOf s
   pub ialth : 1 ≤ c .ialth → 1 ≤ a .common .ialth
-  pub in-range : InRange s c → InRange s (a .common)
+  pub in-range : StepInRange s c → StepInRange s (a .common)
   pub sized : length (a .work) ≡ length work
 
 module _ (s : Settings) (c : Common) (work : List Float) where
@@ -166,7 +167,7 @@ pub record Failed (s : Settings) (c : Common) (work : List Float) (a : Attempt) 
   pub pass : a .next ≡ Pass → c .kflag + 1 < 3
   pub restep : c .kflag ≤ 9 → a .next ≡ Restep → (3 ≤ c .kflag + 1) × (c .kflag + 1 ≤ 9)
   pub ialth : 1 ≤ c .ialth → 1 ≤ a .common .ialth
-  pub in-range : InRange s c → InRange s (a .common)
+  pub in-range : StepInRange s c → StepInRange s (a .common)
   pub sized : length (a .work) ≡ length work
 
 module _ (s : Settings) (c : Common) (dsm : Float) (work : List Float) where
@@ -242,7 +243,7 @@ pub record Restepped (s : Settings) (c : Common) (work : List Float) (a : Moved)
   pub nqnyh : ((c .nq ≡ 1) × (a .common .nqnyh ≡ c .nqnyh)) ⊎ ((c .nq ≡ 1 → ⊥) × (a .common .nqnyh ≡ s .n))
   pub due : a .common .due ≡ isBdf (c .meth)
   pub ialth : 1 ≤ a .common .ialth
-  pub in-range : InRange s c → InRange s (a .common)
+  pub in-range : StepInRange s c → StepInRange s (a .common)
   pub sized : length (a .work) ≡ length work
 
 module _ (s : Settings) (c : Common) (work : List Float) where

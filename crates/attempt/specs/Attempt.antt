@@ -4,31 +4,26 @@
 -- `Next` says how it goes on. The Rust's l is nq + 1.
 use mathlib.Core.Bool.{Bool, true, false, cond, _||_}
 use mathlib.Core.List.{List}
-use Prim.Native.Nat.{_+_, _*_}
+use Prim.Native.Nat.{_+_}
 use lib.Dec.{eqb, leb, ltb}
 use lib.Ieee.{Float}
 use Rattle.numbers.specs.Float.{_⊕_, _⊗_, _⊘_, oneF, d0·1, d0·2, d0·25, d1·2, d1·2e-6, d2}
-use Rattle.numbers.specs.Sign.{absOf}
 use Rattle.numbers.specs.Order.{maxOf, minOf}
 use Rattle.root.specs.Root.{rootOf}
 use Rattle.coefficients.specs.Table.{tescoOf}
-use Rattle.vectors.specs.Norm.{vmnormOf}
 use Rattle.common.specs.declared.Settings.{Settings}
 use Rattle.common.specs.declared.Common.{Common}
-use Rattle.common.specs.Layout.{acor, ewt}
+use Rattle.common.specs.Layout.{acorAt, yAt}
 use Rattle.common.specs.Record.{isBdf, with-rmax, with-tn, with-ncf, with-due, with-rejected, with-kflag, with-h}
 use Rattle.common.specs.Record.{with-ialth, with-nq}
+use Rattle.common.specs.State.{Moved}
 use Rattle.common.specs.Limits.{mxncfOf}
 use Rattle.common.specs.Rules.{tinyOf, resetOf}
+use Rattle.history.specs.Parts.{normAtOf}
 use Rattle.history.specs.Columns.{retractColumnsOf, rescaleColumnsOf, slopeOf, copyOf}
-use Rattle.history.specs.Steps.{limitedOf, adjustOf, predictedOf, predictedWorkOf}
+use Rattle.history.specs.Steps.{leastOf, limitedOf, adjustOf, predictedOf, predictedWorkOf}
 use Rattle.attempt.specs.declared.Next.{Next}
 use Rattle.attempt.specs.declared.Next.the-variants.{Pass, Restep, TooSmall, Poor}
-
--- the record and the work
-pub record Moved : Type 0 where
-  pub common : Common
-  pub work : List Float
 
 -- what follows, and the record and the work then
 pub record Attempt : Type 0 where
@@ -36,8 +31,8 @@ pub record Attempt : Type 0 where
   pub common : Common
   pub work : List Float
 
-abbrev pub moved : Next → Moved → Attempt
-moved next m = record { next = next; common = m .common; work = m .work }
+abbrev pub goesOn : Next → Moved → Attempt
+goesOn next m = record { next = next; common = m .common; work = m .work }
 
 abbrev pub stopped : Next → Common → List Float → Attempt
 stopped next c work = record { next = next; common = c; work = work }
@@ -48,10 +43,6 @@ retractedOf c = with-rmax d2 (with-tn (c .told) c)
 
 abbrev pub retractedWork : Settings → Common → List Float → List Float
 retractedWork s c work = retractColumnsOf (s .n) (c .nq) (c .nqnyh) work
-
--- hmin / |h|
-abbrev pub leastOf : Common → Float
-leastOf c = c .hmin ⊘ absOf (c .h)
 
 abbrev pub predictOf : Settings → Common → List Float → Moved
 predictOf s c work = record { common = predictedOf s c; work = predictedWorkOf s c work }
@@ -79,7 +70,7 @@ quarteredOf s c work =
 
 unfoldable pub noConvergenceAt : Settings → Bool → Common → List Float → Attempt
 noConvergenceAt s true c work = stopped Poor c work
-noConvergenceAt s false c work = moved Pass (quarteredOf s c work)
+noConvergenceAt s false c work = goesOn Pass (quarteredOf s c work)
 
 unfoldable pub noConvergenceOf : Settings → Common → List Float → Attempt
 noConvergenceOf s c work = noConvergenceAt s (poorOf s (unconvergedOf c)) (unconvergedOf c) (retractedWork s c work)
@@ -87,7 +78,7 @@ noConvergenceOf s c work = noConvergenceAt s (poorOf s (unconvergedOf c)) (uncon
 -- ---- the error test
 
 abbrev pub errorSizeOf : Settings → Common → Float → List Float → Float
-errorSizeOf s c del work = cond (eqb (c .m) 0) del (vmnormOf (acor (s .n) work) (ewt (s .n) work) .value)
+errorSizeOf s c del work = cond (eqb (c .m) 0) del (normAtOf (s .n) (acorAt (s .n)) work .value)
 
 -- a pass that converged at its first iteration has the size at hand
 unfoldable pub errorOf : Settings → Common → Float → List Float → Float
@@ -102,14 +93,14 @@ shrunkOf c dsm =
 -- a tenth of the step; y is what the derivative is wanted at
 unfoldable pub tenthOf : Settings → Common → List Float → Moved
 tenthOf s c work =
-    record { common = with-h (c .h ⊗ maxOf d0·1 (leastOf c)) c; work = copyOf (s .n) (17 * s .n) 0 work }
+    record { common = with-h (c .h ⊗ maxOf d0·1 (leastOf c)) c; work = copyOf (s .n) (yAt (s .n)) 0 work }
 
 -- tiny; below the third failure; the tenth
 unfoldable pub missedAt : Settings → Float → Bool → Bool → Bool → Common → List Float → Attempt
 missedAt s dsm true early last c work = stopped TooSmall c work
-missedAt s dsm false true last c work = moved Pass (repredictOf s c (shrunkOf c dsm) work)
+missedAt s dsm false true last c work = goesOn Pass (repredictOf s c (shrunkOf c dsm) work)
 missedAt s dsm false false true c work = stopped TooSmall c work
-missedAt s dsm false false false c work = moved Restep (tenthOf s c work)
+missedAt s dsm false false false c work = goesOn Restep (tenthOf s c work)
 
 unfoldable pub missedOf : Settings → Common → Float → List Float → Attempt
 missedOf s c dsm work = missedAt s dsm (tinyOf c) (ltb (c .kflag) 3) (eqb (c .kflag) 10) c work

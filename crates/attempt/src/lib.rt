@@ -1,12 +1,14 @@
 // A step's attempts that are not accepted, as in `stoda`: no convergence, the error test, its failure, and what
 // follows the derivative of the third to ninth failure.
 ghost use mathlib.Core.Path.{_≡_};
-ghost use Prim.Native.Nat.{_*_, _^_, _≤_, _<_};
+ghost use Prim.Native.Nat.{_^_, _≤_, _<_};
 ghost use lib.ListN.{length};
-ghost use Rattle.history.specs.Steps.{InRange};
+ghost use Rattle.common.specs.Layout.{matrixAt};
+ghost use Rattle.common.specs.State.{Moved};
+ghost use Rattle.history.specs.Steps.{StepInRange, leastOf};
 ghost use Rattle.history.specs.Columns.{retractColumnsOf};
-ghost use Rattle.attempt.specs.Attempt.{Moved, Attempt, retractedOf, leastOf, repredictOf, noConvergenceOf};
-ghost use Rattle.attempt.specs.Attempt.{errorOf, shrunkOf, missedOf, failedOf, restepOf};
+ghost use Rattle.attempt.specs.Attempt.{Attempt, retractedOf, repredictOf, noConvergenceOf, errorOf, shrunkOf};
+ghost use Rattle.attempt.specs.Attempt.{missedOf, failedOf, restepOf};
 use common::Common;
 use common::Settings;
 
@@ -25,8 +27,8 @@ pub struct Attempted {
 
 // The history and the time are put back to where the step began.
 fn retract(s: Settings, c: Common, work: &mut [f64]) -> Common
-    requires { ⌜ InRange s c ⌝ }
-    requires { ⌜ 19 * s .n ≤ length (now work) ⌝ }
+    requires { ⌜ StepInRange s c ⌝ }
+    requires { ⌜ matrixAt (s .n) ≤ length (now work) ⌝ }
     ensures { λ r. ⌜ (r ≡ retractedOf c)
         × (now (work .exit) ≡ retractColumnsOf (s .n) (c .nq) (c .nqnyh) (now (work .entry))) ⌝ }
 {
@@ -46,8 +48,8 @@ fn least(c: Common) -> f64
 
 // The columns rescaled, then predicted again.
 fn repredict(s: Settings, c: Common, rh: f64, work: &mut [f64]) -> Common
-    requires { ⌜ InRange s c ⌝ }
-    requires { ⌜ 19 * s .n ≤ length (now work) ⌝ }
+    requires { ⌜ StepInRange s c ⌝ }
+    requires { ⌜ matrixAt (s .n) ≤ length (now work) ⌝ }
     ensures { λ r. ⌜ _≡_ {A = Moved} (record { common = r; work = now (work .exit) })
         (repredictOf s c rh (now (work .entry))) ⌝ }
 {
@@ -57,9 +59,9 @@ fn repredict(s: Settings, c: Common, rh: f64, work: &mut [f64]) -> Common
 
 // `stoda_handle_corrector_failure`: poor at the mxncf-th such pass or at the smallest step, else a quarter of it.
 pub fn no_convergence(s: Settings, c: Common, work: &mut [f64]) -> Attempted
-    requires { ⌜ InRange s c ⌝ }
+    requires { ⌜ StepInRange s c ⌝ }
     requires { ⌜ (c .ncf < 2 ^ 62) × (c .rejected < 2 ^ 63) ⌝ }
-    requires { ⌜ 19 * s .n ≤ length (now work) ⌝ }
+    requires { ⌜ matrixAt (s .n) ≤ length (now work) ⌝ }
     ensures { λ r. ⌜ _≡_ {A = Attempt} (record { next = r .next; common = r .common; work = now (work .exit) })
         (noConvergenceOf s c (now (work .entry))) ⌝ }
 {
@@ -81,8 +83,8 @@ pub fn no_convergence(s: Settings, c: Common, work: &mut [f64]) -> Attempted
 // The error of a converged pass, 1 being what is allowed. A pass that converged at once has the size of its correction
 // at hand.
 pub fn error(s: Settings, c: Common, del: f64, work: &[f64]) -> f64
-    requires { ⌜ InRange s c ⌝ }
-    requires { ⌜ 19 * s .n ≤ length (now work) ⌝ }
+    requires { ⌜ StepInRange s c ⌝ }
+    requires { ⌜ matrixAt (s .n) ≤ length (now work) ⌝ }
     ensures { λ r. ⌜ r ≡ errorOf s c del (now (work .entry)) ⌝ }
 {
     let tesco = coefficients::tesco(c.table, c.nq, 1);
@@ -90,11 +92,7 @@ pub fn error(s: Settings, c: Common, del: f64, work: &[f64]) -> f64
         return del / tesco;
     }
     let n = s.n;
-    let a = 16 * n;
-    let b = 17 * n;
-    let w = 13 * n;
-    let we = 14 * n;
-    vectors::vmnorm(&work[a..b], &work[w..we]).value / tesco
+    history::norm_at(work, n, common::ACOR * n).value / tesco
 }
 
 // The factor after the first and the second error failure.
@@ -112,8 +110,8 @@ fn shrunk(c: Common, dsm: f64) -> f64
 // An error failure, retracted: too small at the smallest step or at the tenth failure, from the third on a tenth of
 // the step and a derivative anew.
 fn missed(s: Settings, c: Common, dsm: f64, work: &mut [f64]) -> Attempted
-    requires { ⌜ InRange s c ⌝ }
-    requires { ⌜ 19 * s .n ≤ length (now work) ⌝ }
+    requires { ⌜ StepInRange s c ⌝ }
+    requires { ⌜ matrixAt (s .n) ≤ length (now work) ⌝ }
     ensures { λ r. ⌜ _≡_ {A = Attempt} (record { next = r .next; common = r .common; work = now (work .exit) })
         (missedOf s c dsm (now (work .entry))) ⌝ }
 {
@@ -128,7 +126,7 @@ fn missed(s: Settings, c: Common, dsm: f64, work: &mut [f64]) -> Attempted
         return Attempted { next: Next::TooSmall, common: c };
     }
     let n = s.n;
-    history::copy_part(work, n, 17 * n, 0);
+    history::copy_part(work, n, common::Y * n, 0);
     let mut d = c;
     d.h = c.h * numbers::max(0.1, least(c));
     Attempted { next: Next::Restep, common: d }
@@ -136,9 +134,9 @@ fn missed(s: Settings, c: Common, dsm: f64, work: &mut [f64]) -> Attempted
 
 // The error is above 1.
 pub fn error_failure(s: Settings, c: Common, dsm: f64, work: &mut [f64]) -> Attempted
-    requires { ⌜ InRange s c ⌝ }
+    requires { ⌜ StepInRange s c ⌝ }
     requires { ⌜ (c .kflag ≤ 9) × (c .rejected < 2 ^ 63) ⌝ }
-    requires { ⌜ 19 * s .n ≤ length (now work) ⌝ }
+    requires { ⌜ matrixAt (s .n) ≤ length (now work) ⌝ }
     ensures { λ r. ⌜ _≡_ {A = Attempt} (record { next = r .next; common = r .common; work = now (work .exit) })
         (failedOf s c dsm (now (work .entry))) ⌝ }
 {
@@ -150,8 +148,8 @@ pub fn error_failure(s: Settings, c: Common, dsm: f64, work: &mut [f64]) -> Atte
 
 // The derivative after the third to ninth error failure is in savf: order 1 from there, and a prediction.
 pub fn restep(s: Settings, c: Common, work: &mut [f64]) -> Common
-    requires { ⌜ InRange s c ⌝ }
-    requires { ⌜ 19 * s .n ≤ length (now work) ⌝ }
+    requires { ⌜ StepInRange s c ⌝ }
+    requires { ⌜ matrixAt (s .n) ≤ length (now work) ⌝ }
     ensures { λ r. ⌜ _≡_ {A = Moved} (record { common = r; work = now (work .exit) })
         (restepOf s c (now (work .entry))) ⌝ }
 {

@@ -1,9 +1,12 @@
 -- What callers need of the definitions: each keeps the length of the list, predict and retract leave every number
--- from nqnyh on, and a prediction and a rescale keep what a step's functions ask of the record (`InRange`).
+-- from nqnyh on, and a prediction, a rescale and another order keep what a step's functions ask of the record
+-- (`StepInRange`); with two laws of a choice by a test (`chosen`, `chosen-if`).
 -- Assumes nothing.
 use mathlib.Core.Path.{_≡_, refl, _∙_}
+use mathlib.Core.Bool.{Bool, true, false, cond}
 use mathlib.Core.List.{List}
 use Prim.Native.Nat.{ℕ, _+_, _-_, _*_, _<_, _≤_}
+use native.Mathlib.Nat.{mul-le-mul-right}
 use native.Mathlib.Omega.{arith}
 use lib.ListN.{length, getD, set, length-set, replicate, length-replicate}
 use lib.Seq.{getD-set-other}
@@ -14,10 +17,22 @@ use Rattle.loops.specs.Part.{part, length-putPart}
 use Rattle.numbers.specs.Float.{_⊕_, _⊖_, _⊗_}
 use Rattle.common.specs.declared.Settings.{Settings}
 use Rattle.common.specs.declared.Common.{Common}
-use Rattle.history.specs.Columns.{predictColumnsOf, retractColumnsOf, scaleOf, scaleColumnOf, Rescaled}
-use Rattle.history.specs.Columns.{rescaleAt, rescaleColumnsOf, addScaledOf, correctAt, correctColumnsOf}
-use Rattle.history.specs.Columns.{copyOf, slopeOf, fillOf, scalePartOf}
-use Rattle.history.specs.Steps.{InRange, adjustOf, predictedOf}
+use Rattle.common.specs.Record.{with-nq}
+use Rattle.common.specs.Rules.{resetOf}
+use Rattle.history.specs.Columns.{predictColumnsOf, retractColumnsOf, multiplyAt, multiplyOf, scaleColumnOf}
+use Rattle.history.specs.Columns.{Rescaled, rescaleAt, rescaleColumnsOf, addScaledAt, addScaledOf, correctAt}
+use Rattle.history.specs.Columns.{correctColumnsOf, copyAt, copyOf, slopeAt, slopeOf, fillOf, scalePartOf}
+use Rattle.history.specs.Steps.{StepInRange, adjustOf, predictedOf}
+
+-- what a choice has if each side has it where it is taken
+pub chosen-if : {A : Type 0} (P : A → Type 0) (t : Bool) {x y : A} → (t ≡ true → P x) → (t ≡ false → P y)
+    → P (cond t x y)
+chosen-if P true p q = p refl
+chosen-if P false p q = q refl
+
+-- what both sides have, the chosen one has
+pub chosen : {A : Type 0} (P : A → Type 0) (t : Bool) {x y : A} → P x → P y → P (cond t x y)
+chosen P t p q = chosen-if P t (λ e. p) (λ e. q)
 
 -- what every turn keeps the loop keeps, whatever its bounds
 pub always : {S : Type 0} (P : S → Type 0) (f : ℕ → S → S) (i e : ℕ) (s : S)
@@ -30,18 +45,13 @@ pub length-for : {A : Type 0} (f : ℕ → List A → List A) (i e : ℕ) (l : L
     → ((k : ℕ) (s : List A) → length (f k s) ≡ length s) → length (for i e f l) ≡ length l
 length-for f i e l one = always (λ s. length s ≡ length l) f i e l (λ k s p. one k s ∙ p) refl
 
--- a loop whose turn k stores at a k what g k says
-pub length-stores : {A : Type 0} (a : ℕ → ℕ) (g : ℕ → List A → A) (i e : ℕ) (l : List A)
-    → length (for i e (λ k s. set s (a k) (g k s)) l) ≡ length l
-length-stores a g i e l = length-for (λ k s. set s (a k) (g k s)) i e l (λ k s. length-set s (a k) (g k s))
-
 -- the passes of predict and retract: they differ in g, what a turn stores
 module _ (n nqnyh : ℕ) (g : ℕ → List Float → Float) where
   abbrev passes : ℕ → List Float → List Float
   passes nq yh = for 0 nq (λ k s. for (nqnyh - (k + 1) * n) nqnyh (λ i t. set t i (g i t)) s) yh
 
   length-passes : (nq : ℕ) (yh : List Float) → length (passes nq yh) ≡ length yh
-  length-passes nq yh = length-for _ 0 nq yh (λ k s. length-stores (λ i. i) g _ nqnyh s)
+  length-passes nq yh = length-for _ 0 nq yh (λ k s. length-for _ _ nqnyh s (λ i t. length-set t i (g i t)))
 
   same-pass : (a i : ℕ) (yh : List Float) → a ≤ nqnyh → nqnyh ≤ i
       → getD (for a nqnyh (λ k t. set t k (g k t)) yh) i nan ≡ getD yh i nan
@@ -72,17 +82,17 @@ module _ (n nq nqnyh : ℕ) (yh : List Float) where
   unfolding retractColumnsOf
   same-retract i beyond = same-passes n nqnyh (λ j t. getD t j nan ⊖ getD t (j + n) nan) nq i yh beyond
 
-length-scale : (r : Float) (v : List Float) → length (scaleOf r v) ≡ length v
-length-scale r v = length-stores (λ i. i) (λ i t. getD t i nan ⊗ r) 0 (length v) v
+length-scale : (r : Float) (v : List Float) → length (multiplyOf r v) ≡ length v
+length-scale r v = length-for (multiplyAt r) 0 (length v) v (λ i t. simp length-set)
 
 pub length-scale-column : (n j : ℕ) (r : Float) (yh : List Float) → length (scaleColumnOf n j r yh) ≡ length yh
 unfolding scaleColumnOf
 length-scale-column n j r yh =
-    same-len-mid (j * n) n yh (scaleOf r (part (j * n) n yh)) (length-scale r (part (j * n) n yh))
+    same-len-mid (j * n) n yh (multiplyOf r (part (j * n) n yh)) (length-scale r (part (j * n) n yh))
 
 pub length-scale-part : (n at : ℕ) (r : Float) (work : List Float) → length (scalePartOf n at r work) ≡ length work
 unfolding scalePartOf
-length-scale-part n at r work = same-len-mid at n work (scaleOf r (part at n work)) (length-scale r (part at n work))
+length-scale-part n at r work = same-len-mid at n work (multiplyOf r (part at n work)) (length-scale r (part at n work))
 
 pub length-rescale : (n l : ℕ) (rh : Float) (yh : List Float) → length (rescaleColumnsOf n l rh yh) ≡ length yh
 unfolding rescaleColumnsOf
@@ -92,8 +102,7 @@ length-rescale n l rh yh =
 
 length-add-scaled : (n j : ℕ) (e : Float) (at : ℕ) (l : List Float) → length (addScaledOf n j e at l) ≡ length l
 unfolding addScaledOf
-length-add-scaled n j e at l =
-    length-stores (λ i. i + j * n) (λ i t. getD t (i + j * n) nan ⊕ e ⊗ getD t (at + i) nan) 0 n l
+length-add-scaled n j e at l = length-for (addScaledAt n j e at) 0 n l (λ i t. simp length-set)
 
 pub length-correct : (s : Settings) (c : Common) (work : List Float) → length (correctColumnsOf s c work) ≡ length work
 unfolding correctColumnsOf
@@ -101,11 +110,11 @@ length-correct s c work = length-for (correctAt s c) 0 (c .nq + 1) work (λ j t.
 
 pub length-copy : (n to from : ℕ) (work : List Float) → length (copyOf n to from work) ≡ length work
 unfolding copyOf
-length-copy n to from work = length-stores (λ i. to + i) (λ i t. getD t (from + i) nan) 0 n work
+length-copy n to from work = length-for (copyAt to from) 0 n work (λ i t. simp length-set)
 
 pub length-slope : (n : ℕ) (h : Float) (work : List Float) → length (slopeOf n h work) ≡ length work
 unfolding slopeOf
-length-slope n h work = length-stores (λ i. n + i) (λ i t. h ⊗ getD t (14 * n + i) nan) 0 n work
+length-slope n h work = length-for (slopeAt n h) 0 n work (λ i t. simp length-set)
 
 pub length-fill : (n at : ℕ) (x : Float) (work : List Float) → at + n ≤ length work
     → length (fillOf n at x work) ≡ length work
@@ -114,7 +123,7 @@ length-fill n at x work h = length-putPart at n work h (replicate n x) (length-r
 
 -- a record with the same order, table and places is in range where the other is
 pub same-range : {s : Settings} {c : Common} (d : Common)
-    → d .nq ≡ c .nq → d .table ≡ c .table → d .nqnyh ≡ c .nqnyh → d .nslp ≡ c .nslp → InRange s c → InRange s d
+    → d .nq ≡ c .nq → d .table ≡ c .table → d .nqnyh ≡ c .nqnyh → d .nslp ≡ c .nslp → StepInRange s c → StepInRange s d
 same-range d nq table nqnyh nslp p =
     record {
       n = p .n;
@@ -124,10 +133,36 @@ same-range d nq table nqnyh nslp p =
       steps = rw nslp (p .steps);
     }
 
-pub in-range-predicted : (s : Settings) (c : Common) → InRange s c → InRange s (predictedOf s c)
+-- a record with a lower order, and otherwise the same places
+pub lower-range : {s : Settings} {c : Common} (d : Common) (q : ℕ)
+    → d .nq ≡ q → d .table ≡ c .table → d .nqnyh ≡ c .nqnyh → d .nslp ≡ c .nslp
+    → 1 ≤ q → q ≤ c .nq → StepInRange s c → StepInRange s d
+lower-range {s} {c} d q nq table nqnyh nslp one below p =
+    record {
+      n = p .n;
+      order = rw nq (one, omega (arith, p .order));
+      table = rw table (p .table);
+      used = rw (nq, nqnyh) (omega (arith, mul-le-mul-right (s .n) below, p .used), p .used .1);
+      steps = rw nslp (p .steps);
+    }
+
+-- after a reset the places are those of the new order
+pub reset-range : {s : Settings} {c : Common} (q : ℕ) → 1 ≤ q → q ≤ 12 → StepInRange s c
+    → StepInRange s (resetOf s (with-nq q c))
+unfolding resetOf
+reset-range {s} {c} q one most p =
+    record {
+      n = p .n;
+      order = (one, most);
+      table = p .table;
+      used = (omega arith, mul-le-mul-right (s .n) most);
+      steps = p .steps;
+    }
+
+pub in-range-predicted : (s : Settings) (c : Common) → StepInRange s c → StepInRange s (predictedOf s c)
 unfolding predictedOf
 in-range-predicted s c p = same-range _ refl refl refl refl p
 
-pub in-range-adjust : (s : Settings) (c : Common) (rh : Float) → InRange s c → InRange s (adjustOf c rh)
+pub in-range-adjust : (s : Settings) (c : Common) (rh : Float) → StepInRange s c → StepInRange s (adjustOf c rh)
 unfolding adjustOf
 in-range-adjust s c rh p = same-range _ refl refl refl refl p

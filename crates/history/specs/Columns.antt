@@ -1,6 +1,6 @@
 -- What predict, retract, rescale and the correction make of the history (`stoda_get_predicted_values`, `retract_yh`,
 -- `stoda_adjust_step_size` and the accepted step of `stoda`), on the one flat list: column j is the n numbers at j·n.
--- The vectors stand where crate common's Layout says: savf at 14·n, acor at 16·n.
+-- The vectors savf and acor stand where crate common's Layout says.
 use mathlib.Core.List.{List}
 use Prim.Native.Nat.{ℕ, _+_, _-_, _*_}
 use lib.ListN.{length, getD, set, replicate}
@@ -10,6 +10,7 @@ use Rattle.loops.specs.Part.{part, putPart}
 use Rattle.numbers.specs.Float.{_⊕_, _⊖_, _⊗_, oneF}
 use Rattle.common.specs.declared.Settings.{Settings}
 use Rattle.common.specs.declared.Common.{Common}
+use Rattle.common.specs.Layout.{savfAt, acorAt}
 use Rattle.common.specs.Rules.{elOf}
 
 -- yh[i] += yh[i + n]
@@ -40,15 +41,15 @@ unfoldable pub retractColumnsOf : ℕ → ℕ → ℕ → List Float → List Fl
 retractColumnsOf n nq nqnyh yh = for 0 nq (retractPass n nqnyh) yh
 
 -- each number times r
-abbrev pub scaleAt : Float → ℕ → List Float → List Float
-scaleAt r i v = set v i (getD v i nan ⊗ r)
+abbrev pub multiplyAt : Float → ℕ → List Float → List Float
+multiplyAt r i v = set v i (getD v i nan ⊗ r)
 
-abbrev pub scaleOf : Float → List Float → List Float
-scaleOf r v = for 0 (length v) (scaleAt r) v
+abbrev pub multiplyOf : Float → List Float → List Float
+multiplyOf r v = for 0 (length v) (multiplyAt r) v
 
 -- column j times r
 unfoldable pub scaleColumnOf : ℕ → ℕ → Float → List Float → List Float
-scaleColumnOf n j r yh = putPart (j * n) n yh (scaleOf r (part (j * n) n yh))
+scaleColumnOf n j r yh = putPart (j * n) n yh (multiplyOf r (part (j * n) n yh))
 
 -- the power of rh so far, and the columns
 pub record Rescaled : Type 0 where
@@ -69,7 +70,7 @@ unfoldable pub addScaledOf : ℕ → ℕ → Float → ℕ → List Float → Li
 addScaledOf n j e at work = for 0 n (addScaledAt n j e at) work
 
 abbrev pub correctAt : Settings → Common → ℕ → List Float → List Float
-correctAt s c j work = addScaledOf (s .n) j (elOf s c j) (16 * s .n) work
+correctAt s c j work = addScaledOf (s .n) j (elOf s c j) (acorAt (s .n)) work
 
 -- yh[j] += el[j]·acor, columns 0 to nq
 unfoldable pub correctColumnsOf : Settings → Common → List Float → List Float
@@ -83,7 +84,7 @@ copyOf n to from work = for 0 n (copyAt to from) work
 
 -- column 1 = h·savf
 abbrev pub slopeAt : ℕ → Float → ℕ → List Float → List Float
-slopeAt n h i work = set work (n + i) (h ⊗ getD work (14 * n + i) nan)
+slopeAt n h i work = set work (n + i) (h ⊗ getD work (savfAt n + i) nan)
 
 unfoldable pub slopeOf : ℕ → Float → List Float → List Float
 slopeOf n h work = for 0 n (slopeAt n h) work
@@ -94,4 +95,4 @@ fillOf n at x work = putPart at n work (replicate n x)
 
 -- the n numbers at `at`, each times r
 unfoldable pub scalePartOf : ℕ → ℕ → Float → List Float → List Float
-scalePartOf n at r work = putPart at n work (scaleOf r (part at n work))
+scalePartOf n at r work = putPart at n work (multiplyOf r (part at n work))

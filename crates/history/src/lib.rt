@@ -1,13 +1,12 @@
 // The history's columns: predict, retract, rescale, the correction added, and copies between parts of the work slice.
 // Column j is the n numbers at j·n. Snapshot and interpolation are in crate interpolation.
 ghost use mathlib.Core.Path.{_≡_};
-ghost use Prim.Native.Nat.{_+_, _*_, _≤_, _<_};
+ghost use Prim.Native.Nat.{_+_, _*_, _≤_};
 ghost use lib.ListN.{length, replicate};
-ghost use Rattle.history.specs.Columns.{addRange, subRange, predictColumnsOf, retractColumnsOf, scaleOf};
-ghost use Rattle.history.specs.Columns.{rescaleColumnsOf, addScaledOf, correctColumnsOf};
-ghost use Rattle.history.specs.Columns.{copyOf, slopeOf};
-ghost use Rattle.history.specs.Steps.{InRange, limitedOf, adjustOf, staleOf, predictedOf, predictedWorkOf};
 ghost use Rattle.common.specs.Layout.{matrixAt};
+ghost use Rattle.history.specs.Columns.{addRange, subRange, predictColumnsOf, retractColumnsOf, multiplyOf};
+ghost use Rattle.history.specs.Columns.{rescaleColumnsOf, addScaledOf, correctColumnsOf, copyOf, slopeOf};
+ghost use Rattle.history.specs.Steps.{StepInRange, limitedOf, adjustOf, staleOf, predictedOf, predictedWorkOf};
 ghost use Rattle.history.specs.Parts.{normAtOf, storedOf};
 
 use common::Common;
@@ -76,7 +75,7 @@ pub fn retract_columns(yh: &mut [f64], n: usize, nq: usize, nqnyh: usize)
 
 // Each number times r.
 pub fn scale(v: &mut [f64], r: f64)
-    ensures { λ _. ⌜ now (v .exit) ≡ scaleOf r (now (v .entry)) ⌝ }
+    ensures { λ _. ⌜ now (v .exit) ≡ multiplyOf r (now (v .entry)) ⌝ }
 {
     for i in 0..v.len() {
         v[i] *= r;
@@ -109,13 +108,13 @@ fn add_scaled(work: &mut [f64], n: usize, j: usize, e: f64, at: usize)
 
 // The correction acor added to the columns 0 to nq, each with its coefficient.
 pub fn correct_columns(s: Settings, c: Common, work: &mut [f64])
-    requires { ⌜ InRange s c ⌝ }
-    requires { ⌜ 19 * s .n ≤ length (now work) ⌝ }
+    requires { ⌜ StepInRange s c ⌝ }
+    requires { ⌜ matrixAt (s .n) ≤ length (now work) ⌝ }
     ensures { λ _. ⌜ now (work .exit) ≡ correctColumnsOf s c (now (work .entry)) ⌝ }
 {
     let n = s.n;
     for j in 0..c.nq + 1 {
-        add_scaled(work, n, j, common::el(s, c, j), 16 * n);
+        add_scaled(work, n, j, common::el(s, c, j), common::ACOR * n);
     }
 }
 
@@ -131,11 +130,11 @@ pub fn copy_part(work: &mut [f64], n: usize, to: usize, from: usize)
 
 // Column 1 becomes h times the derivative savf.
 pub fn set_slope(work: &mut [f64], n: usize, h: f64)
-    requires { ⌜ 19 * n ≤ length (now work) ⌝ }
+    requires { ⌜ matrixAt n ≤ length (now work) ⌝ }
     ensures { λ _. ⌜ now (work .exit) ≡ slopeOf n h (now (work .entry)) ⌝ }
 {
     for i in 0..n {
-        work[n + i] = h * work[14 * n + i];
+        work[n + i] = h * work[common::SAVF * n + i];
     }
 }
 
@@ -178,8 +177,8 @@ pub fn limited(c: Common, rh: f64) -> f64
 }
 
 pub fn stoda_adjust_step_size(s: Settings, c: Common, rh: f64, work: &mut [f64]) -> Common
-    requires { ⌜ InRange s c ⌝ }
-    requires { ⌜ 19 * s .n ≤ length (now work) ⌝ }
+    requires { ⌜ StepInRange s c ⌝ }
+    requires { ⌜ matrixAt (s .n) ≤ length (now work) ⌝ }
     ensures { λ r. ⌜ (r ≡ adjustOf c rh)
         × (now (work .exit) ≡ rescaleColumnsOf (s .n) (c .nq + 1) (limitedOf c rh) (now (work .entry))) ⌝ }
 {
@@ -194,7 +193,7 @@ pub fn stoda_adjust_step_size(s: Settings, c: Common, rh: f64, work: &mut [f64])
 
 // Whether a prediction asks for a Jacobian anew: rc has moved, or msbp steps have passed.
 fn is_stale(s: Settings, c: Common) -> bool
-    requires { ⌜ InRange s c ⌝ }
+    requires { ⌜ StepInRange s c ⌝ }
     ensures { λ r. ⌜ r ≡ staleOf s c ⌝ }
 {
     if numbers::abs(c.rc - 1.0) > 0.3 {
@@ -204,8 +203,8 @@ fn is_stale(s: Settings, c: Common) -> bool
 }
 
 pub fn stoda_get_predicted_values(s: Settings, c: Common, work: &mut [f64]) -> Common
-    requires { ⌜ InRange s c ⌝ }
-    requires { ⌜ 19 * s .n ≤ length (now work) ⌝ }
+    requires { ⌜ StepInRange s c ⌝ }
+    requires { ⌜ matrixAt (s .n) ≤ length (now work) ⌝ }
     ensures { λ r. ⌜ (r ≡ predictedOf s c) × (now (work .exit) ≡ predictedWorkOf s c (now (work .entry))) ⌝ }
 {
     predict_columns(work, s.n, c.nq, c.nqnyh);

@@ -1,5 +1,5 @@
 -- What the reading of a header means.
---     count-is, is-count    `countOf x limit` is `Is k` exactly if k is at most the limit and x equals the float of k
+--     count-is, is-count    `wholeCountOf x limit` is `Is k` exactly if k is at most the limit and x equals k's float
 --     count-not             it is `NotWhole` only if x equals no count up to the limit
 --     header-reads, reads-header    a header is read exactly if condition 15 does not hold; these are its sizes
 -- The first count found is the only one, since the float of a count has its value and x has one value.
@@ -25,7 +25,7 @@ use Rattle.interpolation.specs.declared.Count.the-variants.{Is, NotWhole
 use Rattle.interpolation.specs.declared.Sizes.{Sizes}
 use Rattle.interpolation.specs.declared.Header.{Header}
 use Rattle.interpolation.specs.declared.Header.the-variants.{Read, Refused}
-use Rattle.interpolation.specs.Header.{countAt, countOf, withOrder, withStates, readHeaderOf, Reads}
+use Rattle.interpolation.specs.Header.{wholeCountAt, wholeCountOf, withOrder, withStates, readHeaderOf, Reads}
 use Rattle.interpolation.proofs.Laws.{reaches}
 
 -- what is known of x once the counts below k were tried
@@ -38,21 +38,21 @@ tried-here : (x : Float) (k : ℕ) (b : Bool) → Ieee.eq x (whole k) ≡ b → 
 tried-here x k true e p = (omega arith, e)
 tried-here x k false e p = below-more (λ (j : ℕ). Ieee.eq x (whole j) ≡ false) k p e
 
-tried-at : (x : Float) (k : ℕ) (s : Count) → Tried x k s → Tried x (k + 1) (countAt x k s)
+tried-at : (x : Float) (k : ℕ) (s : Count) → Tried x k s → Tried x (k + 1) (wholeCountAt x k s)
 tried-at x k (Is j) p = (omega arith, p .1)
 tried-at x k NotWhole p = tried-here x k (Ieee.eq x (whole k)) refl p
 
 module _ (x : Float) (limit : ℕ) where
-  tried : Tried x (limit + 1) (countOf x limit)
-  unfolding countOf
+  tried : Tried x (limit + 1) (wholeCountOf x limit)
+  unfolding wholeCountOf
   tried =
-      reaches (Tried x) (countAt x) (limit + 1) (λ k s h p. tried-at x k s p) 0 NotWhole (omega arith)
+      reaches (Tried x) (wholeCountAt x) (limit + 1) (λ k s h p. tried-at x k s p) 0 NotWhole (omega arith)
       (below-none (λ (j : ℕ). Ieee.eq x (whole j) ≡ false))
 
-  pub count-is : (k : ℕ) → countOf x limit ≡ Is k → (k ≤ limit) × (Ieee.eq x (whole k) ≡ true)
+  pub count-is : (k : ℕ) → wholeCountOf x limit ≡ Is k → (k ≤ limit) × (Ieee.eq x (whole k) ≡ true)
   count-is k e = let p = rw e at tried in (omega arith, p .1)
 
-  pub count-not : countOf x limit ≡ NotWhole → (k : ℕ) → k ≤ limit → Ieee.eq x (whole k) ≡ false
+  pub count-not : wholeCountOf x limit ≡ NotWhole → (k : ℕ) → k ≤ limit → Ieee.eq x (whole k) ≡ false
   count-not e k h = let p = rw e at tried in p k (omega arith)
 
 -- a float whose value is k: finite, and m · 2^e = k (of -0.0 too)
@@ -105,8 +105,9 @@ one-value nan j k p q = absurd p
 one-value (inf s) j k p q = absurd p
 one-value (fin s m e) j k p q = eq-of-mul-eq-mul-right (down e) (down-pos e) j k (sym p ∙ q)
 
-pub is-count : (x : Float) (limit k : ℕ) → limit ≤ 64 → k ≤ limit → Ieee.eq x (whole k) ≡ true → countOf x limit ≡ Is k
-is-count x limit k l h q = go (countOf x limit) (tried x limit)
+pub is-count : (x : Float) (limit k : ℕ) → limit ≤ 64 → k ≤ limit → Ieee.eq x (whole k) ≡ true
+    → wholeCountOf x limit ≡ Is k
+is-count x limit k l h q = go (wholeCountOf x limit) (tried x limit)
   where
     value : (j : ℕ) → j ≤ limit → Ieee.eq x (whole j) ≡ true → Value x j
     value j b = value-of x (whole j) j (whole-value j (omega arith))
@@ -121,19 +122,19 @@ module _ (cont : List Float) where
   ReadsIf (Read z) = Reads cont z
 
   order-read : (n : ℕ) → 6 ≤ length cont → (n ≤ 64) × (Ieee.eq (getD cont 0 nan) (whole n) ≡ true)
-      → (o : Count) → countOf (getD cont 1 nan) 12 ≡ o → ReadsIf (withOrder cont n o)
+      → (o : Count) → wholeCountOf (getD cont 1 nan) 12 ≡ o → ReadsIf (withOrder cont n o)
   order-read n l s (Is nq) e =
       record { long = l; states = s; order = count-is (getD cont 1 nan) 12 nq e; time = refl; step = refl }
   order-read n l s NotWhole e = tt
 
-  states-read : 6 ≤ length cont → (s : Count) → countOf (getD cont 0 nan) 64 ≡ s → ReadsIf (withStates cont s)
-  states-read l (Is n) e = order-read n l (count-is (getD cont 0 nan) 64 n e) (countOf (getD cont 1 nan) 12) refl
+  states-read : 6 ≤ length cont → (s : Count) → wholeCountOf (getD cont 0 nan) 64 ≡ s → ReadsIf (withStates cont s)
+  states-read l (Is n) e = order-read n l (count-is (getD cont 0 nan) 64 n e) (wholeCountOf (getD cont 1 nan) 12) refl
   states-read l NotWhole e = tt
 
   long-read : (b : Bool) → ltb (length cont) 6 ≡ b
-      → ReadsIf (cond b Refused (withStates cont (countOf (getD cont 0 nan) 64)))
+      → ReadsIf (cond b Refused (withStates cont (wholeCountOf (getD cont 0 nan) 64)))
   long-read true e = tt
-  long-read false e = states-read (ltb-false (length cont) 6 e) (countOf (getD cont 0 nan) 64) refl
+  long-read false e = states-read (ltb-false (length cont) 6 e) (wholeCountOf (getD cont 0 nan) 64) refl
 
   header-if : ReadsIf (readHeaderOf cont)
   unfolding readHeaderOf

@@ -3,8 +3,8 @@
 --     cancel       of two equal products with the value of a finite float that is not 0, the other factors are equal
 -- Every law is an equation of whole numbers, multiplied out. Assumes nothing.
 use mathlib.Core.Path.{_≡_, sym, ap}
-use mathlib.Core.Bool.{Bool, true, false}
-use Prim.Native.Nat.{ℕ, zero, suc, _+_, _*_, _<_}
+use mathlib.Core.Bool.{true, false}
+use Prim.Native.Nat.{ℕ, zero, suc, _+_, _*_}
 use native.Mathlib.Nat.{zero-mul, mul-pos, zero-lt-suc, eq-of-mul-eq-mul-right}
 use native.Mathlib.Omega.{arith}
 use lib.IntN.{ℤ}
@@ -13,7 +13,7 @@ use lib.Ieee.{Float, nan, inf, fin, up, down}
 use lib.Ieee.Fits.{up-pos, down-pos}
 use Rattle.loops.specs.Test.{differs}
 use Rattle.numbers.specs.Float.{zeroF}
-use Rattle.interpolation.specs.Fraction.{Fraction, _≈_, _⊞_, _⊟_, _⊠_, opposite, one, Finite, valueOf}
+use Rattle.interpolation.specs.Fraction.{Fraction, _≈_, _⊞_, _⊠_, one, Finite, exactOf}
 use Rattle.interpolation.specs.Published.{Exact}
 
 through : (x y z : Fraction) → x ≈ y → y ≈ z → x ≈ z
@@ -68,7 +68,7 @@ cancel-size x y m e p =
     eq-of-mul-eq-mul-right (suc m * up e * down e) (mul-pos (mul-pos (zero-lt-suc m) (up-pos e)) (down-pos e))
     (x .plus * y .bottom + y .minus * x .bottom) (y .plus * x .bottom + x .minus * y .bottom) p
 
-pub cancel : (h : Float) → Finite h → Ieee.eq h zeroF ≡ false → (x y : Fraction) → x ⊠ valueOf h ≈ y ⊠ valueOf h → x ≈ y
+pub cancel : (h : Float) → Finite h → Ieee.eq h zeroF ≡ false → (x y : Fraction) → x ⊠ exactOf h ≈ y ⊠ exactOf h → x ≈ y
 unfolding Ieee.eq Ieee.ofBits
 cancel nan f n x y p = absurd f
 cancel (inf s) f n x y p = absurd f

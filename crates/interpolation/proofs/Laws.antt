@@ -26,7 +26,8 @@ use Rattle.interpolation.specs.declared.Header.{Header}
 use Rattle.interpolation.specs.declared.Header.the-variants.{Read, Refused}
 use Rattle.interpolation.specs.Snapshot.{headerOf, snapshotAt, snapshotOf}
 use Rattle.interpolation.specs.Header.{readHeaderOf}
-use Rattle.interpolation.specs.Evaluate.{lastColumnOf, Interpolated, left, sizedOf, headedOf, interpolateOf}
+use Rattle.interpolation.specs.Evaluate.{lastColumnOf, Interpolated, outputs, interpolateSizedOf, headedOf}
+use Rattle.interpolation.specs.Evaluate.{interpolateOf}
 
 module _ {S : Type 0} (P : ℕ → S → Type 0) (f : ℕ → S → S) (e : ℕ)
     (one : (k : ℕ) (s : S) → k < e → P k s → P (k + 1) (f k s)) where
@@ -121,7 +122,7 @@ unfolding lastColumnOf
 last-each column yi = each (λ i x. getD column i nan) yi
 
 module _ (xi : Float) (cont yi : List Float) where
-  pub copied : length cont ≡ length yi → interpolateOf xi cont yi ≡ left 0 cont
+  pub copied : length cont ≡ length yi → interpolateOf xi cont yi ≡ outputs 0 cont
   unfolding interpolateOf
   copied h =
       let t = last-each cont yi in
@@ -134,8 +135,8 @@ module _ (xi : Float) (cont yi : List Float) where
   abbrev Answered : Interpolated → Type 0
   Answered r = (r .number ≡ 0) ⊎ (r .output ≡ yi)
 
-  answered-sized : (z : Sizes) → Answered (sizedOf xi cont z yi)
-  unfolding sizedOf
+  answered-sized : (z : Sizes) → Answered (interpolateSizedOf xi cont z yi)
+  unfolding interpolateSizedOf
   answered-sized z =
       chosen Answered (eqb (length yi) (z .n))
       (chosen Answered (ltb (length cont - 6) ((z .nq + 1) * z .n)) (inr refl)

@@ -7,8 +7,8 @@ use mathlib.Core.List.{List, [], _∷_}
 use native.Mathlib.Omega.{arith}
 use lib.Ieee.{Float}
 use Rattle.numbers.specs.Float.{_⊕_, _⊖_, _⊗_, _⊘_}
-use Rattle.interpolation.specs.Fraction.{Fraction, _≈_, _⊞_, _⊟_, _⊠_, one, valueOf}
-use Rattle.interpolation.specs.Published.{horner, polynomial, entry, entries}
+use Rattle.interpolation.specs.Fraction.{Fraction, _≈_, _⊞_, _⊟_, _⊠_, one, exactOf}
+use Rattle.interpolation.specs.Published.{horner, polynomial, numberAt, numbersAt}
 use Rattle.interpolation.specs.Rounding.{movedOf, allMoved, PoseMoved}
 use Rattle.interpolation.proofs.Published.{interpolated, horner-is}
 use Rattle.interpolation.proofs.Fractions.{fractions, scaled}
@@ -35,30 +35,30 @@ module _ (s : Float) where
   floats a rest = horner _⊕_ _⊗_ s a rest
 
   abbrev values : Float → List Float → Fraction
-  values a rest = horner _⊞_ _⊠_ (valueOf s) (movedOf s a rest) (allMoved s rest)
+  values a rest = horner _⊞_ _⊠_ (exactOf s) (movedOf s a rest) (allMoved s rest)
 
-  turns : (a : Float) (rest : List Float) → values a rest ≈ valueOf (floats a rest)
+  turns : (a : Float) (rest : List Float) → values a rest ≈ exactOf (floats a rest)
   unfolding horner
-  turns a [] = fractions .itself (valueOf a)
+  turns a [] = fractions .itself (exactOf a)
   turns a (b ∷ rest) =
       let v = floats b rest in
       let c = movedOf s a (b ∷ rest) in
-      let own = valueOf s ⊠ values b rest in
-      let q = valueOf s ⊠ valueOf v in
-      let x = valueOf s in
-      let factor = fractions .products x x (values b rest) (valueOf v) (fractions .itself x) (turns b rest) in
+      let own = exactOf s ⊠ values b rest in
+      let q = exactOf s ⊠ exactOf v in
+      let x = exactOf s in
+      let factor = fractions .products x x (values b rest) (exactOf v) (fractions .itself x) (turns b rest) in
       let terms = fractions .sums c c own q (fractions .itself c) factor in
-      fractions .through (c ⊞ own) (c ⊞ q) (valueOf (a ⊕ s ⊗ v)) terms
-      (moved (valueOf a) (valueOf (s ⊗ v)) q (valueOf (a ⊕ s ⊗ v)))
+      fractions .through (c ⊞ own) (c ⊞ q) (exactOf (a ⊕ s ⊗ v)) terms
+      (moved (exactOf a) (exactOf (s ⊗ v)) q (exactOf (a ⊕ s ⊗ v)))
 
 pub pose-moved : PoseMoved
 pose-moved t cont yi z r other states columns step i h =
     let s = (t ⊖ z .tn) ⊘ z .h in
-    let a = entry cont (z .n) i 0 in
-    let rest = entries cont (z .n) i 1 (z .nq) in
-    let v = valueOf (floats s a rest) in
+    let a = numberAt cont (z .n) i 0 in
+    let rest = numbersAt cont (z .n) i 1 (z .nq) in
+    let v = exactOf (floats s a rest) in
     let w = values s a rest in
-    let formula = polynomial _⊞_ _⊠_ one (valueOf s) 0 (movedOf s a rest) (allMoved s rest) in
+    let formula = polynomial _⊞_ _⊠_ one (exactOf s) 0 (movedOf s a rest) (allMoved s rest) in
     rw (interpolated t cont yi z r other states columns step .1 i h)
     (fractions .through v w formula (fractions .back w v (turns s a rest))
-    (horner-is _≈_ _⊞_ _⊠_ one fractions (valueOf s) (movedOf s a rest) (allMoved s rest)))
+    (horner-is _≈_ _⊞_ _⊠_ one fractions (exactOf s) (movedOf s a rest) (allMoved s rest)))

@@ -3,24 +3,25 @@
 -- Assumes nothing.
 use mathlib.Core.Bool.{Bool, true, false, cond}
 use mathlib.Core.List.{List}
-use mathlib.Core.Logic.{_⊎_, inl, inr, ⊎-elim, _≢_}
+use mathlib.Core.Logic.{_⊎_, inl, inr, _≢_}
 use mathlib.Core.Path.{_≡_, refl, sym, ap, _∙_}
-use Prim.Native.Nat.{ℕ, _+_, _-_, _*_, _≤_, _<_}
+use Prim.Native.Nat.{ℕ, _+_, _-_, _*_}
 use native.Mathlib.Omega.{arith}
 use lib.Dec.{eqb, ltb}
 use lib.ListN.{length, getD}
 use lib.Ieee as Ieee
 use lib.Ieee.{Float, nan}
-use borrow.Author.Tests.{eqb-true, eqb-false, ltb-true, ltb-false, eq-eqb, ne-eqb, lt-ltb}
+use borrow.Author.Tests.{eqb-true, eqb-false, ltb-true, eq-eqb, ne-eqb, lt-ltb}
 use Rattle.loops.specs.Test.{differs}
-use Rattle.numbers.specs.Float.{whole, zeroF}
+use Rattle.numbers.specs.Float.{zeroF}
 use Rattle.interpolation.specs.declared.Count.{Count}
 use Rattle.interpolation.specs.declared.Count.the-variants.{Is, NotWhole}
 use Rattle.interpolation.specs.declared.Sizes.{Sizes}
 use Rattle.interpolation.specs.declared.Header.{Header}
 use Rattle.interpolation.specs.declared.Header.the-variants.{Read, Refused}
-use Rattle.interpolation.specs.Header.{countOf, withOrder, withStates, readHeaderOf, Reads}
-use Rattle.interpolation.specs.Evaluate.{Interpolated, left, evaluateOf, sizedOf, headedOf, interpolateOf}
+use Rattle.interpolation.specs.Header.{wholeCountOf, withOrder, withStates, readHeaderOf, Reads}
+use Rattle.interpolation.specs.Evaluate.{Interpolated, outputs, evaluateOf, interpolateSizedOf, headedOf}
+use Rattle.interpolation.specs.Evaluate.{interpolateOf}
 use Rattle.interpolation.specs.Refused.{Unreadable, OutputOther, Unusable, InterpolateRefused}
 use Rattle.interpolation.proofs.Counts.{count-not, header-reads, reads-header}
 use Rattle.interpolation.proofs.Laws.{copied, unchanged}
@@ -33,18 +34,18 @@ module _ (cont : List Float) where
   Why Refused = Unreadable cont
   Why (Read z) = Unit {0}
 
-  order-why : (n : ℕ) (o : Count) → countOf (getD cont 1 nan) 12 ≡ o → Why (withOrder cont n o)
+  order-why : (n : ℕ) (o : Count) → wholeCountOf (getD cont 1 nan) 12 ≡ o → Why (withOrder cont n o)
   order-why n (Is nq) e = tt
   order-why n NotWhole e = inr (inr (count-not (getD cont 1 nan) 12 e))
 
-  states-why : (s : Count) → countOf (getD cont 0 nan) 64 ≡ s → Why (withStates cont s)
-  states-why (Is n) e = order-why n (countOf (getD cont 1 nan) 12) refl
+  states-why : (s : Count) → wholeCountOf (getD cont 0 nan) 64 ≡ s → Why (withStates cont s)
+  states-why (Is n) e = order-why n (wholeCountOf (getD cont 1 nan) 12) refl
   states-why NotWhole e = inr (inl (count-not (getD cont 0 nan) 64 e))
 
   long-why : (t : Bool) → ltb (length cont) 6 ≡ t
-      → Why (cond t Refused (withStates cont (countOf (getD cont 0 nan) 64)))
+      → Why (cond t Refused (withStates cont (wholeCountOf (getD cont 0 nan) 64)))
   long-why true e = inl (ltb-true (length cont) 6 e)
-  long-why false e = states-why (countOf (getD cont 0 nan) 64) refl
+  long-why false e = states-why (wholeCountOf (getD cont 0 nan) 64) refl
 
   why : Why (readHeaderOf cont)
   unfolding readHeaderOf
@@ -79,14 +80,15 @@ module _ (xi : Float) (cont yi : List Float) where
   module _ (other : length cont ≢ length yi) where
     sized : (z : Sizes) → Reads cont z → (s t u : Bool) → eqb (length yi) (z .n) ≡ s
         → ltb (length cont - 6) ((z .nq + 1) * z .n) ≡ t → Ieee.eq (z .h) zeroF ≡ u
-        → Outcome (cond s (cond t (left 17 yi) (cond u (left 17 yi) (left 0 (evaluateOf xi cont z yi)))) (left 16 yi))
+        → Outcome (cond s (cond t (outputs 17 yi) (cond u (outputs 17 yi) (outputs 0 (evaluateOf xi cont z yi))))
+        (outputs 16 yi))
     sized z r false t u e f g = no-output other z r (eqb-false _ _ e) refl
     sized z r true true u e f g = no-history other z r (eqb-true _ _ e) (inl (ltb-true _ _ f)) refl
     sized z r true false true e f g = no-history other z r (eqb-true _ _ e) (inr g) refl
     sized z r true false false e f g = done refl
 
     headed : (h : Header) → readHeaderOf cont ≡ h → Outcome (headedOf xi cont h yi)
-    unfolding sizedOf
+    unfolding interpolateSizedOf
     headed Refused e = no-header other (unread cont e) refl
     headed (Read z) e =
         sized z (header-reads cont z e) (eqb (length yi) (z .n)) (ltb (length cont - 6) ((z .nq + 1) * z .n))
@@ -103,17 +105,17 @@ module _ (xi : Float) (cont yi : List Float) where
   -- ---- and back
 
   module _ (other : length cont ≢ length yi) where
-    fifteen : Unreadable cont → answer ≡ left 15 yi
+    fifteen : Unreadable cont → answer ≡ outputs 15 yi
     unfolding interpolateOf
     fifteen u = rw (ne-eqb (length cont) (length yi) other, refused-at cont (readHeaderOf cont) refl u)
 
-    sixteen : (z : Sizes) → Reads cont z → OutputOther z yi → answer ≡ left 16 yi
-    unfolding interpolateOf sizedOf
+    sixteen : (z : Sizes) → Reads cont z → OutputOther z yi → answer ≡ outputs 16 yi
+    unfolding interpolateOf interpolateSizedOf
     sixteen z r o =
         rw (ne-eqb (length cont) (length yi) other, reads-header cont z r, ne-eqb (length yi) (z .n) o)
 
-    seventeen : (z : Sizes) → Reads cont z → length yi ≡ z .n → Unusable z cont → answer ≡ left 17 yi
-    unfolding interpolateOf sizedOf
+    seventeen : (z : Sizes) → Reads cont z → length yi ≡ z .n → Unusable z cont → answer ≡ outputs 17 yi
+    unfolding interpolateOf interpolateSizedOf
     seventeen z r e (inl h) =
         rw (
           ne-eqb (length cont) (length yi) other,
@@ -125,13 +127,13 @@ module _ (xi : Float) (cont yi : List Float) where
         rw (ne-eqb (length cont) (length yi) other, reads-header cont z r, eq-eqb (length yi) (z .n) e, h)
         (by (ltb (length cont - 6) ((z .nq + 1) * z .n)))
       where
-        by : (t : Bool) → cond t (left 17 yi) (left 17 yi) ≡ left 17 yi
+        by : (t : Bool) → cond t (outputs 17 yi) (outputs 17 yi) ≡ outputs 17 yi
         by true = refl
         by false = refl
 
   -- ---- the claim
 
-  abbrev number-of : {k : ℕ} → answer ≡ left k yi → answer .number ≡ k
+  abbrev number-of : {k : ℕ} → answer ≡ outputs k yi → answer .number ≡ k
   number-of e = ap (λ (r : Interpolated). r .number) e
 
   clash : {j k : ℕ} → answer .number ≡ j → answer .number ≡ k → j ≡ k

@@ -7,16 +7,16 @@
 use mathlib.Core.Path.{_≡_, refl, sym, ap, _∙_, subst}
 use mathlib.Core.Bool.{Bool, true, false, not, cond}
 use mathlib.Core.Logic.{inl, inr}
-use Prim.Native.Nat.{ℕ, zero, suc, _+_, _-_, _*_, _/_, _%_, _^_, _≤_, _<_}
-use Prim.Native.Nat.{compare, Ordering, Ordering·lt, Ordering·eq, Ordering·gt}
-use native.Mathlib.Nat.{zero-mul, zero-lt-suc, mul-pos, mul-le-mul-right, eq-zero-or-pos}
-use native.Mathlib.Nat.{mod-lt, div-add-mod', div-mul-le-self}
+use Prim.Native.Nat.{ℕ, zero, suc, _+_, _-_, _*_, _/_, _%_, _^_, _≤_, _<_, compare, Ordering, Ordering·lt, Ordering·eq}
+use Prim.Native.Nat.{Ordering·gt}
+use native.Mathlib.Nat.{zero-mul, zero-lt-suc, mul-pos, mul-le-mul-right, eq-zero-or-pos, mod-lt, div-add-mod'}
+use native.Mathlib.Nat.{div-mul-le-self}
 use native.Mathlib.Omega.{arith}
 use lib.IntN.{ℤ}
 use lib.Dec.{T, isLe, isEq, ltb, leb→le, nleb→lt, eqb→eq, ltb→lt}
 use lib.Pow.{pow-add, pow-pos}
-use lib.Ieee.{Float, nan, inf, fin, binary64, up, down, unlike, size, nearest, odd, units, round, sum}
-use lib.Ieee.{neg, add, sub, mul, div}
+use lib.Ieee.{Float, nan, inf, fin, binary64, up, down, unlike, size, nearest, odd, units, round, sum, neg, add, sub}
+use lib.Ieee.{mul, div}
 use lib.Ieee as Ieee
 use lib.Ieee.Digits.{size-reaches}
 use lib.Ieee.Exact.{HasValue, units-val}
@@ -26,9 +26,9 @@ use lib.Ieee.Order.{kept, drop}
 use lib.Ieee.Scale.{grid, overflow}
 use borrow.Author.Tests.{ltb-true, ltb-false, ne-eqb}
 use Rattle.loops.specs.Test.{differs}
-use Rattle.numbers.specs.Float.{_⊕_, _⊖_, _⊗_, _⊘_}
-use Rattle.interpolation.specs.Fraction.{Fraction, _≈_, _⊞_, _⊟_, _⊠_, Finite, valueOf}
-use Rattle.interpolation.specs.Rounding.{sizeOf, Small, SumNear, DifferenceNear, ProductNear, QuotientNear}
+use Rattle.numbers.specs.Float.{_⊘_}
+use Rattle.interpolation.specs.Fraction.{Fraction, _⊞_, _⊟_, _⊠_, Finite, exactOf}
+use Rattle.interpolation.specs.Rounding.{magnitudeOf, Small, SumNear, DifferenceNear, ProductNear, QuotientNear}
 
 -- ---- whole numbers: x and y are at most r apart
 abbrev Apart : ℕ → ℕ → ℕ → Type 0
@@ -116,7 +116,7 @@ Signed false a e = e .plus ≡ e .minus + a
 Signed true a e = e .minus ≡ e .plus + a
 
 small-of : (s : Bool) (a : ℕ) (e : Fraction) → Signed s a e → (x : Float)
-    → HasValue x s (grid binary64 a (e .bottom)) (2 ^ 1074) → Small (valueOf x ⊟ e) e
+    → HasValue x s (grid binary64 a (e .bottom)) (2 ^ 1074) → Small (exactOf x ⊟ e) e
 small-of s a e p nan v = absurd v
 small-of s a e p (inf t) v = absurd v
 small-of true a e p (fin false m k) v = differs (v .0)
@@ -126,22 +126,24 @@ small-of false a e p (fin false m k) v =
     let near =
     in-units (m * up k) (down k) (grid binary64 a c) a c (2 ^ 1022) (v .1) (rounded (a * 2 ^ 1074) c (e .proper))
     in
-    as-difference (m * up k) (down k) a c (2 ^ 1022) (e .plus) (e .minus) (sizeOf e) p (omega arith) near
+    as-difference (m * up k) (down k) a c (2 ^ 1022) (e .plus) (e .minus) (magnitudeOf e) p (omega arith) near
 small-of true a e p (fin true m k) v =
     let c = e .bottom in
     let near =
     in-units (m * up k) (down k) (grid binary64 a c) a c (2 ^ 1022) (v .1) (rounded (a * 2 ^ 1074) c (e .proper))
     in
-    let both = as-difference (m * up k) (down k) a c (2 ^ 1022) (e .minus) (e .plus) (sizeOf e) p (omega arith) near in
+    let both =
+    as-difference (m * up k) (down k) a c (2 ^ 1022) (e .minus) (e .plus) (magnitudeOf e) p (omega arith) near
+    in
     (both .1, both .0)
 
 round-small : (s : Bool) (a : ℕ) (e : Fraction) → Signed s a e → Finite (round binary64 s a (e .bottom))
-    → Small (valueOf (round binary64 s a (e .bottom)) ⊟ e) e
+    → Small (exactOf (round binary64 s a (e .bottom)) ⊟ e) e
 round-small s a e p h = small-of s a e p (round binary64 s a (e .bottom)) (round-has s a (e .bottom) h)
 
 -- ---- sums of unlike signs, of which the sizes are a and b
 abbrev Near : Fraction → Float → Type 0
-Near e x = Finite x → Small (valueOf x ⊟ e) e
+Near e x = Finite x → Small (exactOf x ⊟ e) e
 
 less-then : (a b : ℕ) (e : Fraction) → e .plus ≡ a → e .minus ≡ b
     → Near e (cond (ltb a b) (round binary64 true (b - a) (e .bottom)) (round binary64 false (a - b) (e .bottom)))
@@ -177,16 +179,16 @@ sum-near (inf s) y p q h = absurd p
 sum-near (fin s m e) nan p q h = absurd q
 sum-near (fin s m e) (inf t) p q h = absurd q
 sum-near (fin false m e) (fin false n d) p q h =
-    let x = valueOf (fin false m e) ⊞ valueOf (fin false n d) in
+    let x = exactOf (fin false m e) ⊞ exactOf (fin false n d) in
     round-small false (m * up e * down d + n * up d * down e) x (omega arith) h
 sum-near (fin true m e) (fin true n d) p q h =
-    let x = valueOf (fin true m e) ⊞ valueOf (fin true n d) in
+    let x = exactOf (fin true m e) ⊞ exactOf (fin true n d) in
     round-small true (m * up e * down d + n * up d * down e) x (omega arith) h
 sum-near (fin false m e) (fin true n d) p q h =
-    let x = valueOf (fin false m e) ⊞ valueOf (fin true n d) in
+    let x = exactOf (fin false m e) ⊞ exactOf (fin true n d) in
     less-then (m * up e * down d) (n * up d * down e) x (omega arith) (omega arith) h
 sum-near (fin true m e) (fin false n d) p q h =
-    let x = valueOf (fin true m e) ⊞ valueOf (fin false n d) in
+    let x = exactOf (fin true m e) ⊞ exactOf (fin false n d) in
     more-then (m * up e * down d) (n * up d * down e) x (omega arith) (omega arith) h
 
 pub difference-near : DifferenceNear
@@ -203,13 +205,13 @@ product-near (inf s) y p q h = absurd p
 product-near (fin s m e) nan p q h = absurd q
 product-near (fin s m e) (inf t) p q h = absurd q
 product-near (fin false m e) (fin false n d) p q h =
-    round-small false (m * up e * (n * up d)) (valueOf (fin false m e) ⊠ valueOf (fin false n d)) (omega arith) h
+    round-small false (m * up e * (n * up d)) (exactOf (fin false m e) ⊠ exactOf (fin false n d)) (omega arith) h
 product-near (fin true m e) (fin true n d) p q h =
-    round-small false (m * up e * (n * up d)) (valueOf (fin true m e) ⊠ valueOf (fin true n d)) (omega arith) h
+    round-small false (m * up e * (n * up d)) (exactOf (fin true m e) ⊠ exactOf (fin true n d)) (omega arith) h
 product-near (fin false m e) (fin true n d) p q h =
-    round-small true (m * up e * (n * up d)) (valueOf (fin false m e) ⊠ valueOf (fin true n d)) (omega arith) h
+    round-small true (m * up e * (n * up d)) (exactOf (fin false m e) ⊠ exactOf (fin true n d)) (omega arith) h
 product-near (fin true m e) (fin false n d) p q h =
-    round-small true (m * up e * (n * up d)) (valueOf (fin true m e) ⊠ valueOf (fin false n d)) (omega arith) h
+    round-small true (m * up e * (n * up d)) (exactOf (fin true m e) ⊠ exactOf (fin false n d)) (omega arith) h
 
 div-is : (s t : Bool) (m n : ℕ) (e d : ℤ)
     → fin s m e ⊘ fin t (suc n) d ≡ round binary64 (unlike s t) (m * up e * down d) (suc n * up d * down e)
@@ -230,11 +232,11 @@ module _ (m n : ℕ) (e d : ℤ) where
   top = m * up e * down d
 
   rounds : (s t : Bool) (q : Fraction) → q .bottom ≡ suc n * up d * down e → Signed (unlike s t) top q
-      → Finite (fin s m e ⊘ fin t (suc n) d) → Small (valueOf (fin s m e ⊘ fin t (suc n) d) ⊟ q) q
+      → Finite (fin s m e ⊘ fin t (suc n) d) → Small (exactOf (fin s m e ⊘ fin t (suc n) d) ⊟ q) q
   rounds s t q b g h =
       let same = div-is s t m n e d ∙ ap (λ (c : ℕ). round binary64 (unlike s t) top c) (sym b) in
       let finite = subst (λ (x : Float). Finite x) same h in
-      subst (λ (x : Float). Small (valueOf x ⊟ q) q) (sym same) (round-small (unlike s t) top q g finite)
+      subst (λ (x : Float). Small (exactOf x ⊟ q) q) (sym same) (round-small (unlike s t) top q g finite)
 
 pub quotient-near : QuotientNear
 unfolding Ieee.eq Ieee.ofBits

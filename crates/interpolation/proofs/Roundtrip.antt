@@ -11,8 +11,8 @@ use native.Mathlib.Nat.{add-assoc, mul-le-mul-right}
 use native.Mathlib.Numerals.{add-one}
 use native.Mathlib.Omega.{arith}
 use lib.ListN.{length, getD, take, drop, length-append, length-drop}
-use lib.Seq.{length-take-le, take-at, drop-at, drop-drop, getD-append-add, getD-take}
-use lib.Seq.{sets-eq, paste, paste-zero, paste-suc}
+use lib.Seq.{length-take-le, take-at, drop-at, drop-drop, getD-append-add, getD-take, sets-eq, paste, paste-zero}
+use lib.Seq.{paste-suc}
 use lib.Ieee.{Float, nan}
 use Rattle.loops.specs.For.{within}
 use Rattle.loops.specs.Part.{part}
@@ -21,7 +21,7 @@ use Rattle.common.specs.declared.Settings.{Settings}
 use Rattle.common.specs.declared.Common.{Common}
 use Rattle.interpolation.specs.Snapshot.{headerOf, snapshotAt, snapshotOf}
 use Rattle.interpolation.specs.Header.{Reads}
-use Rattle.interpolation.specs.Published.{entry}
+use Rattle.interpolation.specs.Published.{numberAt}
 use Rattle.interpolation.proofs.Laws.{reaches}
 use Rattle.interpolation.proofs.Counts.{whole-self}
 
@@ -118,7 +118,7 @@ module _ (s : Settings) (c : Common) (work question : List Float)
   }
 
   pub reads-columns : (i j : ℕ) → i < s .n → j ≤ c .nq
-      → entry (header s c ++ take (size s c) work) (s .n) i j ≡ getD work (j * s .n + i) nan
+      → numberAt (header s c ++ take (size s c) work) (s .n) i j ≡ getD work (j * s .n + i) nan
   reads-columns i j h k =
       let inside : j * s .n + i < size s c = omega (arith, within (s .n) (c .nq + 1) j (omega arith)) in
       ap (λ p. getD (header s c ++ take (size s c) work) p nan) (add-assoc 6 (j * s .n) i)

@@ -30,37 +30,37 @@ unfoldable pub hornerOf : List Float → Float → List Float → List Float
 hornerOf column s yi = for 0 (length yi) (hornerAt column s) yi
 
 -- column j of a snapshot of n states: the columns stand from 6 on
-abbrev pub columnOf : List Float → ℕ → ℕ → List Float
-columnOf cont n j = part (6 + j * n) n cont
+abbrev pub columnIn : List Float → ℕ → ℕ → List Float
+columnIn cont n j = part (6 + j * n) n cont
 
-abbrev pub turnOf : List Float → ℕ → ℕ → Float → ℕ → List Float → List Float
-turnOf cont n nq s jb yi = hornerOf (columnOf cont n (nq - jb)) s yi
+abbrev pub hornerTurn : List Float → ℕ → ℕ → Float → ℕ → List Float → List Float
+hornerTurn cont n nq s jb yi = hornerOf (columnIn cont n (nq - jb)) s yi
 
 unfoldable pub evaluateOf : Float → List Float → Sizes → List Float → List Float
 evaluateOf xi cont z yi =
-    for 1 (z .nq + 1) (turnOf cont (z .n) (z .nq) ((xi ⊖ z .tn) ⊘ z .h))
-    (lastColumnOf (columnOf cont (z .n) (z .nq)) yi)
+    for 1 (z .nq + 1) (hornerTurn cont (z .n) (z .nq) ((xi ⊖ z .tn) ⊘ z .h))
+    (lastColumnOf (columnIn cont (z .n) (z .nq)) yi)
 
 -- the number returned, and the output
 pub record Interpolated : Type 0 where
   pub number : ℕ
   pub output : List Float
 
-abbrev pub left : ℕ → List Float → Interpolated
-left k yi = record { number = k; output = yi }
+abbrev pub outputs : ℕ → List Float → Interpolated
+outputs k yi = record { number = k; output = yi }
 
-unfoldable pub sizedOf : Float → List Float → Sizes → List Float → Interpolated
-sizedOf xi cont z yi =
+unfoldable pub interpolateSizedOf : Float → List Float → Sizes → List Float → Interpolated
+interpolateSizedOf xi cont z yi =
     cond (eqb (length yi) (z .n))
-    (cond (ltb (length cont - 6) ((z .nq + 1) * z .n)) (left 17 yi)
-    (cond (Ieee.eq (z .h) zeroF) (left 17 yi)
-    (left 0 (evaluateOf xi cont z yi))))
-    (left 16 yi)
+    (cond (ltb (length cont - 6) ((z .nq + 1) * z .n)) (outputs 17 yi)
+    (cond (Ieee.eq (z .h) zeroF) (outputs 17 yi)
+    (outputs 0 (evaluateOf xi cont z yi))))
+    (outputs 16 yi)
 
 abbrev pub headedOf : Float → List Float → Header → List Float → Interpolated
-headedOf xi cont Refused yi = left 15 yi
-headedOf xi cont (Read z) yi = sizedOf xi cont z yi
+headedOf xi cont Refused yi = outputs 15 yi
+headedOf xi cont (Read z) yi = interpolateSizedOf xi cont z yi
 
 unfoldable pub interpolateOf : Float → List Float → List Float → Interpolated
 interpolateOf xi cont yi =
-    cond (eqb (length cont) (length yi)) (left 0 (lastColumnOf cont yi)) (headedOf xi cont (readHeaderOf cont) yi)
+    cond (eqb (length cont) (length yi)) (outputs 0 (lastColumnOf cont yi)) (headedOf xi cont (readHeaderOf cont) yi)

@@ -58,24 +58,24 @@ Finite (inf s) = ⊥
 Finite (fin s m e) = Unit {0}
 
 -- m · 2^e with its sign; 0 stands for what is no number, where nothing is claimed
-abbrev pub valueOf : Float → Fraction
-valueOf nan = wholeFraction 0
-valueOf (inf s) = wholeFraction 0
-valueOf (fin false m e) = record { plus = m * up e; minus = 0; bottom = down e; proper = down-pos e }
-valueOf (fin true m e) = record { plus = 0; minus = m * up e; bottom = down e; proper = down-pos e }
+abbrev pub exactOf : Float → Fraction
+exactOf nan = wholeFraction 0
+exactOf (inf s) = wholeFraction 0
+exactOf (fin false m e) = record { plus = m * up e; minus = 0; bottom = down e; proper = down-pos e }
+exactOf (fin true m e) = record { plus = 0; minus = m * up e; bottom = down e; proper = down-pos e }
 
 -- x is finite and its value is q
 abbrev pub Is : Float → Fraction → Type 0
-Is x q = Finite x × (valueOf x ≈ q)
+Is x q = Finite x × (exactOf x ≈ q)
 
 abbrev pub SumExact : Float → Float → Type 0
-SumExact x y = Finite x × Finite y × Is (x ⊕ y) (valueOf x ⊞ valueOf y)
+SumExact x y = Finite x × Finite y × Is (x ⊕ y) (exactOf x ⊞ exactOf y)
 
 abbrev pub DifferenceExact : Float → Float → Type 0
-DifferenceExact x y = Finite x × Finite y × Is (x ⊖ y) (valueOf x ⊟ valueOf y)
+DifferenceExact x y = Finite x × Finite y × Is (x ⊖ y) (exactOf x ⊟ exactOf y)
 
 abbrev pub ProductExact : Float → Float → Type 0
-ProductExact x y = Finite x × Finite y × Is (x ⊗ y) (valueOf x ⊠ valueOf y)
+ProductExact x y = Finite x × Finite y × Is (x ⊗ y) (exactOf x ⊠ exactOf y)
 
 abbrev pub QuotientExact : Float → Float → Type 0
-QuotientExact x y = Finite x × Finite y × Finite (x ⊘ y) × (valueOf (x ⊘ y) ⊠ valueOf y ≈ valueOf x)
+QuotientExact x y = Finite x × Finite y × Finite (x ⊘ y) × (exactOf (x ⊘ y) ⊠ exactOf y ≈ exactOf x)

@@ -14,8 +14,8 @@ use Rattle.numbers.specs.Float.{_⊕_, _⊖_, _⊗_, _⊘_, zeroF}
 use Rattle.interpolation.specs.declared.Sizes.{Sizes}
 use Rattle.interpolation.specs.Header.{Reads}
 use Rattle.interpolation.specs.Evaluate.{interpolateOf}
-use Rattle.interpolation.specs.Fraction.{Fraction, _≈_, _⊞_, _⊟_, _⊠_, one, Finite, valueOf, Is}
-use Rattle.interpolation.specs.Fraction.{SumExact, DifferenceExact, ProductExact, QuotientExact}
+use Rattle.interpolation.specs.Fraction.{Fraction, _≈_, _⊞_, _⊟_, _⊠_, one, Finite, exactOf, Is, SumExact}
+use Rattle.interpolation.specs.Fraction.{DifferenceExact, ProductExact, QuotientExact}
 
 -- a₀ + s · (a₁ + s · (a₂ + …)), the last coefficient alone: a is a₀, and the list has the others
 unfoldable pub horner : {A : Type 0} → (A → A → A) → (A → A → A) → A → A → List A → A
@@ -45,13 +45,13 @@ pub record Exact {A : Type 0} (same : A → A → Type 0) (add mul : A → A →
   pub units : (a : A) → same (mul a unit) a
 
 -- the number of state i in column j of a snapshot of n states, whose columns stand from 6 on
-abbrev pub entry : List Float → ℕ → ℕ → ℕ → Float
-entry cont n i j = getD cont (6 + j * n + i) nan
+abbrev pub numberAt : List Float → ℕ → ℕ → ℕ → Float
+numberAt cont n i j = getD cont (6 + j * n + i) nan
 
 -- the numbers of state i in the k columns from j on
-unfoldable pub entries : List Float → ℕ → ℕ → ℕ → ℕ → List Float
-entries cont n i j zero = []
-entries cont n i j (suc k) = entry cont n i j ∷ entries cont n i (j + 1) k
+unfoldable pub numbersAt : List Float → ℕ → ℕ → ℕ → ℕ → List Float
+numbersAt cont n i j zero = []
+numbersAt cont n i j (suc k) = numberAt cont n i j ∷ numbersAt cont n i (j + 1) k
 
 -- ---- where no operation rounds
 -- each product and each sum of Horner's rule in floats, at s, is exact
@@ -65,16 +65,16 @@ HornerExact s a (b ∷ rest) =
 pub record PoseExact (t : Float) (cont : List Float) (z : Sizes) (i : ℕ) : Type 0 where
   pub difference : DifferenceExact t (z .tn)
   pub quotient : QuotientExact (t ⊖ z .tn) (z .h)
-  pub columns : HornerExact ((t ⊖ z .tn) ⊘ z .h) (entry cont (z .n) i 0) (entries cont (z .n) i 1 (z .nq))
+  pub columns : HornerExact ((t ⊖ z .tn) ⊘ z .h) (numberAt cont (z .n) i 0) (numbersAt cont (z .n) i 1 (z .nq))
 
-abbrev pub valuesOf : List Float → List Fraction
-valuesOf [] = []
-valuesOf (x ∷ rest) = valueOf x ∷ valuesOf rest
+abbrev pub exactsOf : List Float → List Fraction
+exactsOf [] = []
+exactsOf (x ∷ rest) = exactOf x ∷ exactsOf rest
 
 -- Σ yh_j · s^j over state i's numbers in columns 0 to nq, in fractions
 abbrev pub formulaOf : List Float → Sizes → ℕ → Fraction → Fraction
 formulaOf cont z i s =
-    polynomial _⊞_ _⊠_ one s 0 (valueOf (entry cont (z .n) i 0)) (valuesOf (entries cont (z .n) i 1 (z .nq)))
+    polynomial _⊞_ _⊠_ one s 0 (exactOf (numberAt cont (z .n) i 0)) (exactsOf (numbersAt cont (z .n) i 1 (z .nq)))
 
 -- Where no refusal applies, nor the copy, and no operation rounds, the pose of state i is the formula's value at the
 -- fraction s = (t - tn) / h, the one with s · h = t - tn (proofs/Exact.antt).
@@ -83,5 +83,5 @@ PoseIs =
     (t : Float) (cont yi : List Float) (z : Sizes) → Reads cont z → (length cont ≡ length yi → ⊥)
     → length yi ≡ z .n → (z .nq + 1) * z .n ≤ length cont - 6 → Ieee.eq (z .h) zeroF ≡ false
     → (i : ℕ) → i < z .n → PoseExact t cont z i
-    → (s : Fraction) → s ⊠ valueOf (z .h) ≈ valueOf t ⊟ valueOf (z .tn)
+    → (s : Fraction) → s ⊠ exactOf (z .h) ≈ exactOf t ⊟ exactOf (z .tn)
     → Is (getD (interpolateOf t cont yi .output) i nan) (formulaOf cont z i s)

@@ -10,15 +10,16 @@ use lib.ListN.{length, getD}
 use lib.Ieee as Ieee
 use lib.Ieee.{Float, nan}
 use Rattle.numbers.specs.Float.{whole, zeroF}
+use Rattle.common.specs.Limits.{maxStates}
 use Rattle.interpolation.specs.declared.Sizes.{Sizes}
 use Rattle.interpolation.specs.Header.{Reads}
-use Rattle.interpolation.specs.Evaluate.{left, interpolateOf}
+use Rattle.interpolation.specs.Evaluate.{outputs, interpolateOf}
 
 -- 15: under 6 numbers; n, the first, is none of 0 to 64; nq, the second, is none of 0 to 12
 abbrev pub Unreadable : List Float → Type 0
 Unreadable cont =
     (length cont < 6)
-    ⊎ ((k : ℕ) → k ≤ 64 → Ieee.eq (getD cont 0 nan) (whole k) ≡ false)
+    ⊎ ((k : ℕ) → k ≤ maxStates → Ieee.eq (getD cont 0 nan) (whole k) ≡ false)
     ⊎ ((k : ℕ) → k ≤ 12 → Ieee.eq (getD cont 1 nan) (whole k) ≡ false)
 
 -- 16: the output's length is not n
@@ -30,7 +31,7 @@ abbrev pub Unusable : Sizes → List Float → Type 0
 Unusable z cont = (length cont - 6 < (z .nq + 1) * z .n) ⊎ (Ieee.eq (z .h) zeroF ≡ true)
 
 pub record InterpolateRefused (xi : Float) (cont yi : List Float) : Type 0 where
-  pub copies : length cont ≡ length yi → interpolateOf xi cont yi ≡ left 0 cont
+  pub copies : length cont ≡ length yi → interpolateOf xi cont yi ≡ outputs 0 cont
   pub fifteen : (interpolateOf xi cont yi .number ≡ 15) ↔ ((length cont ≢ length yi) × Unreadable cont)
   pub sixteen : (interpolateOf xi cont yi .number ≡ 16)
       ↔ ((length cont ≢ length yi) × ((z : Sizes) × Reads cont z × OutputOther z yi))

@@ -2,10 +2,12 @@
 ghost use mathlib.Core.Path.{_≡_};
 ghost use Prim.Native.Nat.{_+_, _*_, _≤_, _<_};
 ghost use lib.ListN.{length};
+ghost use Rattle.common.specs.Limits.{maxStates};
+ghost use Rattle.common.specs.Layout.{ewtAt};
 ghost use Rattle.interpolation.specs.Snapshot.{headerOf, snapshotOf};
-ghost use Rattle.interpolation.specs.Header.{countOf, readHeaderOf};
-ghost use Rattle.interpolation.specs.Evaluate.{lastColumnOf, hornerOf, evaluateOf};
-ghost use Rattle.interpolation.specs.Evaluate.{Interpolated, sizedOf, interpolateOf};
+ghost use Rattle.interpolation.specs.Header.{wholeCountOf, readHeaderOf};
+ghost use Rattle.interpolation.specs.Evaluate.{lastColumnOf, hornerOf, evaluateOf, Interpolated};
+ghost use Rattle.interpolation.specs.Evaluate.{interpolateSizedOf, interpolateOf};
 use common::Common;
 use common::Settings;
 
@@ -31,7 +33,7 @@ pub enum Header {
 
 // The header of a snapshot at `at`: n, nq, t, h, hu, 2^-52.
 fn put_header(s: Settings, c: Common, to: &mut [f64], at: usize)
-    requires { ⌜ (s .n ≤ 64) × (c .nq ≤ 12) × (at + 6 ≤ length (now to)) ⌝ }
+    requires { ⌜ (s .n ≤ maxStates) × (c .nq ≤ 12) × (at + 6 ≤ length (now to)) ⌝ }
     ensures { λ _. ⌜ now (to .exit) ≡ headerOf s c at (now (to .entry)) ⌝ }
 {
     let n = s.n as u32;
@@ -46,7 +48,7 @@ fn put_header(s: Settings, c: Common, to: &mut [f64], at: usize)
 
 // The snapshot of the step just done, from n on in the question: the header, then the columns 0 to nq.
 pub fn snapshot_step(s: Settings, c: Common, work: &[f64], question: &mut [f64])
-    requires { ⌜ (1 ≤ s .n) × (s .n ≤ 64) × (c .nq ≤ 12) × (13 * s .n ≤ length (now work))
+    requires { ⌜ (1 ≤ s .n) × (s .n ≤ maxStates) × (c .nq ≤ 12) × (ewtAt (s .n) ≤ length (now work))
         × (14 * s .n + 6 ≤ length (now question)) ⌝ }
     ensures { λ _. ⌜ now (question .exit) ≡ snapshotOf s c (now (work .entry)) (now (question .entry)) ⌝ }
 {
@@ -59,8 +61,8 @@ pub fn snapshot_step(s: Settings, c: Common, work: &[f64], question: &mut [f64])
 
 // The count up to `limit` that a float equals; -0.0 equals 0, and no NaN, fraction or infinity equals any.
 fn whole_count(x: f64, limit: u32) -> Count
-    requires { ⌜ limit ≤ 64 ⌝ }
-    ensures { λ r. ⌜ r ≡ countOf x limit ⌝ }
+    requires { ⌜ limit ≤ maxStates ⌝ }
+    ensures { λ r. ⌜ r ≡ wholeCountOf x limit ⌝ }
 {
     for k in 0..limit + 1 {
         if x == k as f64 {
@@ -77,7 +79,7 @@ fn read_header(cont: &[f64]) -> Header
     if cont.len() < 6 {
         return Header::Refused;
     }
-    match whole_count(cont[0], 64) {
+    match whole_count(cont[0], common::MAX_STATES as u32) {
         Count::NotWhole => Header::Refused,
         Count::Is(n) => match whole_count(cont[1], 12) {
             Count::NotWhole => Header::Refused,
@@ -113,7 +115,7 @@ fn horner(yi: &mut [f64], column: &[f64], s: f64)
 
 // The polynomial of the columns at s = (xi - tn) / h, by Horner's rule from the last column.
 fn evaluate(xi: f64, yi: &mut [f64], cont: &[f64], z: Sizes)
-    requires { ⌜ (z .n ≤ 64) × (z .nq ≤ 12) × (length (now yi) ≡ z .n)
+    requires { ⌜ (z .n ≤ maxStates) × (z .nq ≤ 12) × (length (now yi) ≡ z .n)
         × (6 + (z .nq + 1) * z .n ≤ length (now cont)) ⌝ }
     ensures { λ _. ⌜ now (yi .exit) ≡ evaluateOf xi (now (cont .entry)) z (now (yi .entry)) ⌝ }
 {
@@ -132,9 +134,9 @@ fn evaluate(xi: f64, yi: &mut [f64], cont: &[f64], z: Sizes)
 
 // Conditions 16 and 17, then the value.
 fn interpolate_sized(xi: f64, yi: &mut [f64], cont: &[f64], z: Sizes) -> usize
-    requires { ⌜ (z .n ≤ 64) × (z .nq ≤ 12) × (6 ≤ length (now cont)) ⌝ }
+    requires { ⌜ (z .n ≤ maxStates) × (z .nq ≤ 12) × (6 ≤ length (now cont)) ⌝ }
     ensures { λ r. ⌜ _≡_ {A = Interpolated} (record { number = r; output = now (yi .exit) })
-        (sizedOf xi (now (cont .entry)) z (now (yi .entry))) ⌝ }
+        (interpolateSizedOf xi (now (cont .entry)) z (now (yi .entry))) ⌝ }
 {
     let n = z.n;
     if yi.len() != n {

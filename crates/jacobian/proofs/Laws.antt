@@ -8,22 +8,21 @@
 use mathlib.Core.Path.{_≡_, refl, _∙_}
 use mathlib.Core.List.{List}
 use mathlib.Core.Bool.{Bool, true, false, cond}
-use Prim.Native.Nat.{ℕ, _+_, _*_, _≤_}
-use native.Mathlib.Omega.{arith}
-use lib.ListN.{length, getD, length-set}
-use lib.Ieee.{Float, nan}
+use Prim.Native.Nat.{ℕ, _+_, _*_}
+use lib.ListN.{length, length-set}
+use lib.Ieee.{Float}
 use borrow.Rule.Slice.PartMut.{same-len-mid}
 use Rattle.loops.specs.Part.{part}
-use Rattle.numbers.specs.Float.{_⊕_, _⊖_, _⊗_, oneF}
 use Rattle.dense.proofs.Laws.{Below, length-factor-a, length-factor-ipiv, factor-below}
 use Rattle.common.specs.declared.Settings.{Settings}
 use Rattle.common.specs.declared.Common.{Common}
 use Rattle.common.specs.Record.{with-nje, with-nslp, with-nlu}
-use Rattle.common.specs.Layout.{matrix}
-use Rattle.history.specs.Steps.{InRange}
-use Rattle.history.proofs.Laws.{length-stores, same-range}
-use Rattle.jacobian.specs.Jacobian.{beginOf, minusHl0, perturbOf, columnOf, restoreOf, scaledOf, suppliedOf}
-use Rattle.jacobian.specs.Jacobian.{identityOf, factoredOf, inForce, finishedOf}
+use Rattle.common.specs.Layout.{matrix, matrixAt}
+use Rattle.history.specs.Steps.{StepInRange}
+use Rattle.history.proofs.Laws.{length-for, same-range}
+use Rattle.jacobian.specs.Jacobian.{beginOf, minusHl0, perturbOf, differenceAt, differenceOf, restoreOf, scaledAt}
+use Rattle.jacobian.specs.Jacobian.{scaledOf, suppliedOf, identityAt, identityOf, identityFactorsOf, inForce}
+use Rattle.jacobian.specs.Jacobian.{finishJacobianOf}
 
 -- ---- lengths
 
@@ -35,40 +34,39 @@ module _ (s : Settings) (c : Common) (work : List Float) where
   pub length-supplied : (jac : List Float) → length (suppliedOf s c jac work) ≡ length work
   unfolding scaledOf
   length-supplied jac =
-      let a = part (19 * s .n) (length jac) work in
-      same-len-mid (19 * s .n) (length jac) work (scaledOf (minusHl0 c) jac a)
-      (length-stores (λ i. i) (λ i t. minusHl0 c ⊗ getD jac i nan) 0 (length jac) a)
+      let at = matrixAt (s .n) in
+      let a = part at (length jac) work in
+      same-len-mid at (length jac) work (scaledOf (minusHl0 c) jac a)
+      (length-for (scaledAt (minusHl0 c) jac) 0 (length jac) a (λ i t. simp length-set))
 
-pub length-column : (n j : ℕ) (fac : Float) (work : List Float) → length (columnOf n j fac work) ≡ length work
-unfolding columnOf
-length-column n j fac work =
-    length-stores (λ i. 19 * n + (i + j * n)) (λ i t. (getD t (15 * n + i) nan ⊖ getD t (14 * n + i) nan) ⊗ fac)
-    0 n work
+pub length-difference : (n j : ℕ) (fac : Float) (work : List Float) → length (differenceOf n j fac work) ≡ length work
+unfolding differenceOf
+length-difference n j fac work = length-for (differenceAt n j fac) 0 n work (λ i t. simp length-set)
 
 pub length-restore : (s : Settings) (c : Common) (j : ℕ) (work : List Float)
     → length (restoreOf s c j work) ≡ length work
 unfolding restoreOf
-length-restore s c j work = simp length-set (length-column (s .n) j _ work)
+length-restore s c j work = simp length-set (length-difference (s .n) j _ work)
 
 length-identity : (n : ℕ) (a : List Float) → length (identityOf n a) ≡ length a
 unfolding identityOf
-length-identity n a = length-stores (λ i. i + i * n) (λ i t. getD t (i + i * n) nan ⊕ oneF) 0 n a
+length-identity n a = length-for (identityAt n) 0 n a (λ i t. simp length-set)
 
 module _ (s : Settings) (c : Common) (work : List Float) (ipiv : List ℕ) where
-  pub length-finished : length (finishedOf s c work ipiv .work) ≡ length work
-  unfolding finishedOf
+  pub length-finished : length (finishJacobianOf s c work ipiv .work) ≡ length work
+  unfolding finishJacobianOf
   length-finished =
       let n = s .n in
       let a = matrix n work in
-      same-len-mid (19 * n) (n * n) work (factoredOf n a ipiv .a)
+      same-len-mid (matrixAt n) (n * n) work (identityFactorsOf n a ipiv .a)
       (length-factor-a n (identityOf n a) ipiv ∙ length-identity n a)
 
-  pub length-finished-ipiv : length (finishedOf s c work ipiv .ipiv) ≡ length ipiv
-  unfolding finishedOf
+  pub length-finished-ipiv : length (finishJacobianOf s c work ipiv .ipiv) ≡ length ipiv
+  unfolding finishJacobianOf
   length-finished-ipiv = length-factor-ipiv (s .n) (identityOf (s .n) (matrix (s .n) work)) ipiv
 
-  pub finished-below : Below (s .n) ipiv → Below (s .n) (finishedOf s c work ipiv .ipiv)
-  unfolding finishedOf
+  pub finished-below : Below (s .n) ipiv → Below (s .n) (finishJacobianOf s c work ipiv .ipiv)
+  unfolding finishJacobianOf
   finished-below p = factor-below (s .n) (identityOf (s .n) (matrix (s .n) work)) ipiv p
 
 -- ---- the record
@@ -99,8 +97,8 @@ pub record SameStep (c d : Common) : Type 0 where
   pub told : d .told ≡ c .told
 
 -- c, with the fields of d that a pass may change
-abbrev pub moved : Common → Common → Common
-moved d c = record {
+abbrev pub passMoved : Common → Common → Common
+passMoved d c = record {
       hmin = c .hmin; hmxi = c .hmxi;
       tn = c .tn; h = c .h; hu = c .hu; told = c .told; rc = d .rc; el0 = c .el0; conit = c .conit; rmax = c .rmax;
       pdest = d .pdest; pdlast = d .pdlast; pdnorm = d .pdnorm; convrate = d .convrate; pnorm = c .pnorm;
@@ -110,24 +108,24 @@ moved d c = record {
       column = c .column; due = d .due; jcur = d .jcur; setup = c .setup;
 }
 
-pub same-moved : (c d : Common) → SameStep c (moved d c)
-same-moved c d =
+pub same-pass-moved : (c d : Common) → SameStep c (passMoved d c)
+same-pass-moved c d =
     record {
       meth = refl; nq = refl; lmax = refl; nqnyh = refl; table = refl; ialth = refl; icount = refl; nslp = refl;
       nst = refl; nfe = refl; nje = refl; nlu = refl; rejected = refl; total = refl; count = refl; kflag = refl;
       ncf = refl; column = refl; setup = refl; tn = refl; h = refl; told = refl;
     }
 
-pub in-range-same : {s : Settings} {c : Common} (d : Common) → SameStep c d → InRange s c → InRange s d
+pub in-range-same : {s : Settings} {c : Common} (d : Common) → SameStep c d → StepInRange s c → StepInRange s d
 in-range-same d q p = same-range d (q .nq) (q .table) (q .nqnyh) (q .nslp) p
 
 pub same-begin : (c : Common) → SameStep (with-nje (c .nje + 1) c) (beginOf c)
 unfolding beginOf
-same-begin c = same-moved (with-nje (c .nje + 1) c) (beginOf c)
+same-begin c = same-pass-moved (with-nje (c .nje + 1) c) (beginOf c)
 
 pub same-in-force : (c : Common) (norm : Float) (done : Bool)
     → SameStep (with-nslp (c .nst) (with-nlu (cond done (c .nlu + 1) (c .nlu)) c)) (inForce c norm done)
-same-in-force c norm done = same-moved _ (inForce c norm done)
+same-in-force c norm done = same-pass-moved _ (inForce c norm done)
 
 -- jcur, due and m: a Jacobian that begins is current and no longer due
 pub begin-flags : (c : Common) → (beginOf c .jcur ≡ true) × (beginOf c .due ≡ false) × (beginOf c .m ≡ c .m)
@@ -137,13 +135,13 @@ begin-flags c = (refl, refl, refl)
 module _ (s : Settings) (c : Common) (work : List Float) (ipiv : List ℕ) where
   -- the record after the factoring: nslp is nst, and nlu is raised where the factoring went through
   abbrev pub counted : Common
-  counted = with-nslp (c .nst) (with-nlu (cond (finishedOf s c work ipiv .done) (c .nlu + 1) (c .nlu)) c)
+  counted = with-nslp (c .nst) (with-nlu (cond (finishJacobianOf s c work ipiv .done) (c .nlu + 1) (c .nlu)) c)
 
-  pub same-finished : SameStep counted (finishedOf s c work ipiv .common)
-  unfolding finishedOf
-  same-finished = same-in-force c _ (finishedOf s c work ipiv .done)
+  pub same-finished : SameStep counted (finishJacobianOf s c work ipiv .common)
+  unfolding finishJacobianOf
+  same-finished = same-in-force c _ (finishJacobianOf s c work ipiv .done)
 
-  pub finished-flags : (finishedOf s c work ipiv .common .jcur ≡ c .jcur)
-      × (finishedOf s c work ipiv .common .due ≡ c .due) × (finishedOf s c work ipiv .common .m ≡ c .m)
-  unfolding finishedOf
+  pub finished-flags : (finishJacobianOf s c work ipiv .common .jcur ≡ c .jcur)
+      × (finishJacobianOf s c work ipiv .common .due ≡ c .due) × (finishJacobianOf s c work ipiv .common .m ≡ c .m)
+  unfolding finishJacobianOf
   finished-flags = (refl, refl, refl)

@@ -12,13 +12,13 @@ use Rattle.loops.specs.Part.{part, putPart}
 use Rattle.numbers.specs.Float.{_⊕_, _⊖_, _⊗_, _⊘_, whole, zeroF, oneF, uround, srur, d0·7, d1000}
 use Rattle.numbers.specs.Sign.{absOf}
 use Rattle.numbers.specs.Order.{maxOf}
-use Rattle.vectors.specs.Norm.{vmnormOf, fnormOf}
+use Rattle.vectors.specs.Norm.{fnormOf}
 use Rattle.dense.specs.Factor.{Factors, factorOf}
 use Rattle.common.specs.declared.Settings.{Settings}
 use Rattle.common.specs.declared.Common.{Common}
-use Rattle.common.specs.Layout.{ewt, savf, matrix}
-use Rattle.common.specs.Record.{with-nje, with-jcur, with-due, with-pdnorm, with-rc, with-nslp, with-convrate}
-use Rattle.common.specs.Record.{with-nlu}
+use Rattle.common.specs.Layout.{ewt, matrix, ewtAt, savfAt, ftemAt, yAt, yfdAt, matrixAt}
+use Rattle.common.specs.Record.{with-nje, with-jcur, with-due, with-pdnorm, with-rc, with-nslp, with-convrate, with-nlu}
+use Rattle.history.specs.Parts.{normAtOf}
 
 -- a Jacobian begins
 unfoldable pub beginOf : Common → Common
@@ -33,29 +33,29 @@ orOne r = cond (Ieee.eq r zeroF) oneF r
 
 unfoldable pub r0Of : Settings → Common → List Float → Float
 r0Of s c work =
-    orOne (d1000 ⊗ absOf (c .h) ⊗ uround ⊗ whole (s .n) ⊗ vmnormOf (savf (s .n) work) (ewt (s .n) work) .value)
+    orOne (d1000 ⊗ absOf (c .h) ⊗ uround ⊗ whole (s .n) ⊗ normAtOf (s .n) (savfAt (s .n)) work .value)
 
 -- max(√uround·|y_j|, r0 / ewt_j)
 unfoldable pub incrementOf : Settings → Common → List Float → ℕ → Float
 incrementOf s c work j =
-    maxOf (srur ⊗ absOf (getD work (17 * s .n + j) nan)) (r0Of s c work ⊘ getD work (13 * s .n + j) nan)
+    maxOf (srur ⊗ absOf (getD work (yAt (s .n) + j) nan)) (r0Of s c work ⊘ getD work (ewtAt (s .n) + j) nan)
 
 unfoldable pub perturbOf : Settings → Common → ℕ → List Float → List Float
-perturbOf s c j work = set work (18 * s .n + j) (getD work (17 * s .n + j) nan ⊕ incrementOf s c work j)
+perturbOf s c j work = set work (yfdAt (s .n) + j) (getD work (yAt (s .n) + j) nan ⊕ incrementOf s c work j)
 
-abbrev pub columnAt : ℕ → ℕ → Float → ℕ → List Float → List Float
-columnAt n j fac i work =
-    set work (19 * n + (i + j * n)) ((getD work (15 * n + i) nan ⊖ getD work (14 * n + i) nan) ⊗ fac)
+abbrev pub differenceAt : ℕ → ℕ → Float → ℕ → List Float → List Float
+differenceAt n j fac i work =
+    set work (matrixAt n + (i + j * n)) ((getD work (ftemAt n + i) nan ⊖ getD work (savfAt n + i) nan) ⊗ fac)
 
 -- column j: (ftem - savf)·fac
-unfoldable pub columnOf : ℕ → ℕ → Float → List Float → List Float
-columnOf n j fac work = for 0 n (columnAt n j fac) work
+unfoldable pub differenceOf : ℕ → ℕ → Float → List Float → List Float
+differenceOf n j fac work = for 0 n (differenceAt n j fac) work
 
 -- column j stored, and y_fd put back to y there
 unfoldable pub restoreOf : Settings → Common → ℕ → List Float → List Float
 restoreOf s c j work =
-    let w = columnOf (s .n) j (minusHl0 c ⊘ incrementOf s c work j) work in
-    set w (18 * s .n + j) (getD w (17 * s .n + j) nan)
+    let w = differenceOf (s .n) j (minusHl0 c ⊘ incrementOf s c work j) work in
+    set w (yfdAt (s .n) + j) (getD w (yAt (s .n) + j) nan)
 
 abbrev pub scaledAt : Float → List Float → ℕ → List Float → List Float
 scaledAt scale jac i a = set a i (scale ⊗ getD jac i nan)
@@ -66,7 +66,7 @@ scaledOf scale jac a = for 0 (length jac) (scaledAt scale jac) a
 -- the host's Jacobian, column by column, scaled into the matrix
 abbrev pub suppliedOf : Settings → Common → List Float → List Float → List Float
 suppliedOf s c jac work =
-    putPart (19 * s .n) (length jac) work (scaledOf (minusHl0 c) jac (part (19 * s .n) (length jac) work))
+    putPart (matrixAt (s .n)) (length jac) work (scaledOf (minusHl0 c) jac (part (matrixAt (s .n)) (length jac) work))
 
 abbrev pub identityAt : ℕ → ℕ → List Float → List Float
 identityAt n i a = set a (i + i * n) (getD a (i + i * n) nan ⊕ oneF)
@@ -81,8 +81,8 @@ pub record Factored : Type 0 where
   pub work : List Float
   pub ipiv : List ℕ
 
-abbrev pub factoredOf : ℕ → List Float → List ℕ → Factors
-factoredOf n a ipiv = factorOf n (identityOf n a) ipiv
+abbrev pub identityFactorsOf : ℕ → List Float → List ℕ → Factors
+identityFactorsOf n a ipiv = factorOf n (identityOf n a) ipiv
 
 -- the Jacobian in force: rc is 1 again, and convergence is to be seen anew
 abbrev pub inForce : Common → Float → Bool → Common
@@ -90,13 +90,13 @@ inForce c norm done =
     with-pdnorm (norm ⊘ absOf (c .h ⊗ c .el0))
     (with-rc oneF (with-nslp (c .nst) (with-convrate d0·7 (with-nlu (cond done (c .nlu + 1) (c .nlu)) c))))
 
-unfoldable pub finishedOf : Settings → Common → List Float → List ℕ → Factored
-finishedOf s c work ipiv =
+unfoldable pub finishJacobianOf : Settings → Common → List Float → List ℕ → Factored
+finishJacobianOf s c work ipiv =
     let n = s .n in
-    let f = factoredOf n (matrix n work) ipiv in
+    let f = identityFactorsOf n (matrix n work) ipiv in
     record {
       done = f .ok;
       common = inForce c (fnormOf n (matrix n work) (ewt n work) .value) (f .ok);
-      work = putPart (19 * n) (n * n) work (f .a);
+      work = putPart (matrixAt n) (n * n) work (f .a);
       ipiv = f .ipiv;
     }

@@ -2,7 +2,7 @@
 use mathlib.Core.Path.{sym, ap, _∙_}
 use borrow.Author.Needs.{needs}
 use borrow.Author.Tests.{lt-ltb, le-ltb, eq-eqb, ne-eqb}
-use Rattle.attempt.specs.Attempt.{moved, missedAt, missedOf, tenthOf}
+use Rattle.attempt.specs.Attempt.{goesOn, missedAt, missedOf, tenthOf}
 use Rattle.attempt.specs.declared.Next.the-variants.{Pass}
 use Rattle.attempt.proofs.missed.Statement.{statement}
 use Rattle.attempt.proofs.missed.Tie as tie
@@ -33,7 +33,7 @@ returns-2 c =
       lt-ltb _ _ (early .if2 .taken),
       ← c .before .before .before .before .shrunk .ensures,
     )
-    (ap (moved Pass) (c .before .before .repredict .ensures))
+    (ap (goesOn Pass) (c .before .before .repredict .ensures))
 
 returns-3 : tie.Need-returns-3
 unfolding missedOf missedAt

@@ -4,7 +4,7 @@ use mathlib.Core.Path.{_≡_, refl, sym, ap, _∙_}
 use borrow.Author.Needs.{needs}
 use borrow.Author.Tests.{eq-eqb, ne-eqb}
 use Rattle.history.proofs.Laws.{same-range}
-use Rattle.attempt.specs.Attempt.{moved, unconvergedOf, quarteredOf, noConvergenceAt, noConvergenceOf}
+use Rattle.attempt.specs.Attempt.{goesOn, unconvergedOf, quarteredOf, noConvergenceAt, noConvergenceOf}
 use Rattle.attempt.specs.declared.Next.the-variants.{Pass}
 use Rattle.attempt.proofs.Ranges.{same-rejected, in-range-unconverged}
 use Rattle.attempt.proofs.no_convergence.Statement.{statement}
@@ -91,7 +91,7 @@ returns-3 c =
       ← m .mxncf .ensures,
       ne-eqb _ _ (i .if2 .left),
     )
-    (ap (moved Pass)
+    (ap (goesOn Pass)
     (c .before .before .repredict .ensures
     ∙ rw (x .max .ensures, x .before .least .ensures, b .is-bdf .ensures, same)))
 

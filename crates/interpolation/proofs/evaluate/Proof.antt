@@ -1,20 +1,20 @@
 -- `evaluate` meets its contract. The invariant: the columns that are left give the whole rule.
 -- Every column up to nq lies within the snapshot. Assumes nothing.
-use Prim.Native.Nat.{ℕ, _+_, _-_, _*_, _≤_, _<_}
+use Prim.Native.Nat.{_+_, _-_, _*_, _≤_}
 use mathlib.Core.Path.{_≡_, refl, sym}
 use native.Mathlib.Omega.{arith}
 use lib.ListN.{length}
 use Rattle.loops.specs.For.{for, onward, ended, within}
 use Rattle.loops.specs.Part.{length-part}
 use Rattle.common.proofs.Laws.{small-product}
-use Rattle.interpolation.specs.Evaluate.{turnOf, evaluateOf}
+use Rattle.interpolation.specs.Evaluate.{hornerTurn, evaluateOf}
 use Rattle.interpolation.proofs.evaluate.Statement.{statement}
 use Rattle.interpolation.proofs.evaluate.Tie as tie
 
 abbrev Inv-loop : tie.InvT-loop
 Inv-loop xi yi₀ cont n nq s last end jb₀ jb-end yi jb =
     (jb-end ≡ nq + 1) × (1 ≤ jb) × (length yi ≡ n)
-    × (for jb (nq + 1) (turnOf cont n nq s) yi ≡ for 1 (nq + 1) (turnOf cont n nq s) yi₀)
+    × (for jb (nq + 1) (hornerTurn cont n nq s) yi ≡ for 1 (nq + 1) (hornerTurn cont n nq s) yi₀)
 
 abbrev μ-loop : tie.MeasureT-loop
 μ-loop xi yi₀ cont n nq s last end jb₀ jb-end yi jb = jb-end - jb

@@ -5,12 +5,12 @@ use native.Mathlib.Omega.{arith}
 use lib.ListN.{length}
 use borrow.Author.Needs.{needs}
 use borrow.Author.Tests.{eq-eqb, ne-eqb, lt-ltb, le-ltb}
-use Rattle.interpolation.specs.Evaluate.{sizedOf}
+use Rattle.interpolation.specs.Evaluate.{interpolateSizedOf}
 use Rattle.interpolation.proofs.interpolate_sized.Statement.{statement}
 use Rattle.interpolation.proofs.interpolate_sized.Tie as tie
 
 returns : tie.Need-returns
-unfolding sizedOf
+unfolding interpolateSizedOf
 returns c =
     let a = c .before .before .before .args in
     rw (ne-eqb (length (a .yi .now)) (a .z .n) (λ q. omega arith))
@@ -28,14 +28,14 @@ mul-if2 c =
     omega (arith, mul-le-mul k (a .pre .0))
 
 returns-2 : tie.Need-returns-2
-unfolding sizedOf
+unfolding interpolateSizedOf
 returns-2 c =
     let a = c .before .before .before .before .before .args in
     let n = eq-eqb (length (a .yi .now)) (a .z .n) (omega arith) in
     rw (n, lt-ltb (length (a .cont .now) - 6) ((a .z .nq + 1) * a .z .n) (omega arith))
 
 returns-3 : tie.Need-returns-3
-unfolding sizedOf
+unfolding interpolateSizedOf
 returns-3 c =
     let a = c .before .before .before .before .before .before .before .args in
     let n = eq-eqb (length (a .yi .now)) (a .z .n) (omega arith) in
@@ -48,7 +48,7 @@ same-length : tie.Need-same-length
 same-length c = search needs
 
 returns-4 : tie.Need-returns-4
-unfolding sizedOf
+unfolding interpolateSizedOf
 returns-4 c =
     let d = c .before .before .before .before in
     let a = d .before .before .before .before .before .before .before .args in

@@ -14,6 +14,9 @@ returns c = rw (lt-ltb (length (c .before .before .args .cont .now)) 6 (omega ar
 shared-slice-read-whole-count : tie.Need-shared-slice-read-whole-count
 shared-slice-read-whole-count c = search needs
 
+cast-whole-count : tie.Need-cast-whole-count
+cast-whole-count c = search needs
+
 whole-count-requires : tie.Need-whole-count-requires
 whole-count-requires c κs = search needs
 
@@ -35,11 +38,11 @@ enum-told-2 c = search needs
 enum-known-nq : tie.Need-enum-known-nq
 enum-known-nq c = search needs
 
-shared-slice-read-t15 : tie.Need-shared-slice-read-t15
-shared-slice-read-t15 c = search needs
+shared-slice-read-t16 : tie.Need-shared-slice-read-t16
+shared-slice-read-t16 c = search needs
 
-shared-slice-read-t17 : tie.Need-shared-slice-read-t17
-shared-slice-read-t17 c = search needs
+shared-slice-read-t18 : tie.Need-shared-slice-read-t18
+shared-slice-read-t18 c = search needs
 
 returns-2 : tie.Need-returns-2
 unfolding readHeaderOf
@@ -73,6 +76,7 @@ read-header-spec =
     (tie.spec
     returns
     shared-slice-read-whole-count
+    cast-whole-count
     whole-count-requires
     enum-told
     enum-known-n
@@ -80,8 +84,8 @@ read-header-spec =
     whole-count-requires-2
     enum-told-2
     enum-known-nq
-    shared-slice-read-t15
-    shared-slice-read-t17
+    shared-slice-read-t16
+    shared-slice-read-t18
     returns-2
     returns-3
     returns-4)

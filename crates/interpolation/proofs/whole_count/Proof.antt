@@ -6,13 +6,13 @@ use native.Mathlib.Omega.{arith}
 use borrow.Author.Needs.{needs}
 use Rattle.loops.specs.For.{for, onward, ended, stays}
 use Rattle.interpolation.specs.declared.Count.the-variants.{Is, NotWhole}
-use Rattle.interpolation.specs.Header.{countAt, countOf}
+use Rattle.interpolation.specs.Header.{wholeCountAt, wholeCountOf}
 use Rattle.interpolation.proofs.whole_count.Statement.{statement}
 use Rattle.interpolation.proofs.whole_count.Tie as tie
 
 abbrev Inv-loop : tie.InvT-loop
 Inv-loop x limit k₀ k-end k =
-    (k-end ≡ limit + 1) × (for k (limit + 1) (countAt x) NotWhole ≡ countOf x limit)
+    (k-end ≡ limit + 1) × (for k (limit + 1) (wholeCountAt x) NotWhole ≡ wholeCountOf x limit)
 
 abbrev μ-loop : tie.MeasureT-loop
 μ-loop x limit k₀ k-end k = k-end - k
@@ -21,7 +21,7 @@ add-k-end : tie.Need-add-k-end Inv-loop μ-loop
 add-k-end c = omega arith
 
 loop-holds : tie.Need-loop-holds Inv-loop μ-loop
-unfolding countOf
+unfolding wholeCountOf
 loop-holds c = (refl, refl)
 
 int-to-float-if1 : tie.Need-int-to-float-if1 Inv-loop μ-loop
@@ -31,7 +31,7 @@ returns : tie.Need-returns Inv-loop μ-loop
 returns c =
     let l = c .before .before .before in
     let a = l .before .args in
-    sym (stays (countAt (a .x)) (l .loop .k + 1) (a .limit + 1) (Is (l .loop .k)) (λ j. refl))
+    sym (stays (wholeCountAt (a .x)) (l .loop .k + 1) (a .limit + 1) (Is (l .loop .k)) (λ j. refl))
     ∙ onward _ _ _ _ _ _ (omega arith) (rw (c .if1 .taken)) (l .loop .inv .1)
 
 add-k : tie.Need-add-k Inv-loop μ-loop

@@ -5,19 +5,19 @@ use mathlib.Core.Path.{_≡_, refl}
 use native.Mathlib.Omega.{arith}
 use lib.ListN.{length, length-set}
 use Rattle.loops.specs.For.{for, again, ended}
-use Rattle.jacobian.specs.Jacobian.{columnAt, columnOf}
+use Rattle.jacobian.specs.Jacobian.{differenceAt, differenceOf}
 use Rattle.jacobian.proofs.difference_column.Statement.{statement}
 use Rattle.jacobian.proofs.difference_column.Tie as tie
 
 abbrev Inv-loop : tie.InvT-loop
 Inv-loop work₀ n j fac i₀ work i =
-    (length work ≡ length work₀) × (for i n (columnAt n j fac) work ≡ columnOf n j fac work₀)
+    (length work ≡ length work₀) × (for i n (differenceAt n j fac) work ≡ differenceOf n j fac work₀)
 
 abbrev μ-loop : tie.MeasureT-loop
 μ-loop work₀ n j fac i₀ work i = n - i
 
 loop-holds : tie.Need-loop-holds Inv-loop μ-loop
-unfolding columnOf
+unfolding differenceOf
 loop-holds c = (refl, refl)
 
 mul-work : tie.Need-mul-work Inv-loop μ-loop

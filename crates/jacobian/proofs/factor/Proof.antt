@@ -1,7 +1,7 @@
 -- `factor` meets its contract: the identity, then the factors; the outcome tells the flag. Assumes nothing.
-use mathlib.Core.Path.{_≡_, sym, _∙_}
+use mathlib.Core.Path.{sym, _∙_}
 use borrow.Author.Needs.{needs}
-use Rattle.jacobian.specs.Jacobian.{factoredOf}
+use Rattle.jacobian.specs.Jacobian.{identityFactorsOf}
 use Rattle.jacobian.proofs.Shared.{ok-done, ok-singular}
 use Rattle.jacobian.proofs.factor.Statement.{statement}
 use Rattle.jacobian.proofs.factor.Tie as tie
@@ -30,7 +30,8 @@ returns c =
     let i = d .before .before .before .before .before in
     let x = i .before .before .before .before .args in
     let f = rw (i .add-identity .ensures) at (d .dense-lu-factor .ensures) in
-    let flag = ok-done (factoredOf (x .n) (x .a .now) (x .ipiv .now) .ok) (sym (f .2) ∙ c .enum-told .given .1) in
+    let factors = identityFactorsOf (x .n) (x .a .now) (x .ipiv .now) in
+    let flag = ok-done (factors .ok) (sym (f .2) ∙ c .enum-told .given .1) in
     (f .0, f .1, sym flag)
 
 same-length-3 : tie.Need-same-length-3
@@ -45,7 +46,8 @@ returns-2 c =
     let i = d .before .before .before .before .before in
     let x = i .before .before .before .before .args in
     let f = rw (i .add-identity .ensures) at (d .dense-lu-factor .ensures) in
-    let flag = ok-singular (factoredOf (x .n) (x .a .now) (x .ipiv .now) .ok) (sym (f .2) ∙ c .enum-told2 .given .1) in
+    let factors = identityFactorsOf (x .n) (x .a .now) (x .ipiv .now) in
+    let flag = ok-singular (factors .ok) (sym (f .2) ∙ c .enum-told2 .given .1) in
     (f .0, f .1, sym flag)
 
 pub factor-spec : {M : Type 1} → statement M

@@ -3,7 +3,8 @@ use Prim.Native.Nat.{_+_, _-_, _*_}
 use mathlib.Core.Path.{_≡_}
 use native.Mathlib.Omega.{arith}
 use borrow.Author.Needs.{needs}
-use Rattle.jacobian.specs.Jacobian.{finishedOf}
+use Rattle.common.specs.Layout.{ewtAt, savfAt, matrixAt}
+use Rattle.jacobian.specs.Jacobian.{finishJacobianOf}
 use Rattle.jacobian.proofs.finish_jacobian.Statement.{statement}
 use Rattle.jacobian.proofs.finish_jacobian.Tie as tie
 
@@ -74,13 +75,13 @@ same-length-2 : tie.Need-same-length-2
 same-length-2 c = search needs
 
 returns : tie.Need-returns
-unfolding finishedOf
+unfolding finishJacobianOf
 returns c =
     let f = c .before .before .before .before .before in
     let v = f .before .before .before in
     let n = v .before .before .before .before .before .before .args .s .n in
-    let size : 19 * n + n * n - 19 * n ≡ n * n = omega arith in
-    let weights : 14 * n - 13 * n ≡ n = omega arith in
+    let size : matrixAt n + n * n - matrixAt n ≡ n * n = omega arith in
+    let weights : savfAt n - ewtAt n ≡ n = omega arith in
     let norm = rw (size, weights) at (v .fnorm-dense .ensures) in
     let done = rw size at (f .factor .ensures) in
     rw (c .in-force .ensures, ← norm, size, ← done .0, ← done .1, ← done .2)
