@@ -1,2 +1,3 @@
 pub mod Shared
-pub mod Laws
+pub mod Iterated
+pub mod Judged

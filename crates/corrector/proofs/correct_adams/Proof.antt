@@ -2,15 +2,18 @@
 use native.Mathlib.Omega.{arith}
 use borrow.Author.Needs.{needs}
 use Rattle.corrector.specs.Iterate.{adamsOf}
-use Rattle.verdict.proofs.Shared.{order-used}
+use Rattle.corrector.proofs.Shared.{order-used}
 use Rattle.corrector.proofs.correct_adams.Statement.{statement}
 use Rattle.corrector.proofs.correct_adams.Tie as tie
 
 adams-residual-requires : tie.Need-adams-residual-requires
 adams-residual-requires c κs = search needs
 
-norm-of-y-requires : tie.Need-norm-of-y-requires
-norm-of-y-requires c κs = search needs
+mul-norm-at : tie.Need-mul-norm-at
+mul-norm-at c = search needs
+
+norm-at-requires : tie.Need-norm-at-requires
+norm-at-requires c κs = search needs
 
 el-requires : tie.Need-el-requires
 el-requires c κs =
@@ -31,14 +34,15 @@ returns c =
     let e = u .before in
     let v = e .before .before in
     let r = v .before .before .before .before in
-    rw (u .adams-update .ensures, e .el .ensures, v .norm-of-y .ensures, r .adams-residual .ensures)
+    rw (u .adams-update .ensures, e .el .ensures, v .norm-at .ensures, r .adams-residual .ensures)
 
 pub correct-adams-spec : {M : Type 1} → statement M
 correct-adams-spec =
     tie.close
     (tie.spec
     adams-residual-requires
-    norm-of-y-requires
+    mul-norm-at
+    norm-at-requires
     el-requires
     adams-update-requires
     same-length

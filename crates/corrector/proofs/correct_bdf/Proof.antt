@@ -1,12 +1,12 @@
 -- `correct_bdf` meets its contract: the callees in turn, and the outcome tells the flag. Assumes nothing.
-use Prim.Native.Nat.{_*_}
 use mathlib.Core.Path.{sym, _∙_}
 use native.Mathlib.Omega.{arith}
 use borrow.Author.Needs.{needs}
 use Rattle.dense.specs.Solve.{solveOf}
+use Rattle.common.specs.Layout.{yAt, matrixAt}
 use Rattle.corrector.specs.Iterate.{bdfOf}
 use Rattle.jacobian.proofs.Shared.{ok-done, ok-singular}
-use Rattle.verdict.proofs.Shared.{order-used}
+use Rattle.corrector.proofs.Shared.{order-used}
 use Rattle.corrector.proofs.correct_bdf.Statement.{statement}
 use Rattle.corrector.proofs.correct_bdf.Tie as tie
 
@@ -28,8 +28,11 @@ enum-told c = search needs
 enum-told-2 : tie.Need-enum-told-2
 enum-told-2 c = search needs
 
-norm-of-y-requires : tie.Need-norm-of-y-requires
-norm-of-y-requires c κs = search needs
+mul-norm-at : tie.Need-mul-norm-at
+mul-norm-at c = search needs
+
+norm-at-requires : tie.Need-norm-at-requires
+norm-at-requires c κs = search needs
 
 el-requires : tie.Need-el-requires
 el-requires c κs =
@@ -50,7 +53,7 @@ returns c =
     let r = x .before .before .before .before in
     let a = r .before .before .before .before .args in
     let n = a .s .n in
-    let sol = solveOf n (19 * n) (a .ipiv .now) (17 * n) (r .bdf-residual .last .0) in
+    let sol = solveOf n (matrixAt n) (a .ipiv .now) (yAt n) (r .bdf-residual .last .0) in
     let no = ok-singular (sol .ok) (sym (x .dense-lu-solve .ensures .1) ∙ c .enum-told .given .1) in
     rw (← r .bdf-residual .ensures, no, x .dense-lu-solve .ensures .0)
 
@@ -68,14 +71,14 @@ returns-2 c =
     let r = x .before .before .before .before in
     let a = r .before .before .before .before .args in
     let n = a .s .n in
-    let sol = solveOf n (19 * n) (a .ipiv .now) (17 * n) (r .bdf-residual .last .0) in
+    let sol = solveOf n (matrixAt n) (a .ipiv .now) (yAt n) (r .bdf-residual .last .0) in
     let yes = ok-done (sol .ok) (sym (x .dense-lu-solve .ensures .1) ∙ t .enum-told2 .given .1) in
     rw (
       ← r .bdf-residual .ensures,
       yes,
       u .bdf-update .ensures,
       e .el .ensures,
-      v .norm-of-y .ensures,
+      v .norm-at .ensures,
       x .dense-lu-solve .ensures .0,
     )
 
@@ -89,7 +92,8 @@ correct-bdf-spec =
     dense-lu-solve-requires
     enum-told
     enum-told-2
-    norm-of-y-requires
+    mul-norm-at
+    norm-at-requires
     el-requires
     bdf-update-requires
     same-length

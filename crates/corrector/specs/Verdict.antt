@@ -11,12 +11,12 @@ use Rattle.numbers.specs.Order.{maxOf, minOf}
 use Rattle.coefficients.specs.Table.{tescoOf}
 use Rattle.common.specs.declared.Settings.{Settings}
 use Rattle.common.specs.declared.Common.{Common}
-use Rattle.common.specs.Record.{isBdf, with-rate, with-convrate, with-pdest, with-pdlast, with-jcur, with-due}
-use Rattle.common.specs.Record.{with-m, with-delp}
+use Rattle.common.specs.Record.{isBdf, with-rate, with-convrate, with-pdest, with-pdlast, with-jcur, with-due, with-m}
+use Rattle.common.specs.Record.{with-delp}
 use Rattle.common.specs.Rules.{elOf}
-use Rattle.verdict.specs.declared.Pass.the-variants.{Converged, Retry, NoConvergence, Further}
-use Rattle.verdict.specs.declared.Verdict.{Verdict}
-use Rattle.verdict.specs.declared.Correction.{Correction}
+use Rattle.corrector.specs.declared.Pass.the-variants.{Converged, Retry, NoConvergence, Further}
+use Rattle.corrector.specs.declared.Verdict.{Verdict}
+use Rattle.corrector.specs.declared.Correction.{Correction}
 
 -- del / delp, or 1024 if that is more
 abbrev pub rmOf : Common → Float → Float
@@ -40,8 +40,8 @@ unfoldable pub estimatedOf : Settings → Common → Common
 estimatedOf s c =
     with-pdest (pdestOf s c) (with-pdlast (cond (Ieee.ne (pdestOf s c) zeroF) (pdestOf s c) (c .pdlast)) c)
 
-unfoldable pub convergedOf : Common → Verdict
-convergedOf c = record { pass = Converged; common = with-jcur false c }
+unfoldable pub judgedConverged : Common → Verdict
+judgedConverged c = record { pass = Converged; common = with-jcur false c }
 
 -- a Jacobian of the second family that was not made in this pass
 abbrev pub oldJacobian : Common → Bool
@@ -59,23 +59,24 @@ giveUpOf c =
 abbrev pub strays : Settings → Common → Float → Bool
 strays s c del = cond (eqb (c .m + 1) (s .maxcor)) true (leb 2 (c .m + 1) && Ieee.lt (d2 ⊗ c .delp) del)
 
-unfoldable pub furtherOf : Settings → Common → Float → Verdict
-furtherOf s c del =
+unfoldable pub judgedFurther : Settings → Common → Float → Verdict
+judgedFurther s c del =
     cond (strays s c del) (giveUpOf c) (record { pass = Further; common = with-m (c .m + 1) (with-delp del c) })
 
-unfoldable pub testedOf : Settings → Common → Float → Verdict
-testedOf s c del = cond (Ieee.le (dconOf c del) oneF) (convergedOf (estimatedOf s c)) (furtherOf s c del)
+unfoldable pub judgedTested : Settings → Common → Float → Verdict
+judgedTested s c del = cond (Ieee.le (dconOf c del) oneF) (judgedConverged (estimatedOf s c)) (judgedFurther s c del)
 
 -- the first iteration of the Adams family is not tested
 abbrev pub ratedVerdict : Settings → Common → Float → Bool → Bool → Verdict
-ratedVerdict s c del true true = testedOf s c del
-ratedVerdict s c del true false = furtherOf s c del
-ratedVerdict s c del false bdf = testedOf s (ratedOf c del) del
+ratedVerdict s c del true true = judgedTested s c del
+ratedVerdict s c del true false = judgedFurther s c del
+ratedVerdict s c del false bdf = judgedTested s (ratedOf c del) del
 
 -- below the noise of the prediction the pass has converged
 abbrev pub solvedVerdict : Settings → Common → Float → Float → Verdict
 solvedVerdict s c del pnorm =
-    cond (Ieee.le del (d100 ⊗ pnorm ⊗ uround)) (convergedOf c) (ratedVerdict s c del (eqb (c .m) 0) (isBdf (c .meth)))
+    cond (Ieee.le del (d100 ⊗ pnorm ⊗ uround)) (judgedConverged c)
+    (ratedVerdict s c del (eqb (c .m) 0) (isBdf (c .meth)))
 
 unfoldable pub judgeOf : Settings → Common → Correction → Float → Verdict
 judgeOf s c x pnorm = cond (x .solved) (solvedVerdict s c (x .del) pnorm) (giveUpOf c)

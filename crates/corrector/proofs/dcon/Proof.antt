@@ -1,8 +1,8 @@
 -- `dcon` meets its contract: the sum with what its callees give. Assumes nothing.
 use borrow.Author.Needs.{needs}
-use Rattle.verdict.specs.Verdict.{dconOf}
-use Rattle.verdict.proofs.dcon.Statement.{statement}
-use Rattle.verdict.proofs.dcon.Tie as tie
+use Rattle.corrector.specs.Verdict.{dconOf}
+use Rattle.corrector.proofs.dcon.Statement.{statement}
+use Rattle.corrector.proofs.dcon.Tie as tie
 
 min-requires : tie.Need-min-requires
 min-requires c κs = search needs

@@ -1,10 +1,10 @@
 -- `estimated` meets its contract: on each way pdlast is what the test leaves. Assumes nothing.
 use native.Mathlib.Omega.{arith}
 use borrow.Author.Needs.{needs}
-use Rattle.verdict.specs.Verdict.{estimatedOf}
-use Rattle.verdict.proofs.Shared.{order-used}
-use Rattle.verdict.proofs.estimated.Statement.{statement}
-use Rattle.verdict.proofs.estimated.Tie as tie
+use Rattle.corrector.specs.Verdict.{estimatedOf}
+use Rattle.corrector.proofs.Shared.{order-used}
+use Rattle.corrector.proofs.estimated.Statement.{statement}
+use Rattle.corrector.proofs.estimated.Tie as tie
 
 el-requires : tie.Need-el-requires
 el-requires c κs =

@@ -1,9 +1,9 @@
 -- `known_rate` meets its contract: nothing new in the first iteration. Assumes nothing.
 use borrow.Author.Needs.{needs}
 use borrow.Author.Tests.{eq-eqb, ne-eqb}
-use Rattle.verdict.specs.Verdict.{knownRateOf}
-use Rattle.verdict.proofs.known_rate.Statement.{statement}
-use Rattle.verdict.proofs.known_rate.Tie as tie
+use Rattle.corrector.specs.Verdict.{knownRateOf}
+use Rattle.corrector.proofs.known_rate.Statement.{statement}
+use Rattle.corrector.proofs.known_rate.Tie as tie
 
 returns : tie.Need-returns
 unfolding knownRateOf

@@ -18,28 +18,24 @@ use Rattle.common.specs.declared.MethodFamily.the-variants.{Adams, Bdf}
 use Rattle.common.specs.declared.Settings.{Settings}
 use Rattle.common.specs.declared.Common.{Common}
 use Rattle.common.specs.Record.{isBdf, with-jcur, with-due, with-m, with-delp}
-use Rattle.jacobian.proofs.Laws.{SameStep, moved, same-moved}
-use Rattle.verdict.specs.declared.Pass.the-variants.{Converged, Retry, NoConvergence, Further}
-use Rattle.verdict.specs.declared.Verdict.{Verdict}
-use Rattle.verdict.specs.declared.Correction.{Correction}
-use Rattle.verdict.specs.Verdict.{ratedOf, dconOf, estimatedOf, convergedOf, oldJacobian, giveUpOf}
-use Rattle.verdict.specs.Verdict.{strays, furtherOf, testedOf, ratedVerdict, judgeOf}
-use Rattle.verdict.proofs.Shared.{chosen}
+use Rattle.history.proofs.Laws.{chosen, chosen-if}
+use Rattle.jacobian.proofs.Laws.{SameStep, passMoved, same-pass-moved}
+use Rattle.corrector.specs.declared.Pass.the-variants.{Converged, Retry, NoConvergence, Further}
+use Rattle.corrector.specs.declared.Verdict.{Verdict}
+use Rattle.corrector.specs.declared.Correction.{Correction}
+use Rattle.corrector.specs.Verdict.{ratedOf, dconOf, estimatedOf, judgedConverged, oldJacobian, giveUpOf, strays}
+use Rattle.corrector.specs.Verdict.{judgedFurther, judgedTested, ratedVerdict, judgeOf}
 
 -- what a verdict may be after an iteration from the record c, and what is known then
 pub data Ways (s : Settings) (c : Common) : Verdict → Type 0 where
-  converges : (d : Common) → d .m ≡ c .m → d .due ≡ c .due → Ways s c (record { pass = Converged; common = moved d c })
+  converges : (d : Common) → d .m ≡ c .m → d .due ≡ c .due
+      → Ways s c (record { pass = Converged; common = passMoved d c })
   retries : (d : Common) → d .m ≡ c .m → d .jcur ≡ c .jcur → c .meth ≡ Bdf → c .jcur ≡ false → d .due ≡ true
-      → Ways s c (record { pass = Retry; common = moved d c })
+      → Ways s c (record { pass = Retry; common = passMoved d c })
   fails : (d : Common) → d .m ≡ c .m → d .jcur ≡ c .jcur → d .due ≡ c .due
-      → Ways s c (record { pass = NoConvergence; common = moved d c })
+      → Ways s c (record { pass = NoConvergence; common = passMoved d c })
   goes-on : (d : Common) → d .m ≡ c .m + 1 → (c .m + 1 ≡ s .maxcor → ⊥) → d .jcur ≡ c .jcur → d .due ≡ c .due
-      → Ways s c (record { pass = Further; common = moved d c })
-
--- what a choice has if each side has it where it is taken
-either : {S : Type 0} (P : S → Type 0) (t : Bool) {x y : S} → (t ≡ true → P x) → (t ≡ false → P y) → P (cond t x y)
-either P true p q = p refl
-either P false p q = q refl
+      → Ways s c (record { pass = Further; common = passMoved d c })
 
 -- an old Jacobian is one of the second family, not made in this pass
 is-old : (m : MethodFamily) (current : Bool) → (isBdf m && not current) ≡ true → (m ≡ Bdf) × (current ≡ false)
@@ -61,17 +57,17 @@ module _ (s : Settings) where
       go true e = let q = is-old (c .meth) (c .jcur) e in retries (with-due true c) refl refl (q .0) (q .1) refl
       go false e = fails c refl refl refl
 
-  further-ways : (c : Common) (del : Float) → Ways s c (furtherOf s c del)
-  unfolding furtherOf
+  further-ways : (c : Common) (del : Float) → Ways s c (judgedFurther s c del)
+  unfolding judgedFurther
   further-ways c del =
       let last = eqb (c .m + 1) (s .maxcor) in
       let grown = leb 2 (c .m + 1) && Ieee.lt (d2 ⊗ c .delp) del in
       let next = with-m (c .m + 1) (with-delp del c) in
-      either (Ways s c) (strays s c del) (λ e. give-up-ways c)
+      chosen-if (Ways s c) (strays s c del) (λ e. give-up-ways c)
       (λ e. goes-on next refl (eqb-false _ _ (not-last last grown e)) refl refl)
 
-  tested-ways : (c : Common) (del : Float) → Ways s c (testedOf s c del)
-  unfolding testedOf convergedOf estimatedOf
+  tested-ways : (c : Common) (del : Float) → Ways s c (judgedTested s c del)
+  unfolding judgedTested judgedConverged estimatedOf
   tested-ways c del =
       let done = converges (with-jcur false (estimatedOf s c)) refl refl in
       chosen (Ways s c) (Ieee.le (dconOf c del) oneF) done (further-ways c del)
@@ -90,7 +86,7 @@ module _ (s : Settings) where
   far-ways c del false second = rated-ways c del _ (tested-ways (ratedOf c del) del)
 
   pub judge-ways : (c : Common) (x : Correction) (pnorm : Float) → Ways s c (judgeOf s c x pnorm)
-  unfolding judgeOf convergedOf
+  unfolding judgeOf judgedConverged
   judge-ways c x pnorm =
       let far = far-ways c (x .del) (eqb (c .m) 0) (isBdf (c .meth)) in
       let near = converges (with-jcur false c) refl refl in
@@ -98,10 +94,10 @@ module _ (s : Settings) where
       chosen (Ways s c) (x .solved) solved (give-up-ways c)
 
 same-ways : {s : Settings} {c : Common} {v : Verdict} → Ways s c v → SameStep c (v .common)
-same-ways {s} {c} (converges d m u) = same-moved c d
-same-ways {s} {c} (retries d m j b o u) = same-moved c d
-same-ways {s} {c} (fails d m j u) = same-moved c d
-same-ways {s} {c} (goes-on d m l j u) = same-moved c d
+same-ways {s} {c} (converges d m u) = same-pass-moved c d
+same-ways {s} {c} (retries d m j b o u) = same-pass-moved c d
+same-ways {s} {c} (fails d m j u) = same-pass-moved c d
+same-ways {s} {c} (goes-on d m l j u) = same-pass-moved c d
 
 pub same-judge : (s : Settings) (c : Common) (x : Correction) (pnorm : Float) → SameStep c (judgeOf s c x pnorm .common)
 same-judge s c x pnorm = same-ways (judge-ways s c x pnorm)

@@ -1,8 +1,8 @@
 -- `tested` meets its contract: the test decides between its two callees. Assumes nothing.
 use borrow.Author.Needs.{needs}
-use Rattle.verdict.specs.Verdict.{testedOf}
-use Rattle.verdict.proofs.tested.Statement.{statement}
-use Rattle.verdict.proofs.tested.Tie as tie
+use Rattle.corrector.specs.Verdict.{judgedTested}
+use Rattle.corrector.proofs.tested.Statement.{statement}
+use Rattle.corrector.proofs.tested.Tie as tie
 
 dcon-requires : tie.Need-dcon-requires
 dcon-requires c κs = search needs
@@ -14,7 +14,7 @@ converged-requires : tie.Need-converged-requires
 converged-requires c κs = search needs
 
 returns : tie.Need-returns
-unfolding testedOf
+unfolding judgedTested
 returns c =
     let t = c .before .before in
     rw (← t .before .dcon .ensures, t .if1 .taken, ← c .before .estimated .ensures) (c .converged .ensures)
@@ -23,7 +23,7 @@ further-requires : tie.Need-further-requires
 further-requires c κs = search needs
 
 returns-2 : tie.Need-returns-2
-unfolding testedOf
+unfolding judgedTested
 returns-2 c =
     let t = c .before in
     rw (← t .before .dcon .ensures, t .if1 .left) (c .further .ensures)

@@ -5,22 +5,21 @@
 -- Assumes nothing.
 use mathlib.Core.Path.{_≡_, refl, _∙_}
 use mathlib.Core.List.{List}
-use Prim.Native.Nat.{ℕ, _+_, _*_}
-use lib.ListN.{length, getD, length-set}
-use lib.Ieee.{Float, nan}
-use Rattle.numbers.specs.Float.{_⊕_, _⊖_, _⊗_}
+use Prim.Native.Nat.{ℕ}
+use lib.ListN.{length, length-set}
+use lib.Ieee.{Float}
 use Rattle.dense.specs.Solve.{solveOf}
 use Rattle.dense.proofs.Laws.{length-solve}
 use Rattle.common.specs.declared.MethodFamily.{MethodFamily}
 use Rattle.common.specs.declared.MethodFamily.the-variants.{Adams, Bdf}
 use Rattle.common.specs.declared.Settings.{Settings}
 use Rattle.common.specs.declared.Common.{Common}
-use Rattle.history.proofs.Laws.{length-for, length-stores}
-use Rattle.jacobian.proofs.Laws.{SameStep, same-moved}
-use Rattle.verdict.proofs.Shared.{chosen}
+use Rattle.common.specs.Layout.{yAt, matrixAt}
+use Rattle.history.proofs.Laws.{chosen, length-for}
+use Rattle.jacobian.proofs.Laws.{SameStep, same-pass-moved}
 use Rattle.corrector.specs.Iterate.{openOf, adamsResidualAt, adamsResidualOf, adamsUpdateAt, adamsUpdateOf}
-use Rattle.corrector.specs.Iterate.{bdfResidualOf, bdfUpdateAt, bdfUpdateOf, Corrected, adamsOf, bdfOf}
-use Rattle.corrector.specs.Iterate.{correctIn, correctOf}
+use Rattle.corrector.specs.Iterate.{bdfResidualAt, bdfResidualOf, bdfUpdateAt, bdfUpdateOf, Corrected, adamsOf}
+use Rattle.corrector.specs.Iterate.{bdfOf, correctIn, correctOf}
 
 -- ---- lengths
 
@@ -35,9 +34,7 @@ module _ (n : ℕ) (work : List Float) where
 
   length-bdf-residual : (h : Float) → length (bdfResidualOf n h work) ≡ length work
   unfolding bdfResidualOf
-  length-bdf-residual h =
-      length-stores (λ i. 17 * n + i)
-      (λ i t. h ⊗ getD t (14 * n + i) nan ⊖ (getD t (n + i) nan ⊕ getD t (16 * n + i) nan)) 0 n work
+  length-bdf-residual h = length-for (bdfResidualAt n h) 0 n work (λ i t. simp length-set)
 
   length-bdf-update : (e : Float) → length (bdfUpdateOf n e work) ≡ length work
   unfolding bdfUpdateOf
@@ -54,8 +51,8 @@ module _ (s : Settings) (c : Common) (work : List Float) where
   length-bdf ipiv =
       let n = s .n in
       let r = bdfResidualOf n (c .h) work in
-      let x = solveOf n (19 * n) ipiv (17 * n) r in
-      let solved = length-solve n (19 * n) ipiv (17 * n) r ∙ length-bdf-residual n work (c .h) in
+      let x = solveOf n (matrixAt n) ipiv (yAt n) r in
+      let solved = length-solve n (matrixAt n) ipiv (yAt n) r ∙ length-bdf-residual n work (c .h) in
       let updated = length-bdf-update n (x .work) _ ∙ solved in
       chosen (λ (z : Corrected). length (z .work) ≡ length work) (x .ok) updated solved
 
@@ -71,7 +68,7 @@ module _ (s : Settings) (c : Common) (work : List Float) where
 
 pub same-open : (c : Common) → SameStep c (openOf c)
 unfolding openOf
-same-open c = same-moved c (openOf c)
+same-open c = same-pass-moved c (openOf c)
 
 -- jcur, due and m: the iterations begin at 0
 pub open-flags : (c : Common) → (openOf c .jcur ≡ c .jcur) × (openOf c .due ≡ c .due) × (openOf c .m ≡ 0)

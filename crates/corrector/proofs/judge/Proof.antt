@@ -4,10 +4,10 @@ use mathlib.Core.Path.{sym, _∙_}
 use mathlib.Core.Logic.{⊎-elim}
 use borrow.Author.Needs.{needs}
 use borrow.Author.Tests.{not-true, not-false, eq-eqb, ne-eqb}
-use Rattle.verdict.specs.Verdict.{knownRateOf, judgeOf}
-use Rattle.verdict.proofs.Shared.{in-range-known}
-use Rattle.verdict.proofs.judge.Statement.{statement}
-use Rattle.verdict.proofs.judge.Tie as tie
+use Rattle.corrector.specs.Verdict.{knownRateOf, judgeOf}
+use Rattle.corrector.proofs.Shared.{in-range-known}
+use Rattle.corrector.proofs.judge.Statement.{statement}
+use Rattle.corrector.proofs.judge.Tie as tie
 
 give-up-requires : tie.Need-give-up-requires
 give-up-requires c κs = search needs

@@ -2,9 +2,9 @@
 use mathlib.Core.Path.{_≡_, _∙_}
 use mathlib.Core.Logic.{⊎-elim}
 use borrow.Author.Needs.{needs}
-use Rattle.verdict.specs.Verdict.{rmOf, ratedOf}
-use Rattle.verdict.proofs.rated.Statement.{statement}
-use Rattle.verdict.proofs.rated.Tie as tie
+use Rattle.corrector.specs.Verdict.{rmOf, ratedOf}
+use Rattle.corrector.proofs.rated.Statement.{statement}
+use Rattle.corrector.proofs.rated.Tie as tie
 
 max-requires : tie.Need-max-requires
 max-requires c κs = search needs

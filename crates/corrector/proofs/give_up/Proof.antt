@@ -1,9 +1,9 @@
 -- `give_up` meets its contract: on each way the family and the flag decide. Assumes nothing.
 use mathlib.Core.Path.{sym, _∙_}
 use borrow.Author.Needs.{needs}
-use Rattle.verdict.specs.Verdict.{giveUpOf}
-use Rattle.verdict.proofs.give_up.Statement.{statement}
-use Rattle.verdict.proofs.give_up.Tie as tie
+use Rattle.corrector.specs.Verdict.{giveUpOf}
+use Rattle.corrector.proofs.give_up.Statement.{statement}
+use Rattle.corrector.proofs.give_up.Tie as tie
 
 is-bdf-requires : tie.Need-is-bdf-requires
 is-bdf-requires c κs = search needs
