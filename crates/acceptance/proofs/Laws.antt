@@ -5,7 +5,7 @@
 use mathlib.Core.Path.{_≡_, refl, ap, _∙_}
 use mathlib.Core.List.{List}
 use mathlib.Core.Logic.{_⊎_}
-use Prim.Native.Nat.{ℕ, _+_, _-_, _*_, _≤_}
+use Prim.Native.Nat.{ℕ, _+_, _-_, _≤_}
 use native.Mathlib.Omega.{arith}
 use lib.ListN.{length}
 use lib.Ieee.{Float}
@@ -16,16 +16,16 @@ use Rattle.vectors.specs.Weights.{ewsetOf, invertOf}
 use Rattle.vectors.proofs.Laws.{length-ewset, length-invert}
 use Rattle.common.specs.declared.Settings.{Settings}
 use Rattle.common.specs.declared.Common.{Common}
-use Rattle.common.specs.Layout.{ewt}
+use Rattle.common.specs.Layout.{ewt, ewtAt, savfAt, acorAt}
 use Rattle.common.specs.Rules.{icount20}
 use Rattle.history.specs.Columns.{scalePartOf, correctColumnsOf}
 use Rattle.history.proofs.Laws.{length-scale-part, length-correct}
-use Rattle.order.specs.declared.Branch.the-variants.{FamilyChanged}
-use Rattle.order.specs.Order.{Settled}
-use Rattle.order.proofs.Ranges.{Ready, same-ready}
-use Rattle.order.proofs.Moves.{Moves}
+use Rattle.acceptance.specs.declared.Branch.the-variants.{FamilyChanged}
+use Rattle.acceptance.specs.Order.{Settled}
+use Rattle.acceptance.proofs.Ready.{Ready, same-ready}
+use Rattle.acceptance.proofs.OrderMoves.{Moves}
 use Rattle.acceptance.specs.Accept.{correctedOf, acceptOf, closedOf}
-use Rattle.acceptance.proofs.Moves.{test-moves}
+use Rattle.acceptance.proofs.FamilyMoves.{test-moves}
 
 -- ---- an accepted step
 
@@ -96,16 +96,16 @@ module _ (s : Settings) (c : Common) (dsm : Float) (work : List Float) where
 
 -- ---- the end of a step
 
-pub length-closed : (s : Settings) (c : Common) (q : ℕ) (rtol atol work : List Float) → 14 * s .n ≤ length work
+pub length-closed : (s : Settings) (c : Common) (q : ℕ) (rtol atol work : List Float) → savfAt (s .n) ≤ length work
     → length (closedOf s c q rtol atol work .work) ≡ length work
 unfolding closedOf
 length-closed s c q rtol atol work room =
     let n = s .n in
-    let scaled = scalePartOf n (16 * n) (oneF ⊘ tescoOf (c .table) q 1) work in
-    let w = ewsetOf rtol atol n (13 * n) scaled in
+    let scaled = scalePartOf n (acorAt n) (oneF ⊘ tescoOf (c .table) q 1) work in
+    let w = ewsetOf rtol atol n (ewtAt n) scaled in
     let long : length w ≡ length work =
-    length-ewset rtol atol n (13 * n) scaled ∙ length-scale-part n (16 * n) _ work
+    length-ewset rtol atol n (ewtAt n) scaled ∙ length-scale-part n (acorAt n) _ work
     in
-    let fits : 13 * n + n ≤ length w = omega arith in
-    let same = length-invert (ewt n w) ∙ length-part (13 * n) n w fits in
-    length-putPart (13 * n) n w fits (invertOf (ewt n w) .ewt) same ∙ long
+    let fits : ewtAt n + n ≤ length w = omega arith in
+    let same = length-invert (ewt n w) ∙ length-part (ewtAt n) n w fits in
+    length-putPart (ewtAt n) n w fits (invertOf (ewt n w) .ewt) same ∙ long

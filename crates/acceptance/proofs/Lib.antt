@@ -1,2 +1,5 @@
-pub mod Moves
+pub mod ChangeOrder
+pub mod Ready
+pub mod OrderMoves
+pub mod FamilyMoves
 pub mod Laws

@@ -2,7 +2,7 @@
 -- where ialth comes to 0; and the end of a step, where acor is scaled and the weights are those of the new state.
 use mathlib.Core.Bool.{cond}
 use mathlib.Core.List.{List}
-use Prim.Native.Nat.{ℕ, _+_, _-_, _*_}
+use Prim.Native.Nat.{ℕ, _+_, _-_}
 use lib.Dec.{eqb, ltb}
 use lib.Ieee.{Float}
 use Rattle.loops.specs.Part.{putPart}
@@ -12,36 +12,37 @@ use Rattle.vectors.specs.declared.Weights.{Weights}
 use Rattle.vectors.specs.Weights.{ewsetOf, Inversion, invertOf, outcomeOf}
 use Rattle.common.specs.declared.Settings.{Settings}
 use Rattle.common.specs.declared.Common.{Common}
-use Rattle.common.specs.Layout.{ewt}
+use Rattle.common.specs.Layout.{ewt, ewtAt, acorAt}
+use Rattle.common.specs.State.{Moved}
 use Rattle.common.specs.Record.{with-kflag, with-m, with-nst, with-hu, with-icount, with-ialth}
 use Rattle.history.specs.Columns.{correctColumnsOf, scalePartOf}
-use Rattle.family.specs.declared.Change.{Change}
-use Rattle.family.specs.declared.Change.the-variants.{Stay, Gap, To}
-use Rattle.family.specs.Family.{Moved, changeOf, changedOf}
-use Rattle.order.specs.declared.Branch.{Branch}
-use Rattle.order.specs.declared.Branch.the-variants.{Unchanged, FamilyChanged, CoefficientGap}
-use Rattle.order.specs.Order.{Settled, chooseOrderOf}
+use Rattle.acceptance.specs.declared.family.Change.{Change}
+use Rattle.acceptance.specs.declared.family.Change.the-variants.{Stay, Gap, To}
+use Rattle.acceptance.specs.Family.{changeOf, changedOf}
+use Rattle.acceptance.specs.declared.Branch.{Branch}
+use Rattle.acceptance.specs.declared.Branch.the-variants.{Unchanged, FamilyChanged, CoefficientGap}
+use Rattle.acceptance.specs.Order.{Settled, chooseOrderOf}
 
 -- the accepted count is raised first
 unfoldable pub correctedOf : Common → Common
 correctedOf c = with-kflag 0 (with-m 0 (with-nst (c .nst + 1) (with-hu (c .h) (with-icount (c .icount - 1) c))))
 
-abbrev pub settled : Branch → Common → List Float → Settled
-settled branch c work = record { branch = branch; common = c; work = work }
+abbrev pub tookBranch : Branch → Common → List Float → Settled
+tookBranch branch c work = record { branch = branch; common = c; work = work }
 
 abbrev pub countedDown : Common → Common
 countedDown c = with-ialth (c .ialth - 1) c
 
 unfoldable pub keepFamilyOf : Settings → Common → Float → List Float → Settled
 keepFamilyOf s c dsm work =
-    cond (eqb (c .ialth - 1) 0) (chooseOrderOf s (countedDown c) dsm work) (settled Unchanged (countedDown c) work)
+    cond (eqb (c .ialth - 1) 0) (chooseOrderOf s (countedDown c) dsm work) (tookBranch Unchanged (countedDown c) work)
 
 abbrev pub changedFamily : Moved → Settled
-changedFamily m = settled FamilyChanged (m .common) (m .work)
+changedFamily m = tookBranch FamilyChanged (m .common) (m .work)
 
 unfoldable pub testedOf : Settings → Common → Float → List Float → Change → Settled
 testedOf s c dsm work Stay = keepFamilyOf s c dsm work
-testedOf s c dsm work Gap = settled CoefficientGap c work
+testedOf s c dsm work Gap = tookBranch CoefficientGap c work
 testedOf s c dsm work (To to) = changedFamily (changedOf s c to work)
 
 -- icount is kept with 1,000,000 added
@@ -59,11 +60,11 @@ pub record Closed : Type 0 where
   pub work : List Float
 
 abbrev pub closedWith : ℕ → List Float → Inversion → Closed
-closedWith n work inv = record { weights = outcomeOf inv; work = putPart (13 * n) n work (inv .ewt) }
+closedWith n work inv = record { weights = outcomeOf inv; work = putPart (ewtAt n) n work (inv .ewt) }
 
 -- acor over the test constant of the order that the step used; then the weights of the new state, inverted
 unfoldable pub closedOf : Settings → Common → ℕ → List Float → List Float → List Float → Closed
 closedOf s c order rtol atol work =
     let n = s .n in
-    let w = ewsetOf rtol atol n (13 * n) (scalePartOf n (16 * n) (oneF ⊘ tescoOf (c .table) order 1) work) in
+    let w = ewsetOf rtol atol n (ewtAt n) (scalePartOf n (acorAt n) (oneF ⊘ tescoOf (c .table) order 1) work) in
     closedWith n w (invertOf (ewt n w))

@@ -1,1 +1,4 @@
+pub mod Size
+pub mod Family
+pub mod Order
 pub mod Accept

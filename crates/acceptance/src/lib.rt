@@ -1,24 +1,44 @@
 // An accepted step, as in `stoda`: the columns corrected, the family test or the order choice, and the end of the step.
 ghost use mathlib.Core.Path.{_≡_};
-ghost use Prim.Native.Nat.{_+_, _-_, _*_, _^_, _≤_, _<_};
+ghost use Prim.Native.Nat.{_+_, _-_, _^_, _≤_, _<_};
 ghost use lib.ListN.{length};
-ghost use Rattle.history.specs.Steps.{InRange};
+ghost use Rattle.common.specs.Layout.{matrixAt};
+ghost use Rattle.history.specs.Steps.{StepInRange};
 ghost use Rattle.vectors.specs.Tolerance.{List1OrN};
 ghost use Rattle.history.specs.Columns.{correctColumnsOf};
-ghost use Rattle.order.specs.Order.{Settled};
+ghost use Rattle.acceptance.specs.Order.{Settled};
 ghost use Rattle.acceptance.specs.Accept.{correctedOf, keepFamilyOf, testFamilyOf, acceptOf, Closed, closedOf};
+
+mod family;
+mod order;
+
 use common::Common;
 use common::Settings;
 use family::Change;
-use order::Branch;
-use order::Chosen;
+
+// The branch that an accepted step took.
+pub enum Branch {
+    Unchanged,
+    SmallGain,
+    Lowered,
+    Kept,
+    Raised,
+    HeldBySm1,
+    FamilyChanged,
+    CoefficientGap,
+}
+
+pub struct Chosen {
+    pub branch: Branch,
+    pub common: Common,
+}
 
 // ---- acceptance
 
 // The step counts, and its correction goes into the columns.
 fn correct(s: Settings, c: Common, work: &mut [f64]) -> Common
-    requires { ⌜ InRange s c ⌝ }
-    requires { ⌜ (c .nst < 2 ^ 63) × (1 ≤ c .icount) × (19 * s .n ≤ length (now work)) ⌝ }
+    requires { ⌜ StepInRange s c ⌝ }
+    requires { ⌜ (c .nst < 2 ^ 63) × (1 ≤ c .icount) × (matrixAt (s .n) ≤ length (now work)) ⌝ }
     ensures { λ r. ⌜ (r ≡ correctedOf c) × (now (work .exit) ≡ correctColumnsOf s c (now (work .entry))) ⌝ }
 {
     history::correct_columns(s, c, work);
@@ -33,9 +53,9 @@ fn correct(s: Settings, c: Common, work: &mut [f64]) -> Common
 
 // No change of family: the order choice, if it is due.
 fn keep_family(s: Settings, c: Common, dsm: f64, work: &mut [f64]) -> Chosen
-    requires { ⌜ InRange s c ⌝ }
+    requires { ⌜ StepInRange s c ⌝ }
     requires { ⌜ (2 ≤ c .lmax) × (c .lmax ≤ 13) × (c .nq + 1 ≤ c .lmax) × (1 ≤ c .ialth)
-        × (19 * s .n ≤ length (now work)) ⌝ }
+        × (matrixAt (s .n) ≤ length (now work)) ⌝ }
     ensures { λ r. ⌜ _≡_ {A = Settled} (record { branch = r .branch; common = r .common; work = now (work .exit) })
         (keepFamilyOf s c dsm (now (work .entry))) ⌝ }
 {
@@ -52,10 +72,10 @@ fn keep_family(s: Settings, c: Common, dsm: f64, work: &mut [f64]) -> Chosen
 
 // The family test where icount is below 0, then order and size.
 fn test_family(s: Settings, c: Common, dsm: f64, work: &mut [f64]) -> Chosen
-    requires { ⌜ InRange s c ⌝ }
+    requires { ⌜ StepInRange s c ⌝ }
     requires { ⌜ (1 ≤ s .mxordn) × (1 ≤ s .mxords) ⌝ }
     requires { ⌜ (2 ≤ c .lmax) × (c .lmax ≤ 13) × (c .nq + 1 ≤ c .lmax) × (1 ≤ c .ialth)
-        × (19 * s .n ≤ length (now work)) ⌝ }
+        × (matrixAt (s .n) ≤ length (now work)) ⌝ }
     ensures { λ r. ⌜ _≡_ {A = Settled} (record { branch = r .branch; common = r .common; work = now (work .exit) })
         (testFamilyOf s c dsm (now (work .entry))) ⌝ }
 {
@@ -78,10 +98,10 @@ fn test_family(s: Settings, c: Common, dsm: f64, work: &mut [f64]) -> Chosen
 
 // The step is accepted with the error dsm.
 pub fn accept(s: Settings, c: Common, dsm: f64, work: &mut [f64]) -> Chosen
-    requires { ⌜ InRange s c ⌝ }
+    requires { ⌜ StepInRange s c ⌝ }
     requires { ⌜ (1 ≤ s .mxordn) × (1 ≤ s .mxords) × (c .nst < 2 ^ 63) × (1 ≤ c .icount) ⌝ }
     requires { ⌜ (2 ≤ c .lmax) × (c .lmax ≤ 13) × (c .nq + 1 ≤ c .lmax) × (1 ≤ c .ialth)
-        × (19 * s .n ≤ length (now work)) ⌝ }
+        × (matrixAt (s .n) ≤ length (now work)) ⌝ }
     ensures { λ r. ⌜ _≡_ {A = Settled} (record { branch = r .branch; common = r .common; work = now (work .exit) })
         (acceptOf s c dsm (now (work .entry))) ⌝ }
 {
@@ -101,20 +121,20 @@ pub fn close(
     atol: &[f64],
     work: &mut [f64],
 ) -> vectors::Weights
-    requires { ⌜ InRange s c ⌝ }
+    requires { ⌜ StepInRange s c ⌝ }
     requires { ⌜ List1OrN (now rtol) (s .n - 1) ⌝ }
     requires { ⌜ List1OrN (now atol) (s .n - 1) ⌝ }
-    requires { ⌜ (1 ≤ order) × (order ≤ 12) × (19 * s .n ≤ length (now work)) ⌝ }
+    requires { ⌜ (1 ≤ order) × (order ≤ 12) × (matrixAt (s .n) ≤ length (now work)) ⌝ }
     ensures { λ r. ⌜ _≡_ {A = Closed} (record { weights = r; work = now (work .exit) })
         (closedOf s c order (now (rtol .entry)) (now (atol .entry)) (now (work .entry))) ⌝ }
 {
     let n = s.n;
     let r = 1.0 / coefficients::tesco(c.table, order, 1);
-    let a = 16 * n;
-    let e = 17 * n;
+    let a = common::ACOR * n;
+    let e = common::Y * n;
     history::scale(&mut work[a..e], r);
-    let w = 13 * n;
-    let we = 14 * n;
+    let w = common::EWT * n;
+    let we = common::SAVF * n;
     vectors::ewset(rtol, atol, work, n, w);
     vectors::invert_weights(&mut work[w..we])
 }

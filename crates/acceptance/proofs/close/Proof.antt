@@ -1,9 +1,10 @@
 -- `close` meets its contract: acor scaled, then the weights of the new state written and inverted in their part.
 -- Assumes nothing.
-use Prim.Native.Nat.{_-_, _*_}
+use Prim.Native.Nat.{_-_}
 use mathlib.Core.Path.{_≡_}
 use native.Mathlib.Omega.{arith}
 use borrow.Author.Needs.{needs}
+use Rattle.common.specs.Layout.{ewtAt, savfAt, acorAt, yAt}
 use Rattle.history.specs.Columns.{scalePartOf}
 use Rattle.acceptance.specs.Accept.{closedOf}
 use Rattle.acceptance.proofs.close.Statement.{statement}
@@ -70,8 +71,8 @@ returns c =
     let a = e .before .before .before .before in
     let t = a .before .before in
     let n = t .before .before .before .before .args .s .n in
-    let p : 14 * n - 13 * n ≡ n = omega arith in
-    let q : 17 * n - 16 * n ≡ n = omega arith in
+    let p : savfAt n - ewtAt n ≡ n = omega arith in
+    let q : yAt n - acorAt n ≡ n = omega arith in
     let inverted = i .invert-weights .ensures in
     rw (inverted .0, inverted .1, p, e .ewset .ensures, a .scale .ensures, q, t .tesco .ensures)
 

@@ -12,11 +12,11 @@ use borrow.Author.Needs.{needs}
 use borrow.Author.Tests.{lt-ltb, le-ltb}
 use Rattle.common.specs.declared.Settings.{Settings}
 use Rattle.common.specs.declared.Common.{Common}
-use Rattle.family.specs.declared.Change.{Change}
-use Rattle.family.specs.declared.Change.the-variants.{Stay}
-use Rattle.family.specs.Family.{changeOf}
+use Rattle.acceptance.specs.declared.family.Change.{Change}
+use Rattle.acceptance.specs.declared.family.Change.the-variants.{Stay}
+use Rattle.acceptance.specs.Family.{changeOf}
 use Rattle.acceptance.specs.Accept.{changedFamily, testFamilyOf, testedOf, keepFamilyOf}
-use Rattle.family.proofs.Ranges.{orderWithin, change-within}
+use Rattle.acceptance.proofs.ChangeOrder.{orderWithin, change-within}
 use Rattle.acceptance.proofs.test_family.Statement.{statement}
 use Rattle.acceptance.proofs.test_family.Tie as tie
 

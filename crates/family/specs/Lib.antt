@@ -1,2 +1,0 @@
-pub mod Size
-pub mod Family
