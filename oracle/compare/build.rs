@@ -8,14 +8,12 @@ fn main() {
     let folder = repository.join("target/staticlib");
     println!("cargo:rerun-if-changed=build.rs");
     println!("cargo:rustc-link-search=native={}", folder.display());
-    for library in ["probe", "probe_history"] {
-        let archive = folder.join(format!("lib{library}.a"));
-        println!("cargo:rerun-if-changed={}", archive.display());
-        if !archive.exists() {
-            let told = archive.display();
-            eprintln!("oracle: {told} is not there: `bash oracle/run` makes it, or `rt staticlib {library}`");
-            std::process::exit(1);
-        }
-        println!("cargo:rustc-link-lib=static={library}");
+    let archive = folder.join("libprobe.a");
+    println!("cargo:rerun-if-changed={}", archive.display());
+    if !archive.exists() {
+        let told = archive.display();
+        eprintln!("oracle: {told} is not there: `bash oracle/run` makes it, or `rt staticlib probe`");
+        std::process::exit(1);
     }
+    println!("cargo:rustc-link-lib=static=probe");
 }

@@ -1,2 +1,3 @@
 mod Order
 mod Sizes
+pub mod Usable

@@ -7,8 +7,8 @@ use borrow.Author.Tests.{leb-true}
 use Rattle.loops.specs.Test.{both}
 use Rattle.probe.specs.Probe.{isOrder}
 
-pub within : (order last : ℕ) → isOrder order last ≡ true → (1 ≤ order) × (order ≤ last)
+pub order-within : (order last : ℕ) → isOrder order last ≡ true → (1 ≤ order) × (order ≤ last)
 unfolding isOrder
-within order last h =
+order-within order last h =
     let p = both (leb 1 order) (leb order last) h in
     (leb-true 1 order (p .0), leb-true order last (p .1))

@@ -11,7 +11,7 @@ use lib.Ieee.{Float}
 use borrow.Author.Tests.{leb-true, eqb-true}
 use Rattle.loops.specs.Test.{both}
 use Rattle.vectors.specs.Tolerance.{List1OrN}
-use Rattle.probe.specs.Leaves.{isMatrix, isList, isBehind, isWeighed, isSystem}
+use Rattle.probe.specs.Leaves.{isMatrix, isToleranceList, isBehind, isWeighed, isSystem}
 
 either : (a b : Bool) → (a || b) ≡ true → (a ≡ true) ⊎ (b ≡ true)
 either true b h = inl refl
@@ -23,8 +23,8 @@ matrix-fits n matrix vector h =
     let p = both (leb (n * n) matrix) (leb n vector) (both (leb n 64) _ h .1) in
     (leb-true (n * n) matrix (p .0), leb-true n vector (p .1))
 
-pub list-serves : (n : ℕ) (list : List Float) → isList n (length list) ≡ true → List1OrN list (n - 1)
-unfolding isList
+pub list-serves : (n : ℕ) (list : List Float) → isToleranceList n (length list) ≡ true → List1OrN list (n - 1)
+unfolding isToleranceList
 list-serves n list h =
     let p = both (leb 1 n) _ h in
     let least = leb-true 1 n (p .0) in
@@ -38,11 +38,11 @@ behind-fits n at len h =
     (leb-true n at (p .0), leb-true (at + n) len (p .1))
 
 pub weighed : (n rtol atol at len : ℕ) → isWeighed n rtol atol at len ≡ true
-    → (isList n rtol ≡ true) × (isList n atol ≡ true) × (isBehind n at len ≡ true)
+    → (isToleranceList n rtol ≡ true) × (isToleranceList n atol ≡ true) × (isBehind n at len ≡ true)
 unfolding isWeighed
 weighed n rtol atol at len h =
-    let p = both (isList n rtol) _ h in
-    let q = both (isList n atol) (isBehind n at len) (p .1) in
+    let p = both (isToleranceList n rtol) _ h in
+    let q = both (isToleranceList n atol) (isBehind n at len) (p .1) in
     (p .0, q .0, q .1)
 
 pub system-fits : (n a b len pivots : ℕ) → isSystem n a b len pivots ≡ true

@@ -1,2 +1,4 @@
 pub mod Probe
 pub mod Leaves
+pub mod Lent
+pub mod Left

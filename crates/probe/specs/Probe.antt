@@ -9,17 +9,17 @@ use Rattle.coefficients.specs.Table.{elcoOf, tescoOf, cm1Of, cm2Of, sm1Of}
 unfoldable pub isOrder : ℕ → ℕ → Bool
 isOrder order last = leb 1 order && leb order last
 
-unfoldable pub elcoAt : ℕ → ℕ → ℕ → Float
-elcoAt table order i = cond (leb table 2 && (leb i 12 && isOrder order 12)) (elcoOf table order i) nan
+unfoldable pub elcoOrNan : ℕ → ℕ → ℕ → Float
+elcoOrNan table order i = cond (leb table 2 && (leb i 12 && isOrder order 12)) (elcoOf table order i) nan
 
-unfoldable pub tescoAt : ℕ → ℕ → ℕ → Float
-tescoAt table order i = cond (leb table 2 && (leb i 2 && isOrder order 12)) (tescoOf table order i) nan
+unfoldable pub tescoOrNan : ℕ → ℕ → ℕ → Float
+tescoOrNan table order i = cond (leb table 2 && (leb i 2 && isOrder order 12)) (tescoOf table order i) nan
 
-unfoldable pub cm1At : ℕ → ℕ → Float
-cm1At table order = cond (isOrder order 12) (cm1Of table order) nan
+unfoldable pub cm1OrNan : ℕ → ℕ → Float
+cm1OrNan table order = cond (isOrder order 12) (cm1Of table order) nan
 
-unfoldable pub cm2At : ℕ → ℕ → Float
-cm2At table order = cond (isOrder order 5) (cm2Of table order) nan
+unfoldable pub cm2OrNan : ℕ → ℕ → Float
+cm2OrNan table order = cond (isOrder order 5) (cm2Of table order) nan
 
-unfoldable pub sm1At : ℕ → Float
-sm1At order = cond (isOrder order 12) (sm1Of order) nan
+unfoldable pub sm1OrNan : ℕ → Float
+sm1OrNan order = cond (isOrder order 12) (sm1Of order) nan

@@ -1,6 +1,6 @@
 // For comparisons with the reference alone, by C's rules: the functions that a host cannot reach otherwise.
 // Nothing is asked of the host: where a callee's requires is not met, a NaN or the number 2 is answered, and what was
-// lent stays as it was. The functions on the history and the record are in crate probe_history.
+// lent stays as it was. The functions on the history and the record are in steps.rt.
 ghost use mathlib.Core.Path.{_≡_};
 ghost use mathlib.Core.Bool.{true};
 ghost use Prim.Native.Nat.{ℕ, _≤_, _<_};
@@ -11,10 +11,13 @@ ghost use Rattle.numbers.specs.Sign.{absOf, signumOf, copysignOf, refused};
 ghost use Rattle.numbers.specs.Order.{maxOf, minOf, clampOf};
 ghost use Rattle.sqrt.specs.Sqrt.{sqrtOf};
 ghost use Rattle.vectors.specs.Weights.{invertOf, outcomeOf};
-ghost use Rattle.probe.specs.Probe.{isOrder, elcoAt, tescoAt, cm1At, cm2At, sm1At};
-ghost use Rattle.probe.specs.Leaves.{isMatrix, isList, isBehind, isWeighed, isSystem, arePivots};
-ghost use Rattle.probe.specs.Leaves.{Left, vmnormAt, fnormAt, ewsetLeft, ewsetLikeLeft, indexOf, initialStepAt};
-ghost use Rattle.probe.specs.Leaves.{Factored, factorLeft, solveLeft};
+ghost use Rattle.probe.specs.Probe.{isOrder, elcoOrNan, tescoOrNan, cm1OrNan, cm2OrNan, sm1OrNan};
+ghost use Rattle.probe.specs.Leaves.{isMatrix, isToleranceList, isBehind, isWeighed, isSystem, arePivots};
+ghost use Rattle.probe.specs.Leaves.{WorkLeft, vmnormOrNan, fnormOrNan, ewsetLeft, ewsetLikeLeft, indexOf};
+ghost use Rattle.probe.specs.Leaves.{initialStepOrNan, FactorsLeft, factorLeft, solveLeft};
+
+pub mod steps;
+
 use dense::Outcome;
 use vectors::Weights;
 
@@ -101,7 +104,7 @@ fn is_order(order: usize, last: usize) -> bool
 // Coefficient i of an order in a table: 0 none yet, 1 Adams, 2 BDF.
 #[no_mangle]
 pub extern "C" fn probe_elco(table: usize, order: usize, i: usize) -> f64
-    ensures { λ r. ⌜ r ≡ elcoAt table order i ⌝ }
+    ensures { λ r. ⌜ r ≡ elcoOrNan table order i ⌝ }
 {
     if 2 < table {
         return numbers::not_a_number();
@@ -118,7 +121,7 @@ pub extern "C" fn probe_elco(table: usize, order: usize, i: usize) -> f64
 // Error entry i of an order in a table.
 #[no_mangle]
 pub extern "C" fn probe_tesco(table: usize, order: usize, i: usize) -> f64
-    ensures { λ r. ⌜ r ≡ tescoAt table order i ⌝ }
+    ensures { λ r. ⌜ r ≡ tescoOrNan table order i ⌝ }
 {
     if 2 < table {
         return numbers::not_a_number();
@@ -134,7 +137,7 @@ pub extern "C" fn probe_tesco(table: usize, order: usize, i: usize) -> f64
 
 #[no_mangle]
 pub extern "C" fn probe_cm1(table: usize, order: usize) -> f64
-    ensures { λ r. ⌜ r ≡ cm1At table order ⌝ }
+    ensures { λ r. ⌜ r ≡ cm1OrNan table order ⌝ }
 {
     if is_order(order, 12) {
         return coefficients::cm1(table, order);
@@ -144,7 +147,7 @@ pub extern "C" fn probe_cm1(table: usize, order: usize) -> f64
 
 #[no_mangle]
 pub extern "C" fn probe_cm2(table: usize, order: usize) -> f64
-    ensures { λ r. ⌜ r ≡ cm2At table order ⌝ }
+    ensures { λ r. ⌜ r ≡ cm2OrNan table order ⌝ }
 {
     if is_order(order, 5) {
         return coefficients::cm2(table, order);
@@ -154,7 +157,7 @@ pub extern "C" fn probe_cm2(table: usize, order: usize) -> f64
 
 #[no_mangle]
 pub extern "C" fn probe_sm1(order: usize) -> f64
-    ensures { λ r. ⌜ r ≡ sm1At order ⌝ }
+    ensures { λ r. ⌜ r ≡ sm1OrNan order ⌝ }
 {
     if is_order(order, 12) {
         return coefficients::sm1(order);
@@ -166,7 +169,7 @@ pub extern "C" fn probe_sm1(order: usize) -> f64
 fn is_matrix(n: usize, matrix: usize, vector: usize) -> bool
     ensures { λ r. ⌜ r ≡ isMatrix n matrix vector ⌝ }
 {
-    if 64 < n {
+    if common::MAX_STATES < n {
         return false;
     }
     if matrix < n * n {
@@ -177,7 +180,7 @@ fn is_matrix(n: usize, matrix: usize, vector: usize) -> bool
 
 // Whether a tolerance list of this length serves n states.
 fn is_list(n: usize, len: usize) -> bool
-    ensures { λ r. ⌜ r ≡ isList n len ⌝ }
+    ensures { λ r. ⌜ r ≡ isToleranceList n len ⌝ }
 {
     if n < 1 {
         return false;
@@ -252,7 +255,7 @@ fn are_pivots(n: usize, ipiv: &[usize]) -> bool
 
 #[no_mangle]
 pub extern "C" fn probe_vmnorm(v: &[f64], w: &[f64]) -> f64
-    ensures { λ r. ⌜ r ≡ vmnormAt (now (v .entry)) (now (w .entry)) ⌝ }
+    ensures { λ r. ⌜ r ≡ vmnormOrNan (now (v .entry)) (now (w .entry)) ⌝ }
 {
     if v.len() <= w.len() {
         return vectors::vmnorm(v, w).value;
@@ -262,7 +265,7 @@ pub extern "C" fn probe_vmnorm(v: &[f64], w: &[f64]) -> f64
 
 #[no_mangle]
 pub extern "C" fn probe_fnorm_dense(n: usize, a: &[f64], w: &[f64]) -> f64
-    ensures { λ r. ⌜ r ≡ fnormAt n (now (a .entry)) (now (w .entry)) ⌝ }
+    ensures { λ r. ⌜ r ≡ fnormOrNan n (now (a .entry)) (now (w .entry)) ⌝ }
 {
     if is_matrix(n, a.len(), w.len()) {
         return vectors::fnorm_dense(n, a, w).value;
@@ -279,7 +282,7 @@ pub extern "C" fn probe_ewset(
     n: usize,
     at: usize,
 ) -> usize
-    ensures { λ r. ⌜ _≡_ {A = Left} (record { number = r; work = now (work .exit) })
+    ensures { λ r. ⌜ _≡_ {A = WorkLeft} (record { number = r; work = now (work .exit) })
         (ewsetLeft (now (rtol .entry)) (now (atol .entry)) n at (now (work .entry))) ⌝ }
 {
     if is_weighed(n, rtol.len(), atol.len(), at, work.len()) {
@@ -291,7 +294,7 @@ pub extern "C" fn probe_ewset(
 
 #[no_mangle]
 pub extern "C" fn probe_ewset_scalar_like(work: &mut [f64], n: usize, at: usize) -> usize
-    ensures { λ r. ⌜ _≡_ {A = Left} (record { number = r; work = now (work .exit) })
+    ensures { λ r. ⌜ _≡_ {A = WorkLeft} (record { number = r; work = now (work .exit) })
         (ewsetLikeLeft n at (now (work .entry))) ⌝ }
 {
     if is_behind(n, at, work.len()) {
@@ -324,7 +327,7 @@ pub extern "C" fn probe_initial_step_size(
     rtol: &[f64],
     atol: &[f64],
 ) -> f64
-    ensures { λ r. ⌜ r ≡ initialStepAt t tout (now (y .entry)) (now (f0 .entry)) (now (w .entry))
+    ensures { λ r. ⌜ r ≡ initialStepOrNan t tout (now (y .entry)) (now (f0 .entry)) (now (w .entry))
         (now (rtol .entry)) (now (atol .entry)) ⌝ }
 {
     if w.len() < f0.len() {
@@ -342,7 +345,7 @@ pub extern "C" fn probe_initial_step_size(
 // 0 done, 1 singular, 2 nothing done.
 #[no_mangle]
 pub extern "C" fn probe_dense_lu_factor(a: &mut [f64], n: usize, ipiv: &mut [usize]) -> usize
-    ensures { λ r. ⌜ _≡_ {A = Factored} (record { number = r; a = now (a .exit); ipiv = now (ipiv .exit) })
+    ensures { λ r. ⌜ _≡_ {A = FactorsLeft} (record { number = r; a = now (a .exit); ipiv = now (ipiv .exit) })
         (factorLeft n (now (a .entry)) (now (ipiv .entry))) ⌝ }
 {
     if !is_matrix(n, a.len(), ipiv.len()) {
@@ -363,7 +366,7 @@ pub extern "C" fn probe_dense_lu_solve(
     ipiv: &[usize],
     b: usize,
 ) -> usize
-    ensures { λ r. ⌜ _≡_ {A = Left} (record { number = r; work = now (work .exit) })
+    ensures { λ r. ⌜ _≡_ {A = WorkLeft} (record { number = r; work = now (work .exit) })
         (solveLeft n a (now (ipiv .entry)) b (now (work .entry))) ⌝ }
 {
     if !is_system(n, a, b, work.len(), ipiv.len()) {

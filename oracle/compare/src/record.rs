@@ -6,7 +6,7 @@ use crate::cases::Random;
 use crate::tables;
 use reference::reach::{self, SM1, State};
 
-/// In the order of crates/probe_history/specs/Lent.antt.
+/// In the order of crates/probe/specs/Lent.antt.
 pub mod float {
     pub const HMXI: usize = 0;
     pub const TN: usize = 1;

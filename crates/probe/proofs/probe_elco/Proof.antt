@@ -1,11 +1,11 @@
--- `probe_elco` meets its contract: each way returns what `elcoAt` says under the tests that led there.
+-- `probe_elco` meets its contract: each way returns what `elcoOrNan` says under the tests that led there.
 -- Assumes nothing.
 use mathlib.Core.Path.{sym, _∙_}
 use native.Mathlib.Omega.{arith}
 use borrow.Author.Needs.{needs}
 use borrow.Author.Tests.{le-leb, lt-leb}
-use Rattle.probe.specs.Probe.{elcoAt}
-use Rattle.probe.proofs.Order.{within}
+use Rattle.probe.specs.Probe.{elcoOrNan}
+use Rattle.probe.proofs.Order.{order-within}
 use Rattle.probe.proofs.probe_elco.Statement.{statement}
 use Rattle.probe.proofs.probe_elco.Tie as tie
 
@@ -13,14 +13,14 @@ not-a-number-requires : tie.Need-not-a-number-requires
 not-a-number-requires c κs = search needs
 
 returns : tie.Need-returns
-unfolding elcoAt
+unfolding elcoOrNan
 returns c = rw (c .not-a-number .ensures, lt-leb (c .before .before .args .table) 2 (omega arith))
 
 not-a-number-requires-2 : tie.Need-not-a-number-requires-2
 not-a-number-requires-2 c κs = search needs
 
 returns-2 : tie.Need-returns-2
-unfolding elcoAt
+unfolding elcoOrNan
 returns-2 c =
     let a = c .before .before .before .args in
     rw (c .not-a-number2 .ensures, le-leb (a .table) 2 (omega arith), lt-leb (a .i) 12 (omega arith))
@@ -29,21 +29,26 @@ is-order-requires : tie.Need-is-order-requires
 is-order-requires c κs = search needs
 
 elco-requires : tie.Need-elco-requires
-elco-requires c κs = omega (arith, within _ _ (sym (c .before .is-order .ensures) ∙ c .if3 .taken))
+elco-requires c κs = omega (arith, order-within _ _ (sym (c .before .is-order .ensures) ∙ c .if3 .taken))
 
 returns-3 : tie.Need-returns-3
-unfolding elcoAt
+unfolding elcoOrNan
 returns-3 c =
     let w = c .before .before in
     let a = w .before .before .before .args in
-    rw (le-leb (a .table) 2 (omega arith), le-leb (a .i) 12 (omega arith), ← w .is-order .ensures, c .before .if3 .taken)
+    rw (
+      le-leb (a .table) 2 (omega arith),
+      le-leb (a .i) 12 (omega arith),
+      ← w .is-order .ensures,
+      c .before .if3 .taken,
+    )
     (c .elco .ensures)
 
 not-a-number-requires-3 : tie.Need-not-a-number-requires-3
 not-a-number-requires-3 c κs = search needs
 
 returns-4 : tie.Need-returns-4
-unfolding elcoAt
+unfolding elcoOrNan
 returns-4 c =
     let w = c .before .before in
     let a = w .before .before .before .args in

@@ -1,8 +1,8 @@
--- `probe_fnorm_dense` meets its contract: each way returns what `fnormAt` says under the tests that led there.
+-- `probe_fnorm_dense` meets its contract: each way returns what `fnormOrNan` says under the tests that led there.
 -- Assumes nothing.
 use mathlib.Core.Path.{sym, _∙_}
 use borrow.Author.Needs.{needs}
-use Rattle.probe.specs.Leaves.{fnormAt}
+use Rattle.probe.specs.Leaves.{fnormOrNan}
 use Rattle.probe.proofs.Sizes.{matrix-fits}
 use Rattle.probe.proofs.probe_fnorm_dense.Statement.{statement}
 use Rattle.probe.proofs.probe_fnorm_dense.Tie as tie
@@ -14,14 +14,14 @@ fnorm-dense-requires : tie.Need-fnorm-dense-requires
 fnorm-dense-requires c κs = matrix-fits _ _ _ (sym (c .before .is-matrix .ensures) ∙ c .if1 .taken)
 
 returns : tie.Need-returns
-unfolding fnormAt
+unfolding fnormOrNan
 returns c = rw (← c .before .before .is-matrix .ensures, c .before .if1 .taken, c .fnorm-dense .ensures)
 
 not-a-number-requires : tie.Need-not-a-number-requires
 not-a-number-requires c κs = search needs
 
 returns-2 : tie.Need-returns-2
-unfolding fnormAt
+unfolding fnormOrNan
 returns-2 c = rw (← c .before .before .is-matrix .ensures, c .before .if1 .left, c .not-a-number .ensures)
 
 pub probe-fnorm-dense-spec : {M : Type 1} → statement M

@@ -1,11 +1,11 @@
--- `probe_initial_step_size` meets its contract: each way returns what `initialStepAt` says under the tests that led
+-- `probe_initial_step_size` meets its contract: each way returns what `initialStepOrNan` says under the tests that led
 -- there.
 -- Assumes nothing.
 use mathlib.Core.Path.{sym, _∙_}
 use borrow.Author.Needs.{needs}
 use lib.ListN.{length}
 use borrow.Author.Tests.{le-leb, lt-leb, not-true, not-false}
-use Rattle.probe.specs.Leaves.{initialStepAt}
+use Rattle.probe.specs.Leaves.{initialStepOrNan}
 use Rattle.probe.proofs.Sizes.{list-serves}
 use Rattle.probe.proofs.probe_initial_step_size.Statement.{statement}
 use Rattle.probe.proofs.probe_initial_step_size.Tie as tie
@@ -14,7 +14,7 @@ not-a-number-requires : tie.Need-not-a-number-requires
 not-a-number-requires c κs = search needs
 
 returns : tie.Need-returns
-unfolding initialStepAt
+unfolding initialStepOrNan
 returns c = rw (lt-leb _ _ (c .before .if1 .taken), c .not-a-number .ensures)
 
 is-list-requires : tie.Need-is-list-requires
@@ -24,10 +24,11 @@ not-a-number-requires-2 : tie.Need-not-a-number-requires-2
 not-a-number-requires-2 c κs = search needs
 
 returns-2 : tie.Need-returns-2
-unfolding initialStepAt
+unfolding initialStepOrNan
 returns-2 c =
     let l = c .before .before in
-    rw (le-leb _ _ (l .before .if1 .left), ← l .is-list .ensures, not-true (l .is-list .result) (c .before .if2 .taken), c .not-a-number2 .ensures)
+    let short = not-true (l .is-list .result) (c .before .if2 .taken) in
+    rw (le-leb _ _ (l .before .if1 .left), ← l .is-list .ensures, short, c .not-a-number2 .ensures)
 
 is-list-requires-2 : tie.Need-is-list-requires-2
 is-list-requires-2 c κs = search needs
@@ -37,12 +38,13 @@ initial-step-size-requires c κs =
     let m = c .before in
     let l = m .before .before in
     let a = l .before .before .before .before .before .before .before .args in
-    let rtol = list-serves (length (a .y .now)) (a .rtol .now) (sym (l .is-list .ensures) ∙ not-false (l .is-list .result) (m .before .if2 .left)) in
+    let listed = sym (l .is-list .ensures) ∙ not-false (l .is-list .result) (m .before .if2 .left) in
+    let rtol = list-serves (length (a .y .now)) (a .rtol .now) listed in
     let atol = list-serves (length (a .y .now)) (a .atol .now) (sym (m .is-list2 .ensures) ∙ c .if3 .taken) in
     (rtol, (atol, l .before .if1 .left))
 
 returns-3 : tie.Need-returns-3
-unfolding initialStepAt
+unfolding initialStepOrNan
 returns-3 c =
     let m = c .before .before in
     let l = m .before .before in
@@ -59,7 +61,7 @@ not-a-number-requires-3 : tie.Need-not-a-number-requires-3
 not-a-number-requires-3 c κs = search needs
 
 returns-4 : tie.Need-returns-4
-unfolding initialStepAt
+unfolding initialStepOrNan
 returns-4 c =
     let m = c .before .before in
     let l = m .before .before in

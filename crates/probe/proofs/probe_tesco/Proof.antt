@@ -1,11 +1,11 @@
--- `probe_tesco` meets its contract: each way returns what `tescoAt` says under the tests that led there.
+-- `probe_tesco` meets its contract: each way returns what `tescoOrNan` says under the tests that led there.
 -- Assumes nothing.
 use mathlib.Core.Path.{sym, _∙_}
 use native.Mathlib.Omega.{arith}
 use borrow.Author.Needs.{needs}
 use borrow.Author.Tests.{le-leb, lt-leb}
-use Rattle.probe.specs.Probe.{tescoAt}
-use Rattle.probe.proofs.Order.{within}
+use Rattle.probe.specs.Probe.{tescoOrNan}
+use Rattle.probe.proofs.Order.{order-within}
 use Rattle.probe.proofs.probe_tesco.Statement.{statement}
 use Rattle.probe.proofs.probe_tesco.Tie as tie
 
@@ -13,14 +13,14 @@ not-a-number-requires : tie.Need-not-a-number-requires
 not-a-number-requires c κs = search needs
 
 returns : tie.Need-returns
-unfolding tescoAt
+unfolding tescoOrNan
 returns c = rw (c .not-a-number .ensures, lt-leb (c .before .before .args .table) 2 (omega arith))
 
 not-a-number-requires-2 : tie.Need-not-a-number-requires-2
 not-a-number-requires-2 c κs = search needs
 
 returns-2 : tie.Need-returns-2
-unfolding tescoAt
+unfolding tescoOrNan
 returns-2 c =
     let a = c .before .before .before .args in
     rw (c .not-a-number2 .ensures, le-leb (a .table) 2 (omega arith), lt-leb (a .i) 2 (omega arith))
@@ -29,10 +29,10 @@ is-order-requires : tie.Need-is-order-requires
 is-order-requires c κs = search needs
 
 tesco-requires : tie.Need-tesco-requires
-tesco-requires c κs = omega (arith, within _ _ (sym (c .before .is-order .ensures) ∙ c .if3 .taken))
+tesco-requires c κs = omega (arith, order-within _ _ (sym (c .before .is-order .ensures) ∙ c .if3 .taken))
 
 returns-3 : tie.Need-returns-3
-unfolding tescoAt
+unfolding tescoOrNan
 returns-3 c =
     let w = c .before .before in
     let a = w .before .before .before .args in
@@ -43,7 +43,7 @@ not-a-number-requires-3 : tie.Need-not-a-number-requires-3
 not-a-number-requires-3 c κs = search needs
 
 returns-4 : tie.Need-returns-4
-unfolding tescoAt
+unfolding tescoOrNan
 returns-4 c =
     let w = c .before .before in
     let a = w .before .before .before .args in

@@ -1,8 +1,8 @@
--- `probe_vmnorm` meets its contract: each way returns what `vmnormAt` says under the tests that led there.
+-- `probe_vmnorm` meets its contract: each way returns what `vmnormOrNan` says under the tests that led there.
 -- Assumes nothing.
 use borrow.Author.Needs.{needs}
 use borrow.Author.Tests.{le-leb, lt-leb}
-use Rattle.probe.specs.Leaves.{vmnormAt}
+use Rattle.probe.specs.Leaves.{vmnormOrNan}
 use Rattle.probe.proofs.probe_vmnorm.Statement.{statement}
 use Rattle.probe.proofs.probe_vmnorm.Tie as tie
 
@@ -10,14 +10,14 @@ vmnorm-requires : tie.Need-vmnorm-requires
 vmnorm-requires c κs = search needs
 
 returns : tie.Need-returns
-unfolding vmnormAt
+unfolding vmnormOrNan
 returns c = rw (le-leb _ _ (c .before .if1 .taken), c .vmnorm .ensures)
 
 not-a-number-requires : tie.Need-not-a-number-requires
 not-a-number-requires c κs = search needs
 
 returns-2 : tie.Need-returns-2
-unfolding vmnormAt
+unfolding vmnormOrNan
 returns-2 c = rw (lt-leb _ _ (c .before .if1 .left), c .not-a-number .ensures)
 
 pub probe-vmnorm-spec : {M : Type 1} → statement M

@@ -1,0 +1,93 @@
+-- `in_range` meets its contract: each way returns what `inRange` says under the tests that led there.
+-- Assumes nothing.
+use Prim.Native.Nat.{_*_}
+use native.Mathlib.Omega.{arith}
+use borrow.Author.Needs.{needs}
+use borrow.Author.Tests.{le-leb, lt-leb}
+use Rattle.probe.specs.Lent.{inRange}
+use Rattle.probe.proofs.steps.in_range.Statement.{statement}
+use Rattle.probe.proofs.steps.in_range.Tie as tie
+
+returns : tie.Need-returns
+unfolding inRange
+returns c =
+    let a = c .before .args in
+    rw (lt-leb 1 (a .n) (omega arith))
+
+returns-2 : tie.Need-returns-2
+unfolding inRange
+returns-2 c =
+    let a = c .before .before .args in
+    rw (
+      le-leb 1 (a .n) (omega arith),
+      lt-leb (a .n) 64 (omega arith),
+    )
+
+returns-3 : tie.Need-returns-3
+unfolding inRange
+returns-3 c =
+    let a = c .before .before .before .args in
+    rw (
+      le-leb 1 (a .n) (omega arith),
+      le-leb (a .n) 64 (omega arith),
+      lt-leb 1 (a .nq) (omega arith),
+    )
+
+returns-4 : tie.Need-returns-4
+unfolding inRange
+returns-4 c =
+    let a = c .before .before .before .before .args in
+    rw (
+      le-leb 1 (a .n) (omega arith),
+      le-leb (a .n) 64 (omega arith),
+      le-leb 1 (a .nq) (omega arith),
+      lt-leb (a .table) 2 (omega arith),
+    )
+
+mul-if5 : tie.Need-mul-if5
+mul-if5 c = search needs
+
+returns-5 : tie.Need-returns-5
+unfolding inRange
+returns-5 c =
+    let a = c .before .before .before .before .before .args in
+    rw (
+      le-leb 1 (a .n) (omega arith),
+      le-leb (a .n) 64 (omega arith),
+      le-leb 1 (a .nq) (omega arith),
+      le-leb (a .table) 2 (omega arith),
+      lt-leb (19 * a .n) (a .work) (omega arith),
+    )
+
+mul-are-columns : tie.Need-mul-are-columns
+mul-are-columns c = search needs
+
+are-columns-requires : tie.Need-are-columns-requires
+are-columns-requires c κs = search needs
+
+returns-6 : tie.Need-returns-6
+unfolding inRange
+returns-6 c =
+    let a = c .before .before .before .before .before .before .args in
+    rw (
+      le-leb 1 (a .n) (omega arith),
+      le-leb (a .n) 64 (omega arith),
+      le-leb 1 (a .nq) (omega arith),
+      le-leb (a .table) 2 (omega arith),
+      le-leb (19 * a .n) (a .work) (omega arith),
+    )
+    (c .are-columns .ensures)
+
+pub in-range-spec : {M : Type 1} → statement M
+in-range-spec =
+    tie.close
+    (tie.spec
+    returns
+    returns-2
+    returns-3
+    returns-4
+    mul-if5
+    returns-5
+    mul-are-columns
+    are-columns-requires
+    returns-6)

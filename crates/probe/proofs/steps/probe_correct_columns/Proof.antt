@@ -1,0 +1,61 @@
+-- `probe_correct_columns` meets its contract: each way returns what `correctLeft` says under the tests that led there.
+-- Assumes nothing.
+use mathlib.Core.Path.{sym, _∙_}
+use borrow.Author.Needs.{needs}
+use Rattle.probe.specs.Left.{correctLeft}
+use Rattle.probe.proofs.Usable.{usable}
+use Rattle.probe.proofs.steps.probe_correct_columns.Statement.{statement}
+use Rattle.probe.proofs.steps.probe_correct_columns.Tie as tie
+
+is-usable-requires : tie.Need-is-usable-requires
+is-usable-requires c κs = search needs
+
+settings-requires : tie.Need-settings-requires
+settings-requires c κs =
+    let t = usable _ _ _ (sym (c .before .is-usable .ensures) ∙ c .if1 .taken) in
+    (t .floats, t .counts)
+
+common-requires : tie.Need-common-requires
+common-requires c κs =
+    let t = usable _ _ _ (sym (c .before .before .is-usable .ensures) ∙ c .before .if1 .taken) in
+    (t .floats, t .counts)
+
+correct-columns-requires : tie.Need-correct-columns-requires
+correct-columns-requires c κs =
+    let b = c .before in
+    let a = b .before in
+    let t = usable _ _ _ (sym (a .before .before .is-usable .ensures) ∙ a .before .if1 .taken) in
+    rw (b .common .ensures, a .settings .ensures) (t .range, t .long)
+
+same-length : tie.Need-same-length
+same-length c = search needs
+
+returns : tie.Need-returns
+unfolding correctLeft
+returns c =
+    let d = c .before .before in
+    let b = d .before .before in
+    let a = b .before in
+    rw (
+      ← a .before .before .is-usable .ensures,
+      a .before .if1 .taken,
+      d .correct-columns .ensures,
+      b .common .ensures,
+      a .settings .ensures,
+    )
+
+returns-2 : tie.Need-returns-2
+unfolding correctLeft
+returns-2 c = rw (← c .before .is-usable .ensures, c .if1 .left)
+
+pub probe-correct-columns-spec : {M : Type 1} → statement M
+probe-correct-columns-spec =
+    tie.close
+    (tie.spec
+    is-usable-requires
+    settings-requires
+    common-requires
+    correct-columns-requires
+    same-length
+    returns
+    returns-2)

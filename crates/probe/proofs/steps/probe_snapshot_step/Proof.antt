@@ -1,0 +1,111 @@
+-- `probe_snapshot_step` meets its contract: each way returns what `snapshotLeft` says under the tests that led there.
+-- Assumes nothing.
+use Prim.Native.Nat.{_+_, _*_, _≤_, _<_}
+use mathlib.Core.Path.{sym, _∙_}
+use native.Mathlib.Omega.{arith}
+use borrow.Author.Needs.{needs}
+use lib.ListN.{length}
+use borrow.Author.Tests.{le-leb, lt-leb, not-true, not-false}
+use Rattle.common.specs.Limits.{maxStates}
+use Rattle.common.specs.Layout.{ewtAt}
+use Rattle.probe.specs.Lent.{lentSettings}
+use Rattle.probe.specs.Left.{snapshotLeft}
+use Rattle.probe.proofs.Usable.{usable}
+use Rattle.probe.proofs.steps.probe_snapshot_step.Statement.{statement}
+use Rattle.probe.proofs.steps.probe_snapshot_step.Tie as tie
+
+is-usable-requires : tie.Need-is-usable-requires
+is-usable-requires c κs = search needs
+
+returns : tie.Need-returns
+unfolding snapshotLeft
+returns c = rw (← c .before .is-usable .ensures, not-true (c .before .is-usable .result) (c .if1 .taken))
+
+settings-requires : tie.Need-settings-requires
+settings-requires c κs =
+    let w = c .before in
+    let t = usable _ _ _ (sym (w .is-usable .ensures) ∙ not-false (w .is-usable .result) (c .if1 .left)) in
+    (t .floats, t .counts)
+
+mul-if2 : tie.Need-mul-if2
+mul-if2 c =
+    let s = c .before in
+    let w = s .before .before in
+    let t = usable _ _ _ (sym (w .is-usable .ensures) ∙ not-false (w .is-usable .result) (s .before .if1 .left)) in
+    let small : s .settings .result .n ≤ maxStates = rw (s .settings .ensures) (t .range .n .1) in
+    omega arith
+
+add-if2 : tie.Need-add-if2
+add-if2 c =
+    let s = c .before in
+    let w = s .before .before in
+    let t = usable _ _ _ (sym (w .is-usable .ensures) ∙ not-false (w .is-usable .result) (s .before .if1 .left)) in
+    let small : s .settings .result .n ≤ maxStates = rw (s .settings .ensures) (t .range .n .1) in
+    omega arith
+
+returns-2 : tie.Need-returns-2
+unfolding snapshotLeft
+returns-2 c =
+    let s = c .before .before in
+    let w = s .before .before in
+    let a = c .before .before .before .before .before .before .before .before .before .args in
+    let n = lentSettings (a .floats .now) (a .counts .now) .n in
+    let short : length (a .question .now) < 14 * n + 6 = rw (← s .settings .ensures) (c .if2 .taken) in
+    rw (← w .is-usable .ensures, not-false (w .is-usable .result) (s .before .if1 .left), lt-leb _ _ short)
+
+common-requires : tie.Need-common-requires
+common-requires c κs =
+    let i = c .before .before .before in
+    let w = i .before in
+    let t = usable _ _ _ (sym (w .is-usable .ensures) ∙ not-false (w .is-usable .result) (i .if1 .left)) in
+    (t .floats, t .counts)
+
+snapshot-step-requires : tie.Need-snapshot-step-requires
+snapshot-step-requires c κs =
+    let b = c .before in
+    let s = c .before .before .before .before in
+    let w = s .before .before in
+    let t = usable _ _ _ (sym (w .is-usable .ensures) ∙ not-false (w .is-usable .result) (s .before .if1 .left)) in
+    let a = w .before .before .before .before .before .args in
+    let range = rw (← s .settings .ensures) at (t .range .n) in
+    let long : ewtAt (s .settings .result .n) ≤ length (a .work .now) =
+    rw (s .settings .ensures) (omega (arith, t .long)) in
+    rw (b .common .ensures) (range .0, range .1, t .range .order .1, long, b .before .if2 .left)
+
+same-length : tie.Need-same-length
+same-length c = search needs
+
+returns-3 : tie.Need-returns-3
+unfolding snapshotLeft
+returns-3 c =
+    let d = c .before .before in
+    let b = d .before .before in
+    let s = c .before .before .before .before .before .before .before in
+    let w = s .before .before in
+    let u = c .before .before .before .before .before .before .before in
+    let a = u .before .before .before .before .before .before .before .args in
+    let n = lentSettings (a .floats .now) (a .counts .now) .n in
+    let long : 14 * n + 6 ≤ length (a .question .now) = rw (← s .settings .ensures) (b .before .if2 .left) in
+    rw (
+      ← w .is-usable .ensures,
+      not-false (w .is-usable .result) (s .before .if1 .left),
+      le-leb _ _ long,
+      d .snapshot-step .ensures,
+      b .common .ensures,
+      s .settings .ensures,
+    )
+
+pub probe-snapshot-step-spec : {M : Type 1} → statement M
+probe-snapshot-step-spec =
+    tie.close
+    (tie.spec
+    is-usable-requires
+    returns
+    settings-requires
+    mul-if2
+    add-if2
+    returns-2
+    common-requires
+    snapshot-step-requires
+    same-length
+    returns-3)
