@@ -8,9 +8,6 @@ use Rattle.history.proofs.Laws.{same-range}
 use Rattle.acceptance.proofs.accept.Statement.{statement}
 use Rattle.acceptance.proofs.accept.Tie as tie
 
-correct-requires : tie.Need-correct-requires
-correct-requires c κs = search needs
-
 test-family-requires : tie.Need-test-family-requires
 unfolding correctedOf
 test-family-requires c κs =
@@ -21,9 +18,6 @@ test-family-requires c κs =
       ((p .0 .0, p .0 .1), (p .1 .0, p .1 .1, p .1 .2, p .1 .3, omega arith)),
     )
 
-same-length : tie.Need-same-length
-same-length c = search needs
-
 returns : tie.Need-returns
 unfolding acceptOf
 returns c =
@@ -31,4 +25,4 @@ returns c =
     rw (d .0, d .1) at (c .before .before .test-family .ensures)
 
 pub accept-spec : {M : Type 1} → statement M
-accept-spec = tie.close (tie.spec correct-requires test-family-requires same-length returns)
+accept-spec = tie.close (tie.spec (λ c κs. search needs) test-family-requires (λ c. search needs) returns)

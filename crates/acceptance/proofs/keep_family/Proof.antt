@@ -6,15 +6,6 @@ use Rattle.acceptance.specs.Accept.{keepFamilyOf}
 use Rattle.acceptance.proofs.keep_family.Statement.{statement}
 use Rattle.acceptance.proofs.keep_family.Tie as tie
 
-sub-d : tie.Need-sub-d
-sub-d c = search needs
-
-choose-order-requires : tie.Need-choose-order-requires
-choose-order-requires c κs = search needs
-
-same-length : tie.Need-same-length
-same-length c = search needs
-
 returns : tie.Need-returns
 unfolding keepFamilyOf
 returns c = rw (eq-eqb _ _ (c .before .before .before .before .if1 .taken)) (c .before .before .choose-order .ensures)
@@ -24,4 +15,4 @@ unfolding keepFamilyOf
 returns-2 c = rw (ne-eqb _ _ (c .if1 .left))
 
 pub keep-family-spec : {M : Type 1} → statement M
-keep-family-spec = tie.close (tie.spec sub-d choose-order-requires same-length returns returns-2)
+keep-family-spec = tie.close (tie.spec (λ c. search needs) (λ c κs. search needs) (λ c. search needs) returns returns-2)

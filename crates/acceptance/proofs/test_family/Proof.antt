@@ -66,30 +66,12 @@ tested j =
     let a = j .before .before .before .args in
     rw (change j) (way (a .s) (a .c) (a .dsm) (a .work .now) (ltb (a .c .icount) 1000000) _)
 
-compare-families-requires : tie.Need-compare-families-requires
-compare-families-requires c κs = search needs
-
-enum-told : tie.Need-enum-told
-enum-told c = search needs
-
-keep-family-requires : tie.Need-keep-family-requires
-keep-family-requires c κs = search needs
-
-enum-told-2 : tie.Need-enum-told-2
-enum-told-2 c = search needs
-
-enum-known-change : tie.Need-enum-known-change
-enum-known-change c = search needs
-
 change-family-requires : tie.Need-change-family-requires
 unfolding orderWithin
 change-family-requires c κs =
     let j = c .before .before .before .before in
     let q = rw (← change j, c .before .before .change .given .1) at (within j) in
     (j .before .before .before .pre .0, (q .0, q .1, omega arith))
-
-same-length : tie.Need-same-length
-same-length c = search needs
 
 returns : tie.Need-returns
 unfolding testedOf
@@ -101,9 +83,6 @@ returns-2 : tie.Need-returns-2
 unfolding testedOf
 returns-2 c = rw (← tested (c .before .before), c .enum-told2 .given .1)
 
-same-length-2 : tie.Need-same-length-2
-same-length-2 c = search needs
-
 returns-3 : tie.Need-returns-3
 unfolding testedOf
 returns-3 c =
@@ -114,14 +93,5 @@ pub test-family-spec : {M : Type 1} → statement M
 test-family-spec =
     tie.close
     (tie.spec
-    compare-families-requires
-    enum-told
-    keep-family-requires
-    enum-told-2
-    enum-known-change
-    change-family-requires
-    same-length
-    returns
-    returns-2
-    same-length-2
-    returns-3)
+    (λ c κs. search needs) (λ c. search needs) (λ c κs. search needs) (λ c. search needs) (λ c. search needs)
+    change-family-requires (λ c. search needs) returns returns-2 (λ c. search needs) returns-3)

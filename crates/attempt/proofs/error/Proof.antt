@@ -5,18 +5,9 @@ use Rattle.attempt.specs.Attempt.{errorOf}
 use Rattle.attempt.proofs.error.Statement.{statement}
 use Rattle.attempt.proofs.error.Tie as tie
 
-tesco-requires : tie.Need-tesco-requires
-tesco-requires c κs = search needs
-
 returns : tie.Need-returns
 unfolding errorOf
 returns c = rw (eq-eqb _ _ (c .if1 .taken), ← c .before .before .tesco .ensures)
-
-mul-norm-at : tie.Need-mul-norm-at
-mul-norm-at c = search needs
-
-norm-at-requires : tie.Need-norm-at-requires
-norm-at-requires c κs = search needs
 
 returns-2 : tie.Need-returns-2
 unfolding errorOf
@@ -25,4 +16,4 @@ returns-2 c =
     rw (ne-eqb _ _ (t .if1 .left), ← t .before .before .tesco .ensures, c .before .norm-at .ensures)
 
 pub error-spec : {M : Type 1} → statement M
-error-spec = tie.close (tie.spec tesco-requires returns mul-norm-at norm-at-requires returns-2)
+error-spec = tie.close (tie.spec (λ c κs. search needs) returns (λ c. search needs) (λ c κs. search needs) returns-2)

@@ -6,24 +6,12 @@ use Rattle.attempt.proofs.Ranges.{in-range-overshot}
 use Rattle.attempt.proofs.error_failure.Statement.{statement}
 use Rattle.attempt.proofs.error_failure.Tie as tie
 
-retract-requires : tie.Need-retract-requires
-retract-requires c κs = search needs
-
-add-d : tie.Need-add-d
-add-d c = search needs
-
-add-d-2 : tie.Need-add-d-2
-add-d-2 c = search needs
-
 missed-requires : tie.Need-missed-requires
 unfolding overshotOf
 missed-requires c κs =
     let r = c .before .before .before .before .before in
     let a = r .before .before .before in
     (rw (r .retract .ensures .0) (in-range-overshot (a .args .s) (a .args .c) (a .pre .0)), search needs)
-
-same-length : tie.Need-same-length
-same-length c = search needs
 
 returns : tie.Need-returns
 unfolding failedOf overshotOf
@@ -33,4 +21,6 @@ returns c =
 
 pub error-failure-spec : {M : Type 1} → statement M
 error-failure-spec =
-    tie.close (tie.spec retract-requires add-d add-d-2 missed-requires same-length returns)
+    tie.close
+    (tie.spec
+    (λ c κs. search needs) (λ c. search needs) (λ c. search needs) missed-requires (λ c. search needs) returns)

@@ -3,11 +3,8 @@ use borrow.Author.Needs.{needs}
 use Rattle.attempt.proofs.least.Statement.{statement}
 use Rattle.attempt.proofs.least.Tie as tie
 
-abs-requires : tie.Need-abs-requires
-abs-requires c κs = search needs
-
 returns : tie.Need-returns
 returns c = rw (c .before .abs .ensures)
 
 pub least-spec : {M : Type 1} → statement M
-least-spec = tie.close (tie.spec abs-requires returns)
+least-spec = tie.close (tie.spec (λ c κs. search needs) returns)

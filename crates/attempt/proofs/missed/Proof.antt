@@ -7,21 +7,9 @@ use Rattle.attempt.specs.declared.Next.the-variants.{Pass}
 use Rattle.attempt.proofs.missed.Statement.{statement}
 use Rattle.attempt.proofs.missed.Tie as tie
 
-is-tiny-requires : tie.Need-is-tiny-requires
-is-tiny-requires c κs = search needs
-
 returns : tie.Need-returns
 unfolding missedOf missedAt
 returns c = rw (sym (c .before .is-tiny .ensures) ∙ c .if1 .taken)
-
-shrunk-requires : tie.Need-shrunk-requires
-shrunk-requires c κs = search needs
-
-repredict-requires : tie.Need-repredict-requires
-repredict-requires c κs = search needs
-
-same-length : tie.Need-same-length
-same-length c = search needs
 
 returns-2 : tie.Need-returns-2
 unfolding missedOf missedAt
@@ -46,21 +34,6 @@ returns-3 c =
       eq-eqb _ _ (c .if3 .taken),
     )
 
-mul-copy-part : tie.Need-mul-copy-part
-mul-copy-part c = search needs
-
-copy-part-requires : tie.Need-copy-part-requires
-copy-part-requires c κs = search needs
-
-least-requires : tie.Need-least-requires
-least-requires c κs = search needs
-
-max-requires : tie.Need-max-requires
-max-requires c κs = search needs
-
-same-length-2 : tie.Need-same-length-2
-same-length-2 c = search needs
-
 returns-4 : tie.Need-returns-4
 unfolding missedOf missedAt tenthOf
 returns-4 c =
@@ -82,16 +55,6 @@ pub missed-spec : {M : Type 1} → statement M
 missed-spec =
     tie.close
     (tie.spec
-    is-tiny-requires
-    returns
-    shrunk-requires
-    repredict-requires
-    same-length
-    returns-2
-    returns-3
-    mul-copy-part
-    copy-part-requires
-    least-requires
-    max-requires
-    same-length-2
-    returns-4)
+    (λ c κs. search needs) returns (λ c κs. search needs) (λ c κs. search needs) (λ c. search needs) returns-2
+    returns-3 (λ c. search needs) (λ c κs. search needs) (λ c κs. search needs) (λ c κs. search needs)
+    (λ c. search needs) returns-4)

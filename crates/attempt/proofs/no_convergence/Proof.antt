@@ -10,29 +10,11 @@ use Rattle.attempt.proofs.Ranges.{same-rejected, in-range-unconverged}
 use Rattle.attempt.proofs.no_convergence.Statement.{statement}
 use Rattle.attempt.proofs.no_convergence.Tie as tie
 
-retract-requires : tie.Need-retract-requires
-retract-requires c κs = search needs
-
-add-d : tie.Need-add-d
-add-d c = search needs
-
-is-tiny-requires : tie.Need-is-tiny-requires
-is-tiny-requires c κs = search needs
-
-same-length : tie.Need-same-length
-same-length c = search needs
-
 returns : tie.Need-returns
 unfolding noConvergenceOf noConvergenceAt unconvergedOf
 returns c =
     let r = c .before .before .before .before .before .retract .ensures in
     rw (← r .0, ← r .1, sym (c .before .is-tiny .ensures) ∙ c .if1 .taken)
-
-mxncf-requires : tie.Need-mxncf-requires
-mxncf-requires c κs = search needs
-
-same-length-2 : tie.Need-same-length-2
-same-length-2 c = search needs
 
 returns-2 : tie.Need-returns-2
 unfolding noConvergenceOf noConvergenceAt unconvergedOf
@@ -48,18 +30,6 @@ returns-2 c =
       eq-eqb _ _ (c .if2 .taken),
     )
 
-is-bdf-requires : tie.Need-is-bdf-requires
-is-bdf-requires c κs = search needs
-
-add-d-2 : tie.Need-add-d-2
-add-d-2 c = search needs
-
-least-requires : tie.Need-least-requires
-least-requires c κs = search needs
-
-max-requires : tie.Need-max-requires
-max-requires c κs = search needs
-
 repredict-requires : tie.Need-repredict-requires
 unfolding unconvergedOf
 repredict-requires c κs =
@@ -68,9 +38,6 @@ repredict-requires c κs =
     let a = r .before .before .before in
     let p = in-range-unconverged (a .args .s) (a .args .c) (a .pre .0) in
     (rw (r .retract .ensures .0) (same-range _ refl refl refl refl p), search needs)
-
-same-length-3 : tie.Need-same-length-3
-same-length-3 c = search needs
 
 returns-3 : tie.Need-returns-3
 unfolding noConvergenceOf noConvergenceAt unconvergedOf quarteredOf
@@ -99,18 +66,6 @@ pub no-convergence-spec : {M : Type 1} → statement M
 no-convergence-spec =
     tie.close
     (tie.spec
-    retract-requires
-    add-d
-    is-tiny-requires
-    same-length
-    returns
-    mxncf-requires
-    same-length-2
-    returns-2
-    is-bdf-requires
-    add-d-2
-    least-requires
-    max-requires
-    repredict-requires
-    same-length-3
-    returns-3)
+    (λ c κs. search needs) (λ c. search needs) (λ c κs. search needs) (λ c. search needs) returns
+    (λ c κs. search needs) (λ c. search needs) returns-2 (λ c κs. search needs) (λ c. search needs)
+    (λ c κs. search needs) (λ c κs. search needs) repredict-requires (λ c. search needs) returns-3)

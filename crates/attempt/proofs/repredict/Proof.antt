@@ -5,18 +5,12 @@ use Rattle.attempt.specs.Attempt.{repredictOf}
 use Rattle.attempt.proofs.repredict.Statement.{statement}
 use Rattle.attempt.proofs.repredict.Tie as tie
 
-stoda-adjust-step-size-requires : tie.Need-stoda-adjust-step-size-requires
-stoda-adjust-step-size-requires c κs = search needs
-
 stoda-get-predicted-values-requires : tie.Need-stoda-get-predicted-values-requires
 stoda-get-predicted-values-requires c κs =
     let x = c .before .before .before in
     let a = x .before .before .before in
     let e = x .stoda-adjust-step-size .ensures in
     (rw (e .0) (in-range-adjust (a .args .s) (a .args .c) (a .args .rh) (a .pre .0)), search needs)
-
-same-length : tie.Need-same-length
-same-length c = search needs
 
 returns : tie.Need-returns
 unfolding repredictOf
@@ -27,9 +21,4 @@ returns c =
 
 pub repredict-spec : {M : Type 1} → statement M
 repredict-spec =
-    tie.close
-    (tie.spec
-    stoda-adjust-step-size-requires
-    stoda-get-predicted-values-requires
-    same-length
-    returns)
+    tie.close (tie.spec (λ c κs. search needs) stoda-get-predicted-values-requires (λ c. search needs) returns)

@@ -7,18 +7,6 @@ use Rattle.attempt.proofs.Ranges.{in-range-lowered}
 use Rattle.attempt.proofs.restep.Statement.{statement}
 use Rattle.attempt.proofs.restep.Tie as tie
 
-set-slope-requires : tie.Need-set-slope-requires
-set-slope-requires c κs = search needs
-
-is-bdf-requires : tie.Need-is-bdf-requires
-is-bdf-requires c κs = search needs
-
-stoda-get-predicted-values-requires : tie.Need-stoda-get-predicted-values-requires
-stoda-get-predicted-values-requires c κs = search needs
-
-same-length : tie.Need-same-length
-same-length c = search needs
-
 returns : tie.Need-returns
 unfolding restepOf
 returns c =
@@ -27,16 +15,10 @@ returns c =
     let p = c .before .before .stoda-get-predicted-values .ensures in
     rw (eq-eqb _ _ (i .if1 .taken), ← b .is-bdf .ensures, ← b .before .before .before .set-slope .ensures, p .0, p .1)
 
-stoda-reset-requires : tie.Need-stoda-reset-requires
-stoda-reset-requires c κs = search needs
-
 stoda-get-predicted-values-requires-2 : tie.Need-stoda-get-predicted-values-requires-2
 stoda-get-predicted-values-requires-2 c κs =
     let a = c .before .before .before .before .before .before .before .before .before .before in
     (rw (c .before .stoda-reset .ensures) (in-range-lowered (a .args .s) (a .args .c) (a .pre .0) _), search needs)
-
-same-length-2 : tie.Need-same-length-2
-same-length-2 c = search needs
 
 returns-2 : tie.Need-returns-2
 unfolding restepOf
@@ -58,12 +40,5 @@ pub restep-spec : {M : Type 1} → statement M
 restep-spec =
     tie.close
     (tie.spec
-    set-slope-requires
-    is-bdf-requires
-    stoda-get-predicted-values-requires
-    same-length
-    returns
-    stoda-reset-requires
-    stoda-get-predicted-values-requires-2
-    same-length-2
-    returns-2)
+    (λ c κs. search needs) (λ c κs. search needs) (λ c κs. search needs) (λ c. search needs) returns
+    (λ c κs. search needs) stoda-get-predicted-values-requires-2 (λ c. search needs) returns-2)

@@ -5,15 +5,9 @@ use Rattle.attempt.specs.Attempt.{retractedOf}
 use Rattle.attempt.proofs.retract.Statement.{statement}
 use Rattle.attempt.proofs.retract.Tie as tie
 
-retract-columns-requires : tie.Need-retract-columns-requires
-retract-columns-requires c κs = search needs
-
-same-length : tie.Need-same-length
-same-length c = search needs
-
 returns : tie.Need-returns
 unfolding retractedOf
 returns c = (refl, c .before .before .retract-columns .ensures)
 
 pub retract-spec : {M : Type 1} → statement M
-retract-spec = tie.close (tie.spec retract-columns-requires same-length returns)
+retract-spec = tie.close (tie.spec (λ c κs. search needs) (λ c. search needs) returns)

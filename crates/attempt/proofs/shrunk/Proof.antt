@@ -5,24 +5,6 @@ use Rattle.attempt.specs.Attempt.{shrunkOf}
 use Rattle.attempt.proofs.shrunk.Statement.{statement}
 use Rattle.attempt.proofs.shrunk.Tie as tie
 
-add-root : tie.Need-add-root
-add-root c = search needs
-
-root-requires : tie.Need-root-requires
-root-requires c κs = search needs
-
-min-requires : tie.Need-min-requires
-min-requires c κs = search needs
-
-min-requires-2 : tie.Need-min-requires-2
-min-requires-2 c κs = search needs
-
-least-requires : tie.Need-least-requires
-least-requires c κs = search needs
-
-max-requires : tie.Need-max-requires
-max-requires c κs = search needs
-
 returns : tie.Need-returns
 unfolding shrunkOf
 returns c =
@@ -36,12 +18,6 @@ returns c =
       ← c .before .least .ensures,
     )
     (c .max .ensures)
-
-least-requires-2 : tie.Need-least-requires-2
-least-requires-2 c κs = search needs
-
-max-requires-2 : tie.Need-max-requires-2
-max-requires-2 c κs = search needs
 
 returns-2 : tie.Need-returns-2
 unfolding shrunkOf
@@ -60,13 +36,5 @@ pub shrunk-spec : {M : Type 1} → statement M
 shrunk-spec =
     tie.close
     (tie.spec
-    add-root
-    root-requires
-    min-requires
-    min-requires-2
-    least-requires
-    max-requires
-    returns
-    least-requires-2
-    max-requires-2
-    returns-2)
+    (λ c. search needs) (λ c κs. search needs) (λ c κs. search needs) (λ c κs. search needs) (λ c κs. search needs)
+    (λ c κs. search needs) returns (λ c κs. search needs) (λ c κs. search needs) returns-2)

@@ -20,73 +20,10 @@ loop-holds : tie.Need-loop-holds Inv-loop μ-loop
 unfolding adamsUpdateOf
 loop-holds c = (refl, refl)
 
-mul-work : tie.Need-mul-work Inv-loop μ-loop
-mul-work c = omega arith
-
-slice-read-work : tie.Need-slice-read-work Inv-loop μ-loop
-slice-read-work c = omega arith
-
-mul-work-2 : tie.Need-mul-work-2 Inv-loop μ-loop
-mul-work-2 c = omega arith
-
-add-work : tie.Need-add-work Inv-loop μ-loop
-add-work c = omega arith
-
-mul-work-3 : tie.Need-mul-work-3 Inv-loop μ-loop
-mul-work-3 c = omega arith
-
-slice-read-work-2 : tie.Need-slice-read-work-2 Inv-loop μ-loop
-slice-read-work-2 c = omega arith
-
-mul-work-4 : tie.Need-mul-work-4 Inv-loop μ-loop
-mul-work-4 c = omega arith
-
-add-work-2 : tie.Need-add-work-2 Inv-loop μ-loop
-add-work-2 c = omega arith
-
-mul-work-5 : tie.Need-mul-work-5 Inv-loop μ-loop
-mul-work-5 c = omega arith
-
-slice-write-work : tie.Need-slice-write-work Inv-loop μ-loop
-slice-write-work c = omega arith
-
-mul-work-6 : tie.Need-mul-work-6 Inv-loop μ-loop
-mul-work-6 c = omega arith
-
-add-work-3 : tie.Need-add-work-3 Inv-loop μ-loop
-add-work-3 c = omega arith
-
-mul-work-7 : tie.Need-mul-work-7 Inv-loop μ-loop
-mul-work-7 c = omega arith
-
-slice-read-work-3 : tie.Need-slice-read-work-3 Inv-loop μ-loop
-slice-read-work-3 c = simp length-set (omega arith)
-
-mul-work-8 : tie.Need-mul-work-8 Inv-loop μ-loop
-mul-work-8 c = omega arith
-
-add-work-4 : tie.Need-add-work-4 Inv-loop μ-loop
-add-work-4 c = omega arith
-
-mul-work-9 : tie.Need-mul-work-9 Inv-loop μ-loop
-mul-work-9 c = omega arith
-
-slice-write-work-2 : tie.Need-slice-write-work-2 Inv-loop μ-loop
-slice-write-work-2 c = simp length-set (omega arith)
-
-add-i : tie.Need-add-i Inv-loop μ-loop
-add-i c = omega arith
-
-loop-less : tie.Need-loop-less Inv-loop μ-loop
-loop-less c = omega arith
-
 loop-again : tie.Need-loop-again Inv-loop μ-loop
 loop-again c =
     let inv = c .before .before .before .before .loop .inv in
     (simp length-set (omega arith), again _ _ _ _ _ (omega arith) (inv .1))
-
-same-length : tie.Need-same-length Inv-loop μ-loop
-same-length c = omega arith
 
 returns : tie.Need-returns Inv-loop μ-loop
 returns c = ended _ _ _ _ _ (omega arith) (c .before .loop .inv .1)
@@ -95,29 +32,8 @@ pub adams-update-spec : {M : Type 1} → statement M
 adams-update-spec =
     tie.close
     (tie.spec
-    Inv-loop
-    μ-loop
-    loop-holds
-    mul-work
-    slice-read-work
-    mul-work-2
-    add-work
-    mul-work-3
-    slice-read-work-2
-    mul-work-4
-    add-work-2
-    mul-work-5
-    slice-write-work
-    mul-work-6
-    add-work-3
-    mul-work-7
-    slice-read-work-3
-    mul-work-8
-    add-work-4
-    mul-work-9
-    slice-write-work-2
-    add-i
-    loop-less
-    loop-again
-    same-length
-    returns)
+    Inv-loop μ-loop loop-holds (λ c. omega arith) (λ c. omega arith) (λ c. omega arith) (λ c. omega arith)
+    (λ c. omega arith) (λ c. omega arith) (λ c. omega arith) (λ c. omega arith) (λ c. omega arith) (λ c. omega arith)
+    (λ c. omega arith) (λ c. omega arith) (λ c. omega arith) (λ c. simp length-set (omega arith)) (λ c. omega arith)
+    (λ c. omega arith) (λ c. omega arith) (λ c. simp length-set (omega arith)) (λ c. omega arith) (λ c. omega arith)
+    loop-again (λ c. omega arith) returns)

@@ -4,15 +4,9 @@ use Rattle.corrector.specs.Verdict.{dconOf}
 use Rattle.corrector.proofs.dcon.Statement.{statement}
 use Rattle.corrector.proofs.dcon.Tie as tie
 
-min-requires : tie.Need-min-requires
-min-requires c κs = search needs
-
-tesco-requires : tie.Need-tesco-requires
-tesco-requires c κs = search needs
-
 returns : tie.Need-returns
 unfolding dconOf
 returns c = rw (c .before .tesco .ensures, c .before .before .min .ensures)
 
 pub dcon-spec : {M : Type 1} → statement M
-dcon-spec = tie.close (tie.spec min-requires tesco-requires returns)
+dcon-spec = tie.close (tie.spec (λ c κs. search needs) (λ c κs. search needs) returns)

@@ -11,12 +11,6 @@ el-requires c κs =
     let p = c .pre in
     (p .n .0, p .table, order-used p, p .used .1, omega arith)
 
-abs-requires : tie.Need-abs-requires
-abs-requires c κs = search needs
-
-max-requires : tie.Need-max-requires
-max-requires c κs = search needs
-
 returns : tie.Need-returns
 unfolding estimatedOf
 returns c =
@@ -32,4 +26,4 @@ returns-2 c =
     rw (← a .before .before .el .ensures, ← a .abs .ensures, ← m .max .ensures, c .if1 .left)
 
 pub estimated-spec : {M : Type 1} → statement M
-estimated-spec = tie.close (tie.spec el-requires abs-requires max-requires returns returns-2)
+estimated-spec = tie.close (tie.spec el-requires (λ c κs. search needs) (λ c κs. search needs) returns returns-2)

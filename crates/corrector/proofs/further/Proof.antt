@@ -6,18 +6,9 @@ use Rattle.corrector.specs.Verdict.{judgedFurther}
 use Rattle.corrector.proofs.further.Statement.{statement}
 use Rattle.corrector.proofs.further.Tie as tie
 
-add-m : tie.Need-add-m
-add-m c = search needs
-
-give-up-requires : tie.Need-give-up-requires
-give-up-requires c κs = search needs
-
 returns : tie.Need-returns
 unfolding judgedFurther
 returns c = rw (eq-eqb _ _ (c .before .if1 .taken)) (c .give-up .ensures)
-
-give-up-requires-2 : tie.Need-give-up-requires-2
-give-up-requires-2 c κs = search needs
 
 returns-2 : tie.Need-returns-2
 unfolding judgedFurther
@@ -38,4 +29,5 @@ returns-4 c = rw (ne-eqb _ _ (c .before .if1 .left), lt-leb _ _ (c .if2 .left))
 pub further-spec : {M : Type 1} → statement M
 further-spec =
     tie.close
-    (tie.spec add-m give-up-requires returns give-up-requires-2 returns-2 returns-3 returns-4)
+    (tie.spec
+    (λ c. search needs) (λ c κs. search needs) returns (λ c κs. search needs) returns-2 returns-3 returns-4)

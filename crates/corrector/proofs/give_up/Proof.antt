@@ -5,9 +5,6 @@ use Rattle.corrector.specs.Verdict.{giveUpOf}
 use Rattle.corrector.proofs.give_up.Statement.{statement}
 use Rattle.corrector.proofs.give_up.Tie as tie
 
-is-bdf-requires : tie.Need-is-bdf-requires
-is-bdf-requires c κs = search needs
-
 returns : tie.Need-returns
 unfolding giveUpOf
 returns c = rw (sym (c .before .before .is-bdf .ensures) ∙ c .before .if1 .taken, c .if2 .taken)
@@ -21,4 +18,4 @@ unfolding giveUpOf
 returns-3 c = rw (sym (c .before .is-bdf .ensures) ∙ c .if1 .left)
 
 pub give-up-spec : {M : Type 1} → statement M
-give-up-spec = tie.close (tie.spec is-bdf-requires returns returns-2 returns-3)
+give-up-spec = tie.close (tie.spec (λ c κs. search needs) returns returns-2 returns-3)

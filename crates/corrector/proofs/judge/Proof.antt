@@ -9,29 +9,17 @@ use Rattle.corrector.proofs.Shared.{in-range-known}
 use Rattle.corrector.proofs.judge.Statement.{statement}
 use Rattle.corrector.proofs.judge.Tie as tie
 
-give-up-requires : tie.Need-give-up-requires
-give-up-requires c κs = search needs
-
 returns : tie.Need-returns
 unfolding judgeOf
 returns c =
     let i = c .before in
     rw (not-true (i .before .args .x .solved) (i .if1 .taken)) (c .give-up .ensures)
 
-converged-requires : tie.Need-converged-requires
-converged-requires c κs = search needs
-
 returns-2 : tie.Need-returns-2
 unfolding judgeOf
 returns-2 c =
     let i = c .before .before in
     rw (not-false (i .before .args .x .solved) (i .if1 .left), c .before .if2 .taken) (c .converged .ensures)
-
-is-bdf-requires : tie.Need-is-bdf-requires
-is-bdf-requires c κs = search needs
-
-further-requires : tie.Need-further-requires
-further-requires c κs = search needs
 
 returns-3 : tie.Need-returns-3
 unfolding judgeOf
@@ -41,9 +29,6 @@ returns-3 c =
     let solved = not-false (far .before .before .args .x .solved) (far .before .if1 .left) in
     let family = sym (c .before .before .is-bdf .ensures) ∙ not-true _ (c .before .if4 .taken) in
     rw (solved, far .if2 .left, eq-eqb _ _ (first .if3 .taken), family) (c .further .ensures)
-
-known-rate-requires : tie.Need-known-rate-requires
-known-rate-requires c κs = search needs
 
 tested-requires : tie.Need-tested-requires
 tested-requires c κs =
@@ -67,13 +52,5 @@ pub judge-spec : {M : Type 1} → statement M
 judge-spec =
     tie.close
     (tie.spec
-    give-up-requires
-    returns
-    converged-requires
-    returns-2
-    is-bdf-requires
-    further-requires
-    returns-3
-    known-rate-requires
-    tested-requires
-    returns-4)
+    (λ c κs. search needs) returns (λ c κs. search needs) returns-2 (λ c κs. search needs) (λ c κs. search needs)
+    returns-3 (λ c κs. search needs) tested-requires returns-4)

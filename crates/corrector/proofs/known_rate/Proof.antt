@@ -9,12 +9,9 @@ returns : tie.Need-returns
 unfolding knownRateOf
 returns c = rw (eq-eqb _ _ (c .if1 .taken))
 
-rated-requires : tie.Need-rated-requires
-rated-requires c κs = search needs
-
 returns-2 : tie.Need-returns-2
 unfolding knownRateOf
 returns-2 c = rw (ne-eqb _ _ (c .before .if1 .left)) (c .rated .ensures)
 
 pub known-rate-spec : {M : Type 1} → statement M
-known-rate-spec = tie.close (tie.spec returns rated-requires returns-2)
+known-rate-spec = tie.close (tie.spec returns (λ c κs. search needs) returns-2)

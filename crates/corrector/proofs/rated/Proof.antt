@@ -6,12 +6,6 @@ use Rattle.corrector.specs.Verdict.{rmOf, ratedOf}
 use Rattle.corrector.proofs.rated.Statement.{statement}
 use Rattle.corrector.proofs.rated.Tie as tie
 
-max-requires : tie.Need-max-requires
-max-requires c κs = search needs
-
-max-requires-2 : tie.Need-max-requires-2
-max-requires-2 c κs = search needs
-
 returns : tie.Need-returns
 unfolding ratedOf
 returns c =
@@ -23,4 +17,4 @@ returns c =
     rw (c .before .before .max .ensures, c .max2 .ensures, rm)
 
 pub rated-spec : {M : Type 1} → statement M
-rated-spec = tie.close (tie.spec max-requires max-requires-2 returns)
+rated-spec = tie.close (tie.spec (λ c κs. search needs) (λ c κs. search needs) returns)

@@ -16,9 +16,6 @@ Inv-loop s c work₀ n j₀ j-end work j =
 abbrev μ-loop : tie.MeasureT-loop
 μ-loop s c work₀ n j₀ j-end work j = j-end - j
 
-add-j-end : tie.Need-add-j-end Inv-loop μ-loop
-add-j-end c = omega arith
-
 loop-holds : tie.Need-loop-holds Inv-loop μ-loop
 unfolding correctColumnsOf
 loop-holds c = (refl, refl)
@@ -30,20 +27,11 @@ el-requires c κs =
     let first = within (a .args .s .n) (a .args .c .nq) 0 (p .order .0) in
     (p .n .0, p .table, omega (arith, first), p .used .1, omega arith)
 
-mul-add-scaled : tie.Need-mul-add-scaled Inv-loop μ-loop
-mul-add-scaled c = omega arith
-
 add-scaled-requires : tie.Need-add-scaled-requires Inv-loop μ-loop
 add-scaled-requires c κs =
     let l = c .before .before .before in
     let n = l .before .before .before .args .s .n in
     omega (arith, within n 13 (l .loop .j) (omega arith))
-
-add-j : tie.Need-add-j Inv-loop μ-loop
-add-j c = omega arith
-
-loop-less : tie.Need-loop-less Inv-loop μ-loop
-loop-less c = omega arith
 
 loop-again : tie.Need-loop-again Inv-loop μ-loop
 loop-again c =
@@ -52,9 +40,6 @@ loop-again c =
     let el = c .before .before .before .el .ensures in
     (last .kept .0 ∙ l .inv .0, rw (last .ensures, el) (again _ _ _ _ _ (omega arith) (l .inv .1)))
 
-same-length : tie.Need-same-length Inv-loop μ-loop
-same-length c = omega arith
-
 returns : tie.Need-returns Inv-loop μ-loop
 returns c = ended _ _ _ _ _ (omega arith) (c .before .loop .inv .1)
 
@@ -62,15 +47,5 @@ pub correct-columns-spec : {M : Type 1} → statement M
 correct-columns-spec =
     tie.close
     (tie.spec
-    Inv-loop
-    μ-loop
-    add-j-end
-    loop-holds
-    el-requires
-    mul-add-scaled
-    add-scaled-requires
-    add-j
-    loop-less
-    loop-again
-    same-length
-    returns)
+    Inv-loop μ-loop (λ c. omega arith) loop-holds el-requires (λ c. omega arith) add-scaled-requires (λ c. omega arith)
+    (λ c. omega arith) loop-again (λ c. omega arith) returns)

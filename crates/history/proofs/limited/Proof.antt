@@ -6,18 +6,6 @@ use Rattle.history.specs.Steps.{limitedOf}
 use Rattle.history.proofs.limited.Statement.{statement}
 use Rattle.history.proofs.limited.Tie as tie
 
-min-requires : tie.Need-min-requires
-min-requires c κs = search needs
-
-abs-requires : tie.Need-abs-requires
-abs-requires c κs = search needs
-
-max-requires : tie.Need-max-requires
-max-requires c κs = search needs
-
-is-bdf-requires : tie.Need-is-bdf-requires
-is-bdf-requires c κs = search needs
-
 returns : tie.Need-returns
 unfolding limitedOf
 returns c =
@@ -25,15 +13,6 @@ returns c =
     let a = x .before .before in
     let bdf = sym (c .before .is-bdf .ensures) ∙ c .if1 .taken in
     rw (← a .before .min .ensures, ← a .abs .ensures, ← x .max .ensures, bdf)
-
-abs-requires-2 : tie.Need-abs-requires-2
-abs-requires-2 c κs = search needs
-
-max-requires-2 : tie.Need-max-requires-2
-max-requires-2 c κs = search needs
-
-sm1-requires : tie.Need-sm1-requires
-sm1-requires c κs = search needs
 
 returns-2 : tie.Need-returns-2
 unfolding limitedOf
@@ -77,13 +56,5 @@ pub limited-spec : {M : Type 1} → statement M
 limited-spec =
     tie.close
     (tie.spec
-    min-requires
-    abs-requires
-    max-requires
-    is-bdf-requires
-    returns
-    abs-requires-2
-    max-requires-2
-    sm1-requires
-    returns-2
-    returns-3)
+    (λ c κs. search needs) (λ c κs. search needs) (λ c κs. search needs) (λ c κs. search needs) returns
+    (λ c κs. search needs) (λ c κs. search needs) (λ c κs. search needs) returns-2 returns-3)

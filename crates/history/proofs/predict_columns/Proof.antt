@@ -20,9 +20,6 @@ loop-holds : tie.Need-loop-holds Inv-loop μ-loop
 unfolding predictColumnsOf
 loop-holds c = (refl, refl)
 
-add-add-next : tie.Need-add-add-next Inv-loop μ-loop
-add-add-next c = omega arith
-
 mul-add-next : tie.Need-mul-add-next Inv-loop μ-loop
 mul-add-next c =
     let l = c .before .before in
@@ -35,23 +32,11 @@ sub-add-next c =
     let a = l .before .before .args in
     omega (arith, within (a .n) (a .nq) (l .loop .k) (omega arith))
 
-add-next-requires : tie.Need-add-next-requires Inv-loop μ-loop
-add-next-requires c κs = omega arith
-
-add-k : tie.Need-add-k Inv-loop μ-loop
-add-k c = omega arith
-
-loop-less : tie.Need-loop-less Inv-loop μ-loop
-loop-less c = omega arith
-
 loop-again : tie.Need-loop-again Inv-loop μ-loop
 loop-again c =
     let l = c .before .before .before .before .before .loop in
     let last = c .before .before .add-next in
     (last .kept .0 ∙ l .inv .0, rw (last .ensures) (again _ _ _ _ _ (omega arith) (l .inv .1)))
-
-same-length : tie.Need-same-length Inv-loop μ-loop
-same-length c = omega arith
 
 returns : tie.Need-returns Inv-loop μ-loop
 returns c = ended _ _ _ _ _ (omega arith) (c .before .loop .inv .1)
@@ -60,15 +45,5 @@ pub predict-columns-spec : {M : Type 1} → statement M
 predict-columns-spec =
     tie.close
     (tie.spec
-    Inv-loop
-    μ-loop
-    loop-holds
-    add-add-next
-    mul-add-next
-    sub-add-next
-    add-next-requires
-    add-k
-    loop-less
-    loop-again
-    same-length
-    returns)
+    Inv-loop μ-loop loop-holds (λ c. omega arith) mul-add-next sub-add-next (λ c κs. omega arith) (λ c. omega arith)
+    (λ c. omega arith) loop-again (λ c. omega arith) returns)

@@ -59,15 +59,6 @@ part-scale-end c =
     let a = l .before .before .args in
     omega (arith, within (a .n) (a .l) (l .loop .j) (omega arith))
 
-scale-requires : tie.Need-scale-requires Inv-loop μ-loop
-scale-requires c κs = search needs
-
-add-j : tie.Need-add-j Inv-loop μ-loop
-add-j c = omega arith
-
-loop-less : tie.Need-loop-less Inv-loop μ-loop
-loop-less c = omega arith
-
 loop-again : tie.Need-loop-again Inv-loop μ-loop
 unfolding scaleColumnOf
 loop-again c =
@@ -81,9 +72,6 @@ loop-again c =
       rw (scaled, k) (again _ _ _ _ _ (omega arith) (l .inv .1)),
     )
 
-same-length : tie.Need-same-length Inv-loop μ-loop
-same-length c = omega arith
-
 returns : tie.Need-returns Inv-loop μ-loop
 unfolding rescaleColumnsOf
 returns c = ap (λ (s : Rescaled). s .yh) (ended _ _ _ _ _ (omega arith) (c .before .loop .inv .1))
@@ -92,18 +80,5 @@ pub rescale-columns-spec : {M : Type 1} → statement M
 rescale-columns-spec =
     tie.close
     (tie.spec
-    Inv-loop
-    μ-loop
-    loop-holds
-    mul-a
-    add-e
-    mul-scale
-    sub-scale
-    part-scale-start
-    part-scale-end
-    scale-requires
-    add-j
-    loop-less
-    loop-again
-    same-length
-    returns)
+    Inv-loop μ-loop loop-holds mul-a add-e mul-scale sub-scale part-scale-start part-scale-end (λ c κs. search needs)
+    (λ c. omega arith) (λ c. omega arith) loop-again (λ c. omega arith) returns)

@@ -20,9 +20,6 @@ loop-holds : tie.Need-loop-holds Inv-loop μ-loop
 unfolding retractColumnsOf
 loop-holds c = (refl, refl)
 
-add-sub-next : tie.Need-add-sub-next Inv-loop μ-loop
-add-sub-next c = omega arith
-
 mul-sub-next : tie.Need-mul-sub-next Inv-loop μ-loop
 mul-sub-next c =
     let l = c .before .before in
@@ -35,23 +32,11 @@ sub-sub-next c =
     let a = l .before .before .args in
     omega (arith, within (a .n) (a .nq) (l .loop .k) (omega arith))
 
-sub-next-requires : tie.Need-sub-next-requires Inv-loop μ-loop
-sub-next-requires c κs = omega arith
-
-add-k : tie.Need-add-k Inv-loop μ-loop
-add-k c = omega arith
-
-loop-less : tie.Need-loop-less Inv-loop μ-loop
-loop-less c = omega arith
-
 loop-again : tie.Need-loop-again Inv-loop μ-loop
 loop-again c =
     let l = c .before .before .before .before .before .loop in
     let last = c .before .before .sub-next in
     (last .kept .0 ∙ l .inv .0, rw (last .ensures) (again _ _ _ _ _ (omega arith) (l .inv .1)))
-
-same-length : tie.Need-same-length Inv-loop μ-loop
-same-length c = omega arith
 
 returns : tie.Need-returns Inv-loop μ-loop
 returns c = ended _ _ _ _ _ (omega arith) (c .before .loop .inv .1)
@@ -60,15 +45,5 @@ pub retract-columns-spec : {M : Type 1} → statement M
 retract-columns-spec =
     tie.close
     (tie.spec
-    Inv-loop
-    μ-loop
-    loop-holds
-    add-sub-next
-    mul-sub-next
-    sub-sub-next
-    sub-next-requires
-    add-k
-    loop-less
-    loop-again
-    same-length
-    returns)
+    Inv-loop μ-loop loop-holds (λ c. omega arith) mul-sub-next sub-sub-next (λ c κs. omega arith) (λ c. omega arith)
+    (λ c. omega arith) loop-again (λ c. omega arith) returns)

@@ -6,21 +6,6 @@ use Rattle.history.specs.Steps.{adjustOf}
 use Rattle.history.proofs.stoda_adjust_step_size.Statement.{statement}
 use Rattle.history.proofs.stoda_adjust_step_size.Tie as tie
 
-limited-requires : tie.Need-limited-requires
-limited-requires c κs = search needs
-
-add-rescale-columns : tie.Need-add-rescale-columns
-add-rescale-columns c = search needs
-
-rescale-columns-requires : tie.Need-rescale-columns-requires
-rescale-columns-requires c κs = search needs
-
-add-d : tie.Need-add-d
-add-d c = search needs
-
-same-length : tie.Need-same-length
-same-length c = search needs
-
 returns : tie.Need-returns
 unfolding adjustOf
 returns c =
@@ -32,9 +17,4 @@ pub stoda-adjust-step-size-spec : {M : Type 1} → statement M
 stoda-adjust-step-size-spec =
     tie.close
     (tie.spec
-    limited-requires
-    add-rescale-columns
-    rescale-columns-requires
-    add-d
-    same-length
-    returns)
+    (λ c κs. search needs) (λ c. search needs) (λ c κs. search needs) (λ c. search needs) (λ c. search needs) returns)

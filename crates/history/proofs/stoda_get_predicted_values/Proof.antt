@@ -6,18 +6,6 @@ use Rattle.history.specs.Steps.{predictedOf}
 use Rattle.history.proofs.stoda_get_predicted_values.Statement.{statement}
 use Rattle.history.proofs.stoda_get_predicted_values.Tie as tie
 
-predict-columns-requires : tie.Need-predict-columns-requires
-predict-columns-requires c κs = search needs
-
-is-stale-requires : tie.Need-is-stale-requires
-is-stale-requires c κs = search needs
-
-is-bdf-requires : tie.Need-is-bdf-requires
-is-bdf-requires c κs = search needs
-
-same-length : tie.Need-same-length
-same-length c = search needs
-
 returns : tie.Need-returns
 unfolding predictedOf
 returns c =
@@ -25,9 +13,6 @@ returns c =
       rw (c .is-bdf .ensures, sym (s .is-stale .ensures) ∙ c .before .if1 .taken),
       s .before .before .before .before .predict-columns .ensures,
     )
-
-same-length-2 : tie.Need-same-length-2
-same-length-2 c = search needs
 
 returns-2 : tie.Need-returns-2
 unfolding predictedOf
@@ -39,10 +24,5 @@ pub stoda-get-predicted-values-spec : {M : Type 1} → statement M
 stoda-get-predicted-values-spec =
     tie.close
     (tie.spec
-    predict-columns-requires
-    is-stale-requires
-    is-bdf-requires
-    same-length
-    returns
-    same-length-2
-    returns-2)
+    (λ c κs. search needs) (λ c κs. search needs) (λ c κs. search needs) (λ c. search needs) returns
+    (λ c. search needs) returns-2)

@@ -18,36 +18,9 @@ abbrev μ-loop : tie.MeasureT-loop
 loop-holds : tie.Need-loop-holds Inv-loop μ-loop
 loop-holds c = (refl, refl)
 
-add-yh : tie.Need-add-yh Inv-loop μ-loop
-add-yh c = omega arith
-
-mul-yh : tie.Need-mul-yh Inv-loop μ-loop
-mul-yh c = omega arith
-
-slice-read-yh : tie.Need-slice-read-yh Inv-loop μ-loop
-slice-read-yh c = omega arith
-
-mul-yh-2 : tie.Need-mul-yh-2 Inv-loop μ-loop
-mul-yh-2 c = omega arith
-
-slice-read-yh-2 : tie.Need-slice-read-yh-2 Inv-loop μ-loop
-slice-read-yh-2 c = omega arith
-
-slice-write-yh : tie.Need-slice-write-yh Inv-loop μ-loop
-slice-write-yh c = omega arith
-
-add-i : tie.Need-add-i Inv-loop μ-loop
-add-i c = omega arith
-
-loop-less : tie.Need-loop-less Inv-loop μ-loop
-loop-less c = omega arith
-
 loop-again : tie.Need-loop-again Inv-loop μ-loop
 loop-again c =
     (simp length-set (omega arith), again _ _ _ _ _ (omega arith) (c .before .before .before .loop .inv .1))
-
-same-length : tie.Need-same-length Inv-loop μ-loop
-same-length c = omega arith
 
 returns : tie.Need-returns Inv-loop μ-loop
 returns c = ended _ _ _ _ _ (omega arith) (c .before .loop .inv .1)
@@ -56,17 +29,5 @@ pub sub-next-spec : {M : Type 1} → statement M
 sub-next-spec =
     tie.close
     (tie.spec
-    Inv-loop
-    μ-loop
-    loop-holds
-    add-yh
-    mul-yh
-    slice-read-yh
-    mul-yh-2
-    slice-read-yh-2
-    slice-write-yh
-    add-i
-    loop-less
-    loop-again
-    same-length
-    returns)
+    Inv-loop μ-loop loop-holds (λ c. omega arith) (λ c. omega arith) (λ c. omega arith) (λ c. omega arith)
+    (λ c. omega arith) (λ c. omega arith) (λ c. omega arith) (λ c. omega arith) loop-again (λ c. omega arith) returns)

@@ -78,14 +78,8 @@ last-column-requires c κs =
     let fits : 6 + nq * n + n ≤ length (b .args .cont .now) = omega (arith, b .pre .3, last) in
     rw (size, length-part (6 + nq * n) n (b .args .cont .now) fits) (omega (arith, b .pre .2))
 
-add-jb-end : tie.Need-add-jb-end Inv-loop μ-loop
-add-jb-end c = omega arith
-
 loop-holds : tie.Need-loop-holds Inv-loop μ-loop
 loop-holds c = (refl, omega arith, omega (arith, c .before .before .last-column .kept .0), refl)
-
-sub-a : tie.Need-sub-a Inv-loop μ-loop
-sub-a c = omega arith
 
 mul-a : tie.Need-mul-a Inv-loop μ-loop
 mul-a c =
@@ -154,12 +148,6 @@ horner-requires c κs =
     let fits : 6 + j * n + n ≤ length (b .args .cont .now) = omega (arith, b .pre .3, this) in
     rw (size, length-part (6 + j * n) n (b .args .cont .now) fits) (omega arith)
 
-add-jb : tie.Need-add-jb Inv-loop μ-loop
-add-jb c = omega arith
-
-loop-less : tie.Need-loop-less Inv-loop μ-loop
-loop-less c = omega arith
-
 loop-again : tie.Need-loop-again Inv-loop μ-loop
 loop-again c =
     let t = c .before .before in
@@ -170,9 +158,6 @@ loop-again c =
     let turned = rw size at (t .horner .ensures) in
     let rest = onward _ _ _ _ _ _ (omega arith) (sym turned) (l .loop .inv .3) in
     (omega arith, omega arith, omega (arith, t .horner .kept .0), rest)
-
-same-length : tie.Need-same-length Inv-loop μ-loop
-same-length c = omega arith
 
 returns : tie.Need-returns Inv-loop μ-loop
 unfolding evaluateOf
@@ -187,29 +172,7 @@ pub evaluate-spec : {M : Type 1} → statement M
 evaluate-spec =
     tie.close
     (tie.spec
-    Inv-loop
-    μ-loop
-    mul-last
-    add-last
-    add-end
-    mul-last-column
-    sub-last-column
-    part-last-column-start
-    part-last-column-end
-    last-column-requires
-    add-jb-end
-    loop-holds
-    sub-a
-    mul-a
-    add-a
-    add-e
-    mul-horner
-    sub-horner
-    part-horner-start
-    part-horner-end
-    horner-requires
-    add-jb
-    loop-less
-    loop-again
-    same-length
-    returns)
+    Inv-loop μ-loop mul-last add-last add-end mul-last-column sub-last-column part-last-column-start
+    part-last-column-end last-column-requires (λ c. omega arith) loop-holds (λ c. omega arith) mul-a add-a add-e
+    mul-horner sub-horner part-horner-start part-horner-end horner-requires (λ c. omega arith) (λ c. omega arith)
+    loop-again (λ c. omega arith) returns)

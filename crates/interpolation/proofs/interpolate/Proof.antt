@@ -10,26 +10,11 @@ use Rattle.interpolation.proofs.Counts.{header-reads}
 use Rattle.interpolation.proofs.interpolate.Statement.{statement}
 use Rattle.interpolation.proofs.interpolate.Tie as tie
 
-last-column-requires : tie.Need-last-column-requires
-last-column-requires c κs = search needs
-
-same-length : tie.Need-same-length
-same-length c = search needs
-
 returns : tie.Need-returns
 unfolding interpolateOf
 returns c =
     let a = c .before .before .before .before .before .before .before .args in
     rw (eq-eqb (length (a .cont .now)) (length (a .yi .now)) (omega arith), ← c .before .before .last-column .ensures)
-
-read-header-requires : tie.Need-read-header-requires
-read-header-requires c κs = search needs
-
-enum-told : tie.Need-enum-told
-enum-told c = search needs
-
-enum-known-z : tie.Need-enum-known-z
-enum-known-z c = search needs
 
 interpolate-sized-requires : tie.Need-interpolate-sized-requires
 interpolate-sized-requires c κs =
@@ -45,9 +30,6 @@ returns-2 c =
     let other = ne-eqb (length (a .cont .now)) (length (a .yi .now)) (λ q. omega arith) in
     rw (other, ← c .before .before .read-header .ensures, c .enum-told .given .1)
 
-same-length-2 : tie.Need-same-length-2
-same-length-2 c = search needs
-
 returns-3 : tie.Need-returns-3
 unfolding interpolateOf
 returns-3 c =
@@ -61,13 +43,5 @@ pub interpolate-spec : {M : Type 1} → statement M
 interpolate-spec =
     tie.close
     (tie.spec
-    last-column-requires
-    same-length
-    returns
-    read-header-requires
-    enum-told
-    enum-known-z
-    interpolate-sized-requires
-    returns-2
-    same-length-2
-    returns-3)
+    (λ c κs. search needs) (λ c. search needs) returns (λ c κs. search needs) (λ c. search needs) (λ c. search needs)
+    interpolate-sized-requires returns-2 (λ c. search needs) returns-3)

@@ -15,12 +15,6 @@ returns c =
     let a = c .before .before .before .args in
     rw (ne-eqb (length (a .yi .now)) (a .z .n) (λ q. omega arith))
 
-sub-if2 : tie.Need-sub-if2
-sub-if2 c = search needs
-
-add-if2 : tie.Need-add-if2
-add-if2 c = search needs
-
 mul-if2 : tie.Need-mul-if2
 mul-if2 c =
     let a = c .before .before .before .before in
@@ -41,12 +35,6 @@ returns-3 c =
     let n = eq-eqb (length (a .yi .now)) (a .z .n) (omega arith) in
     rw (n, le-ltb (length (a .cont .now) - 6) ((a .z .nq + 1) * a .z .n) (omega arith), c .if3 .taken)
 
-evaluate-requires : tie.Need-evaluate-requires
-evaluate-requires c κs = search needs
-
-same-length : tie.Need-same-length
-same-length c = search needs
-
 returns-4 : tie.Need-returns-4
 unfolding interpolateSizedOf
 returns-4 c =
@@ -60,12 +48,5 @@ pub interpolate-sized-spec : {M : Type 1} → statement M
 interpolate-sized-spec =
     tie.close
     (tie.spec
-    returns
-    sub-if2
-    add-if2
-    mul-if2
-    returns-2
-    returns-3
-    evaluate-requires
-    same-length
-    returns-4)
+    returns (λ c. search needs) (λ c. search needs) mul-if2 returns-2 returns-3 (λ c κs. search needs)
+    (λ c. search needs) returns-4)

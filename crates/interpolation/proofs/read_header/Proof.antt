@@ -11,39 +11,6 @@ returns : tie.Need-returns
 unfolding readHeaderOf
 returns c = rw (lt-ltb (length (c .before .before .args .cont .now)) 6 (omega arith))
 
-shared-slice-read-whole-count : tie.Need-shared-slice-read-whole-count
-shared-slice-read-whole-count c = search needs
-
-cast-whole-count : tie.Need-cast-whole-count
-cast-whole-count c = search needs
-
-whole-count-requires : tie.Need-whole-count-requires
-whole-count-requires c κs = search needs
-
-enum-told : tie.Need-enum-told
-enum-told c = search needs
-
-enum-known-n : tie.Need-enum-known-n
-enum-known-n c = search needs
-
-shared-slice-read-whole-count-2 : tie.Need-shared-slice-read-whole-count-2
-shared-slice-read-whole-count-2 c = search needs
-
-whole-count-requires-2 : tie.Need-whole-count-requires-2
-whole-count-requires-2 c κs = search needs
-
-enum-told-2 : tie.Need-enum-told-2
-enum-told-2 c = search needs
-
-enum-known-nq : tie.Need-enum-known-nq
-enum-known-nq c = search needs
-
-shared-slice-read-t16 : tie.Need-shared-slice-read-t16
-shared-slice-read-t16 c = search needs
-
-shared-slice-read-t18 : tie.Need-shared-slice-read-t18
-shared-slice-read-t18 c = search needs
-
 returns-2 : tie.Need-returns-2
 unfolding readHeaderOf
 returns-2 c =
@@ -74,18 +41,6 @@ pub read-header-spec : {M : Type 1} → statement M
 read-header-spec =
     tie.close
     (tie.spec
-    returns
-    shared-slice-read-whole-count
-    cast-whole-count
-    whole-count-requires
-    enum-told
-    enum-known-n
-    shared-slice-read-whole-count-2
-    whole-count-requires-2
-    enum-told-2
-    enum-known-nq
-    shared-slice-read-t16
-    shared-slice-read-t18
-    returns-2
-    returns-3
-    returns-4)
+    returns (λ c. search needs) (λ c. search needs) (λ c κs. search needs) (λ c. search needs) (λ c. search needs)
+    (λ c. search needs) (λ c κs. search needs) (λ c. search needs) (λ c. search needs) (λ c. search needs)
+    (λ c. search needs) returns-2 returns-3 returns-4)

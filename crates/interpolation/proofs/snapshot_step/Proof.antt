@@ -19,12 +19,6 @@ Inv-loop work question₀ n i₀ i-end question i =
 abbrev μ-loop : tie.MeasureT-loop
 μ-loop work question₀ n i₀ i-end question i = i-end - i
 
-put-header-requires : tie.Need-put-header-requires Inv-loop μ-loop
-put-header-requires c κs = search needs
-
-add-i-end : tie.Need-add-i-end Inv-loop μ-loop
-add-i-end c = omega arith
-
 mul-i-end : tie.Need-mul-i-end Inv-loop μ-loop
 mul-i-end c =
     let a = c .before .before .before .before .before .before .before in
@@ -38,37 +32,10 @@ loop-holds c =
     let q = mul-le-mul-right (a .args .s .n) k in
     (omega (arith, q, a .pre .3), omega (arith, q, a .pre .4), refl, refl)
 
-mul-question : tie.Need-mul-question Inv-loop μ-loop
-mul-question c = omega arith
-
-shared-slice-read-question : tie.Need-shared-slice-read-question Inv-loop μ-loop
-shared-slice-read-question c = omega arith
-
-add-question : tie.Need-add-question Inv-loop μ-loop
-add-question c = omega arith
-
-add-question-2 : tie.Need-add-question-2 Inv-loop μ-loop
-add-question-2 c = omega arith
-
-mul-question-2 : tie.Need-mul-question-2 Inv-loop μ-loop
-mul-question-2 c = omega arith
-
-slice-write-question : tie.Need-slice-write-question Inv-loop μ-loop
-slice-write-question c = omega arith
-
-add-i : tie.Need-add-i Inv-loop μ-loop
-add-i c = omega arith
-
-loop-less : tie.Need-loop-less Inv-loop μ-loop
-loop-less c = omega arith
-
 loop-again : tie.Need-loop-again Inv-loop μ-loop
 loop-again c =
     let l = c .before .before in
     (omega arith, omega arith, simp length-set (omega arith), again _ _ _ _ _ (omega arith) (l .loop .inv .3))
-
-same-length : tie.Need-same-length Inv-loop μ-loop
-same-length c = omega arith
 
 returns : tie.Need-returns Inv-loop μ-loop
 unfolding snapshotOf
@@ -80,20 +47,6 @@ pub snapshot-step-spec : {M : Type 1} → statement M
 snapshot-step-spec =
     tie.close
     (tie.spec
-    Inv-loop
-    μ-loop
-    put-header-requires
-    add-i-end
-    mul-i-end
-    loop-holds
-    mul-question
-    shared-slice-read-question
-    add-question
-    add-question-2
-    mul-question-2
-    slice-write-question
-    add-i
-    loop-less
-    loop-again
-    same-length
-    returns)
+    Inv-loop μ-loop (λ c κs. search needs) (λ c. omega arith) mul-i-end loop-holds (λ c. omega arith)
+    (λ c. omega arith) (λ c. omega arith) (λ c. omega arith) (λ c. omega arith) (λ c. omega arith) (λ c. omega arith)
+    (λ c. omega arith) loop-again (λ c. omega arith) returns)

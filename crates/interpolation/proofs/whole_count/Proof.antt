@@ -17,15 +17,9 @@ Inv-loop x limit k₀ k-end k =
 abbrev μ-loop : tie.MeasureT-loop
 μ-loop x limit k₀ k-end k = k-end - k
 
-add-k-end : tie.Need-add-k-end Inv-loop μ-loop
-add-k-end c = omega arith
-
 loop-holds : tie.Need-loop-holds Inv-loop μ-loop
 unfolding wholeCountOf
 loop-holds c = (refl, refl)
-
-int-to-float-if1 : tie.Need-int-to-float-if1 Inv-loop μ-loop
-int-to-float-if1 c = search needs
 
 returns : tie.Need-returns Inv-loop μ-loop
 returns c =
@@ -33,12 +27,6 @@ returns c =
     let a = l .before .args in
     sym (stays (wholeCountAt (a .x)) (l .loop .k + 1) (a .limit + 1) (Is (l .loop .k)) (λ j. refl))
     ∙ onward _ _ _ _ _ _ (omega arith) (rw (c .if1 .taken)) (l .loop .inv .1)
-
-add-k : tie.Need-add-k Inv-loop μ-loop
-add-k c = omega arith
-
-loop-less : tie.Need-loop-less Inv-loop μ-loop
-loop-less c = omega arith
 
 loop-again : tie.Need-loop-again Inv-loop μ-loop
 loop-again c =
@@ -52,13 +40,5 @@ pub whole-count-spec : {M : Type 1} → statement M
 whole-count-spec =
     tie.close
     (tie.spec
-    Inv-loop
-    μ-loop
-    add-k-end
-    loop-holds
-    int-to-float-if1
-    returns
-    add-k
-    loop-less
-    loop-again
-    returns-2)
+    Inv-loop μ-loop (λ c. omega arith) loop-holds (λ c. search needs) returns (λ c. omega arith) (λ c. omega arith)
+    loop-again returns-2)

@@ -44,19 +44,10 @@ slice-write-a c =
     let l = c .before .before in
     omega (arith, within (l .before .args .n) (l .before .args .n) (l .loop .i) (omega arith))
 
-add-i : tie.Need-add-i Inv-loop μ-loop
-add-i c = omega arith
-
-loop-less : tie.Need-loop-less Inv-loop μ-loop
-loop-less c = omega arith
-
 loop-again : tie.Need-loop-again Inv-loop μ-loop
 loop-again c =
     let inv = c .before .before .loop .inv in
     (simp length-set (omega arith), again _ _ _ _ _ (omega arith) (inv .1))
-
-same-length : tie.Need-same-length Inv-loop μ-loop
-same-length c = omega arith
 
 returns : tie.Need-returns Inv-loop μ-loop
 returns c = ended _ _ _ _ _ (omega arith) (c .before .loop .inv .1)
@@ -65,16 +56,5 @@ pub add-identity-spec : {M : Type 1} → statement M
 add-identity-spec =
     tie.close
     (tie.spec
-    Inv-loop
-    μ-loop
-    loop-holds
-    mul-a
-    add-a
-    mul-a-2
-    slice-read-a
-    slice-write-a
-    add-i
-    loop-less
-    loop-again
-    same-length
-    returns)
+    Inv-loop μ-loop loop-holds mul-a add-a mul-a-2 slice-read-a slice-write-a (λ c. omega arith) (λ c. omega arith)
+    loop-again (λ c. omega arith) returns)

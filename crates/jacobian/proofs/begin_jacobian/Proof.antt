@@ -5,12 +5,9 @@ use Rattle.jacobian.specs.Jacobian.{beginOf}
 use Rattle.jacobian.proofs.begin_jacobian.Statement.{statement}
 use Rattle.jacobian.proofs.begin_jacobian.Tie as tie
 
-add-d : tie.Need-add-d
-add-d c = search needs
-
 returns : tie.Need-returns
 unfolding beginOf
 returns c = refl
 
 pub begin-jacobian-spec : {M : Type 1} → statement M
-begin-jacobian-spec = tie.close (tie.spec add-d returns)
+begin-jacobian-spec = tie.close (tie.spec (λ c. search needs) returns)

@@ -6,24 +6,6 @@ use Rattle.jacobian.proofs.Shared.{ok-done, ok-singular}
 use Rattle.jacobian.proofs.factor.Statement.{statement}
 use Rattle.jacobian.proofs.factor.Tie as tie
 
-add-identity-requires : tie.Need-add-identity-requires
-add-identity-requires c κs = search needs
-
-dense-lu-factor-requires : tie.Need-dense-lu-factor-requires
-dense-lu-factor-requires c κs = search needs
-
-enum-told : tie.Need-enum-told
-enum-told c = search needs
-
-enum-told-2 : tie.Need-enum-told-2
-enum-told-2 c = search needs
-
-same-length : tie.Need-same-length
-same-length c = search needs
-
-same-length-2 : tie.Need-same-length-2
-same-length-2 c = search needs
-
 returns : tie.Need-returns
 returns c =
     let d = c .before .before .before .before .before .before in
@@ -33,12 +15,6 @@ returns c =
     let factors = identityFactorsOf (x .n) (x .a .now) (x .ipiv .now) in
     let flag = ok-done (factors .ok) (sym (f .2) ∙ c .enum-told .given .1) in
     (f .0, f .1, sym flag)
-
-same-length-3 : tie.Need-same-length-3
-same-length-3 c = search needs
-
-same-length-4 : tie.Need-same-length-4
-same-length-4 c = search needs
 
 returns-2 : tie.Need-returns-2
 returns-2 c =
@@ -54,13 +30,5 @@ pub factor-spec : {M : Type 1} → statement M
 factor-spec =
     tie.close
     (tie.spec
-    add-identity-requires
-    dense-lu-factor-requires
-    enum-told
-    enum-told-2
-    same-length
-    same-length-2
-    returns
-    same-length-3
-    same-length-4
-    returns-2)
+    (λ c κs. search needs) (λ c κs. search needs) (λ c. search needs) (λ c. search needs) (λ c. search needs)
+    (λ c. search needs) returns (λ c. search needs) (λ c. search needs) returns-2)

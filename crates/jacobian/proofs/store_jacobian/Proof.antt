@@ -20,31 +20,10 @@ abbrev μ-loop : tie.MeasureT-loop
 loop-holds : tie.Need-loop-holds Inv-loop μ-loop
 loop-holds c = (refl, refl, refl)
 
-mul-a : tie.Need-mul-a Inv-loop μ-loop
-mul-a c = omega arith
-
-shared-slice-read-a : tie.Need-shared-slice-read-a Inv-loop μ-loop
-shared-slice-read-a c = omega arith
-
-mul-a-2 : tie.Need-mul-a-2 Inv-loop μ-loop
-mul-a-2 c = omega arith
-
-slice-write-a : tie.Need-slice-write-a Inv-loop μ-loop
-slice-write-a c = omega arith
-
-add-i : tie.Need-add-i Inv-loop μ-loop
-add-i c = omega arith
-
-loop-less : tie.Need-loop-less Inv-loop μ-loop
-loop-less c = omega arith
-
 loop-again : tie.Need-loop-again Inv-loop μ-loop
 loop-again c =
     let inv = c .before .before .loop .inv in
     (inv .0, simp length-set (omega arith), again _ _ _ _ _ (omega arith) (inv .2))
-
-same-length : tie.Need-same-length Inv-loop μ-loop
-same-length c = omega arith
 
 returns : tie.Need-returns Inv-loop μ-loop
 unfolding scaledOf
@@ -54,15 +33,5 @@ pub store-jacobian-spec : {M : Type 1} → statement M
 store-jacobian-spec =
     tie.close
     (tie.spec
-    Inv-loop
-    μ-loop
-    loop-holds
-    mul-a
-    shared-slice-read-a
-    mul-a-2
-    slice-write-a
-    add-i
-    loop-less
-    loop-again
-    same-length
-    returns)
+    Inv-loop μ-loop loop-holds (λ c. omega arith) (λ c. omega arith) (λ c. omega arith) (λ c. omega arith)
+    (λ c. omega arith) (λ c. omega arith) loop-again (λ c. omega arith) returns)

@@ -14,9 +14,6 @@ returns c =
     let a = c .before .args in
     rw (lt-leb (a .a) (a .len) (omega arith))
 
-is-matrix-requires : tie.Need-is-matrix-requires
-is-matrix-requires c κs = search needs
-
 returns-2 : tie.Need-returns-2
 unfolding isSystem
 returns-2 c =
@@ -61,5 +58,4 @@ returns-5 c =
     )
 
 pub is-system-spec : {M : Type 1} → statement M
-is-system-spec =
-    tie.close (tie.spec returns is-matrix-requires returns-2 returns-3 returns-4 returns-5)
+is-system-spec = tie.close (tie.spec returns (λ c κs. search needs) returns-2 returns-3 returns-4 returns-5)

@@ -6,15 +6,9 @@ use Rattle.probe.specs.Leaves.{isWeighed}
 use Rattle.probe.proofs.is_weighed.Statement.{statement}
 use Rattle.probe.proofs.is_weighed.Tie as tie
 
-is-list-requires : tie.Need-is-list-requires
-is-list-requires c κs = search needs
-
 returns : tie.Need-returns
 unfolding isWeighed
 returns c = rw (← c .before .is-list .ensures, not-true (c .before .is-list .result) (c .if1 .taken))
-
-is-list-requires-2 : tie.Need-is-list-requires-2
-is-list-requires-2 c κs = search needs
 
 returns-2 : tie.Need-returns-2
 unfolding isWeighed
@@ -26,9 +20,6 @@ returns-2 c =
       ← c .before .is-list2 .ensures,
       not-true (c .before .is-list2 .result) (c .if2 .taken),
     )
-
-is-behind-requires : tie.Need-is-behind-requires
-is-behind-requires c κs = search needs
 
 returns-3 : tie.Need-returns-3
 unfolding isWeighed
@@ -46,4 +37,5 @@ returns-3 c =
 pub is-weighed-spec : {M : Type 1} → statement M
 is-weighed-spec =
     tie.close
-    (tie.spec is-list-requires returns is-list-requires-2 returns-2 is-behind-requires returns-3)
+    (tie.spec
+    (λ c κs. search needs) returns (λ c κs. search needs) returns-2 (λ c κs. search needs) returns-3)

@@ -8,9 +8,6 @@ use Rattle.probe.proofs.Sizes.{matrix-fits}
 use Rattle.probe.proofs.probe_dense_lu_factor.Statement.{statement}
 use Rattle.probe.proofs.probe_dense_lu_factor.Tie as tie
 
-is-matrix-requires : tie.Need-is-matrix-requires
-is-matrix-requires c κs = search needs
-
 returns : tie.Need-returns
 unfolding factorLeft
 returns c = rw (← c .before .is-matrix .ensures, not-true (c .before .is-matrix .result) (c .if1 .taken))
@@ -19,18 +16,6 @@ dense-lu-factor-requires : tie.Need-dense-lu-factor-requires
 dense-lu-factor-requires c κs =
     let m = c .before .before .before in
     matrix-fits _ _ _ (sym (m .is-matrix .ensures) ∙ not-false (m .is-matrix .result) (c .before .before .if1 .left))
-
-enum-told : tie.Need-enum-told
-enum-told c = search needs
-
-enum-told-2 : tie.Need-enum-told-2
-enum-told-2 c = search needs
-
-same-length : tie.Need-same-length
-same-length c = search needs
-
-same-length-2 : tie.Need-same-length-2
-same-length-2 c = search needs
 
 returns-2 : tie.Need-returns-2
 unfolding factorLeft
@@ -46,12 +31,6 @@ returns-2 c =
       e .0,
       e .1,
     )
-
-same-length-3 : tie.Need-same-length-3
-same-length-3 c = search needs
-
-same-length-4 : tie.Need-same-length-4
-same-length-4 c = search needs
 
 returns-3 : tie.Need-returns-3
 unfolding factorLeft
@@ -72,14 +51,5 @@ pub probe-dense-lu-factor-spec : {M : Type 1} → statement M
 probe-dense-lu-factor-spec =
     tie.close
     (tie.spec
-    is-matrix-requires
-    returns
-    dense-lu-factor-requires
-    enum-told
-    enum-told-2
-    same-length
-    same-length-2
-    returns-2
-    same-length-3
-    same-length-4
-    returns-3)
+    (λ c κs. search needs) returns dense-lu-factor-requires (λ c. search needs) (λ c. search needs) (λ c. search needs)
+    (λ c. search needs) returns-2 (λ c. search needs) (λ c. search needs) returns-3)

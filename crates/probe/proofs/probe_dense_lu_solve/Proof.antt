@@ -8,9 +8,6 @@ use Rattle.probe.proofs.Sizes.{system-fits}
 use Rattle.probe.proofs.probe_dense_lu_solve.Statement.{statement}
 use Rattle.probe.proofs.probe_dense_lu_solve.Tie as tie
 
-is-system-requires : tie.Need-is-system-requires
-is-system-requires c κs = search needs
-
 returns : tie.Need-returns
 unfolding solveLeft
 returns c = rw (← c .before .is-system .ensures, not-true (c .before .is-system .result) (c .if1 .taken))
@@ -37,15 +34,6 @@ dense-lu-solve-requires c κs =
     let fits = system-fits _ _ _ _ _ (sym (m .is-system .ensures) ∙ not-false _ (p .before .if1 .left)) in
     (fits, p .are-pivots .ensures .1 (not-false _ (c .before .if2 .left)))
 
-enum-told : tie.Need-enum-told
-enum-told c = search needs
-
-enum-told-2 : tie.Need-enum-told-2
-enum-told-2 c = search needs
-
-same-length : tie.Need-same-length
-same-length c = search needs
-
 returns-3 : tie.Need-returns-3
 unfolding solveLeft
 returns-3 c =
@@ -62,9 +50,6 @@ returns-3 c =
       c .enum-told .given .1,
       e .0,
     )
-
-same-length-2 : tie.Need-same-length-2
-same-length-2 c = search needs
 
 returns-4 : tie.Need-returns-4
 unfolding solveLeft
@@ -87,14 +72,5 @@ pub probe-dense-lu-solve-spec : {M : Type 1} → statement M
 probe-dense-lu-solve-spec =
     tie.close
     (tie.spec
-    is-system-requires
-    returns
-    are-pivots-requires
-    returns-2
-    dense-lu-solve-requires
-    enum-told
-    enum-told-2
-    same-length
-    returns-3
-    same-length-2
-    returns-4)
+    (λ c κs. search needs) returns are-pivots-requires returns-2 dense-lu-solve-requires (λ c. search needs)
+    (λ c. search needs) (λ c. search needs) returns-3 (λ c. search needs) returns-4)

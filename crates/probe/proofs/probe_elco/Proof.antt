@@ -9,24 +9,15 @@ use Rattle.probe.proofs.Order.{order-within}
 use Rattle.probe.proofs.probe_elco.Statement.{statement}
 use Rattle.probe.proofs.probe_elco.Tie as tie
 
-not-a-number-requires : tie.Need-not-a-number-requires
-not-a-number-requires c κs = search needs
-
 returns : tie.Need-returns
 unfolding elcoOrNan
 returns c = rw (c .not-a-number .ensures, lt-leb (c .before .before .args .table) 2 (omega arith))
-
-not-a-number-requires-2 : tie.Need-not-a-number-requires-2
-not-a-number-requires-2 c κs = search needs
 
 returns-2 : tie.Need-returns-2
 unfolding elcoOrNan
 returns-2 c =
     let a = c .before .before .before .args in
     rw (c .not-a-number2 .ensures, le-leb (a .table) 2 (omega arith), lt-leb (a .i) 12 (omega arith))
-
-is-order-requires : tie.Need-is-order-requires
-is-order-requires c κs = search needs
 
 elco-requires : tie.Need-elco-requires
 elco-requires c κs = omega (arith, order-within _ _ (sym (c .before .is-order .ensures) ∙ c .if3 .taken))
@@ -43,9 +34,6 @@ returns-3 c =
       c .before .if3 .taken,
     )
     (c .elco .ensures)
-
-not-a-number-requires-3 : tie.Need-not-a-number-requires-3
-not-a-number-requires-3 c κs = search needs
 
 returns-4 : tie.Need-returns-4
 unfolding elcoOrNan
@@ -64,12 +52,5 @@ pub probe-elco-spec : {M : Type 1} → statement M
 probe-elco-spec =
     tie.close
     (tie.spec
-    not-a-number-requires
-    returns
-    not-a-number-requires-2
-    returns-2
-    is-order-requires
-    elco-requires
-    returns-3
-    not-a-number-requires-3
-    returns-4)
+    (λ c κs. search needs) returns (λ c κs. search needs) returns-2 (λ c κs. search needs) elco-requires returns-3
+    (λ c κs. search needs) returns-4)

@@ -7,17 +7,11 @@ use Rattle.probe.proofs.Sizes.{list-serves, behind-fits, weighed}
 use Rattle.probe.proofs.probe_ewset.Statement.{statement}
 use Rattle.probe.proofs.probe_ewset.Tie as tie
 
-is-weighed-requires : tie.Need-is-weighed-requires
-is-weighed-requires c κs = search needs
-
 ewset-requires : tie.Need-ewset-requires
 ewset-requires c κs =
     let a = c .before .before .before .before .before .before .args in
     let p = weighed _ _ _ _ _ (sym (c .before .before .is-weighed .ensures) ∙ c .before .if1 .taken) in
     (list-serves (a .n) (a .rtol .now) (p .0), (list-serves (a .n) (a .atol .now) (p .1), behind-fits _ _ _ (p .2)))
-
-same-length : tie.Need-same-length
-same-length c = search needs
 
 returns : tie.Need-returns
 unfolding ewsetLeft
@@ -30,5 +24,4 @@ unfolding ewsetLeft
 returns-2 c = rw (← c .before .is-weighed .ensures, c .if1 .left)
 
 pub probe-ewset-spec : {M : Type 1} → statement M
-probe-ewset-spec =
-    tie.close (tie.spec is-weighed-requires ewset-requires same-length returns returns-2)
+probe-ewset-spec = tie.close (tie.spec (λ c κs. search needs) ewset-requires (λ c. search needs) returns returns-2)

@@ -8,15 +8,9 @@ use Rattle.probe.proofs.Sizes.{behind-fits}
 use Rattle.probe.proofs.probe_ewset_scalar_like.Statement.{statement}
 use Rattle.probe.proofs.probe_ewset_scalar_like.Tie as tie
 
-is-behind-requires : tie.Need-is-behind-requires
-is-behind-requires c κs = search needs
-
 ewset-scalar-like-requires : tie.Need-ewset-scalar-like-requires
 ewset-scalar-like-requires c κs =
     behind-fits _ _ _ (sym (c .before .before .is-behind .ensures) ∙ c .before .if1 .taken)
-
-same-length : tie.Need-same-length
-same-length c = search needs
 
 returns : tie.Need-returns
 unfolding ewsetLikeLeft
@@ -30,5 +24,4 @@ returns-2 c = rw (← c .before .is-behind .ensures, c .if1 .left)
 
 pub probe-ewset-scalar-like-spec : {M : Type 1} → statement M
 probe-ewset-scalar-like-spec =
-    tie.close
-    (tie.spec is-behind-requires ewset-scalar-like-requires same-length returns returns-2)
+    tie.close (tie.spec (λ c κs. search needs) ewset-scalar-like-requires (λ c. search needs) returns returns-2)

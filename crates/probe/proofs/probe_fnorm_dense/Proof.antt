@@ -7,9 +7,6 @@ use Rattle.probe.proofs.Sizes.{matrix-fits}
 use Rattle.probe.proofs.probe_fnorm_dense.Statement.{statement}
 use Rattle.probe.proofs.probe_fnorm_dense.Tie as tie
 
-is-matrix-requires : tie.Need-is-matrix-requires
-is-matrix-requires c κs = search needs
-
 fnorm-dense-requires : tie.Need-fnorm-dense-requires
 fnorm-dense-requires c κs = matrix-fits _ _ _ (sym (c .before .is-matrix .ensures) ∙ c .if1 .taken)
 
@@ -17,14 +14,10 @@ returns : tie.Need-returns
 unfolding fnormOrNan
 returns c = rw (← c .before .before .is-matrix .ensures, c .before .if1 .taken, c .fnorm-dense .ensures)
 
-not-a-number-requires : tie.Need-not-a-number-requires
-not-a-number-requires c κs = search needs
-
 returns-2 : tie.Need-returns-2
 unfolding fnormOrNan
 returns-2 c = rw (← c .before .before .is-matrix .ensures, c .before .if1 .left, c .not-a-number .ensures)
 
 pub probe-fnorm-dense-spec : {M : Type 1} → statement M
 probe-fnorm-dense-spec =
-    tie.close
-    (tie.spec is-matrix-requires fnorm-dense-requires returns not-a-number-requires returns-2)
+    tie.close (tie.spec (λ c κs. search needs) fnorm-dense-requires returns (λ c κs. search needs) returns-2)

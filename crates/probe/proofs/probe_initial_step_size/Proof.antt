@@ -10,18 +10,9 @@ use Rattle.probe.proofs.Sizes.{list-serves}
 use Rattle.probe.proofs.probe_initial_step_size.Statement.{statement}
 use Rattle.probe.proofs.probe_initial_step_size.Tie as tie
 
-not-a-number-requires : tie.Need-not-a-number-requires
-not-a-number-requires c κs = search needs
-
 returns : tie.Need-returns
 unfolding initialStepOrNan
 returns c = rw (lt-leb _ _ (c .before .if1 .taken), c .not-a-number .ensures)
-
-is-list-requires : tie.Need-is-list-requires
-is-list-requires c κs = search needs
-
-not-a-number-requires-2 : tie.Need-not-a-number-requires-2
-not-a-number-requires-2 c κs = search needs
 
 returns-2 : tie.Need-returns-2
 unfolding initialStepOrNan
@@ -29,9 +20,6 @@ returns-2 c =
     let l = c .before .before in
     let short = not-true (l .is-list .result) (c .before .if2 .taken) in
     rw (le-leb _ _ (l .before .if1 .left), ← l .is-list .ensures, short, c .not-a-number2 .ensures)
-
-is-list-requires-2 : tie.Need-is-list-requires-2
-is-list-requires-2 c κs = search needs
 
 initial-step-size-requires : tie.Need-initial-step-size-requires
 initial-step-size-requires c κs =
@@ -57,9 +45,6 @@ returns-3 c =
     )
     (c .initial-step-size .ensures)
 
-not-a-number-requires-3 : tie.Need-not-a-number-requires-3
-not-a-number-requires-3 c κs = search needs
-
 returns-4 : tie.Need-returns-4
 unfolding initialStepOrNan
 returns-4 c =
@@ -78,13 +63,5 @@ pub probe-initial-step-size-spec : {M : Type 1} → statement M
 probe-initial-step-size-spec =
     tie.close
     (tie.spec
-    not-a-number-requires
-    returns
-    is-list-requires
-    not-a-number-requires-2
-    returns-2
-    is-list-requires-2
-    initial-step-size-requires
-    returns-3
-    not-a-number-requires-3
-    returns-4)
+    (λ c κs. search needs) returns (λ c κs. search needs) (λ c κs. search needs) returns-2 (λ c κs. search needs)
+    initial-step-size-requires returns-3 (λ c κs. search needs) returns-4)

@@ -9,24 +9,15 @@ use Rattle.probe.proofs.Order.{order-within}
 use Rattle.probe.proofs.probe_tesco.Statement.{statement}
 use Rattle.probe.proofs.probe_tesco.Tie as tie
 
-not-a-number-requires : tie.Need-not-a-number-requires
-not-a-number-requires c κs = search needs
-
 returns : tie.Need-returns
 unfolding tescoOrNan
 returns c = rw (c .not-a-number .ensures, lt-leb (c .before .before .args .table) 2 (omega arith))
-
-not-a-number-requires-2 : tie.Need-not-a-number-requires-2
-not-a-number-requires-2 c κs = search needs
 
 returns-2 : tie.Need-returns-2
 unfolding tescoOrNan
 returns-2 c =
     let a = c .before .before .before .args in
     rw (c .not-a-number2 .ensures, le-leb (a .table) 2 (omega arith), lt-leb (a .i) 2 (omega arith))
-
-is-order-requires : tie.Need-is-order-requires
-is-order-requires c κs = search needs
 
 tesco-requires : tie.Need-tesco-requires
 tesco-requires c κs = omega (arith, order-within _ _ (sym (c .before .is-order .ensures) ∙ c .if3 .taken))
@@ -38,9 +29,6 @@ returns-3 c =
     let a = w .before .before .before .args in
     rw (le-leb (a .table) 2 (omega arith), le-leb (a .i) 2 (omega arith), ← w .is-order .ensures, c .before .if3 .taken)
     (c .tesco .ensures)
-
-not-a-number-requires-3 : tie.Need-not-a-number-requires-3
-not-a-number-requires-3 c κs = search needs
 
 returns-4 : tie.Need-returns-4
 unfolding tescoOrNan
@@ -59,12 +47,5 @@ pub probe-tesco-spec : {M : Type 1} → statement M
 probe-tesco-spec =
     tie.close
     (tie.spec
-    not-a-number-requires
-    returns
-    not-a-number-requires-2
-    returns-2
-    is-order-requires
-    tesco-requires
-    returns-3
-    not-a-number-requires-3
-    returns-4)
+    (λ c κs. search needs) returns (λ c κs. search needs) returns-2 (λ c κs. search needs) tesco-requires returns-3
+    (λ c κs. search needs) returns-4)

@@ -6,19 +6,13 @@ use Rattle.probe.specs.Leaves.{vmnormOrNan}
 use Rattle.probe.proofs.probe_vmnorm.Statement.{statement}
 use Rattle.probe.proofs.probe_vmnorm.Tie as tie
 
-vmnorm-requires : tie.Need-vmnorm-requires
-vmnorm-requires c κs = search needs
-
 returns : tie.Need-returns
 unfolding vmnormOrNan
 returns c = rw (le-leb _ _ (c .before .if1 .taken), c .vmnorm .ensures)
-
-not-a-number-requires : tie.Need-not-a-number-requires
-not-a-number-requires c κs = search needs
 
 returns-2 : tie.Need-returns-2
 unfolding vmnormOrNan
 returns-2 c = rw (lt-leb _ _ (c .before .if1 .left), c .not-a-number .ensures)
 
 pub probe-vmnorm-spec : {M : Type 1} → statement M
-probe-vmnorm-spec = tie.close (tie.spec vmnorm-requires returns not-a-number-requires returns-2)
+probe-vmnorm-spec = tie.close (tie.spec (λ c κs. search needs) returns (λ c κs. search needs) returns-2)

@@ -7,21 +7,12 @@ use Rattle.history.proofs.Laws.{lower-range}
 use Rattle.acceptance.proofs.family.change_family.Statement.{statement}
 use Rattle.acceptance.proofs.family.change_family.Tie as tie
 
-other-requires : tie.Need-other-requires
-other-requires c κs = search needs
-
-with-family-requires : tie.Need-with-family-requires
-with-family-requires c κs = search needs
-
 stoda-adjust-step-size-requires : tie.Need-stoda-adjust-step-size-requires
 stoda-adjust-step-size-requires c κs =
     let a = c .before .before .before .before in
     let t = a .pre .1 in
     rw (c .before .with-family .ensures)
     (lower-range _ (a .args .to .order) refl refl refl refl (t .0) (t .1) (a .pre .0), t .2)
-
-same-length : tie.Need-same-length
-same-length c = search needs
 
 returns : tie.Need-returns
 unfolding changedOf
@@ -34,8 +25,4 @@ pub change-family-spec : {M : Type 1} → statement M
 change-family-spec =
     tie.close
     (tie.spec
-    other-requires
-    with-family-requires
-    stoda-adjust-step-size-requires
-    same-length
-    returns)
+    (λ c κs. search needs) (λ c κs. search needs) stoda-adjust-step-size-requires (λ c. search needs) returns)

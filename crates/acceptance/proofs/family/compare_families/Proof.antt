@@ -8,18 +8,6 @@ use Rattle.acceptance.specs.Family.{changeIn, changeOf}
 use Rattle.acceptance.proofs.family.compare_families.Statement.{statement}
 use Rattle.acceptance.proofs.family.compare_families.Tie as tie
 
-enum-told : tie.Need-enum-told
-enum-told c = search needs
-
-to-bdf-requires : tie.Need-to-bdf-requires
-to-bdf-requires c κs = search needs
-
-enum-told-2 : tie.Need-enum-told-2
-enum-told-2 c = search needs
-
-to-adams-requires : tie.Need-to-adams-requires
-to-adams-requires c κs = search needs
-
 returns : tie.Need-returns
 unfolding changeOf
 returns c =
@@ -36,4 +24,6 @@ returns-2 c =
 
 pub compare-families-spec : {M : Type 1} → statement M
 compare-families-spec =
-    tie.close (tie.spec enum-told to-bdf-requires enum-told-2 to-adams-requires returns returns-2)
+    tie.close
+    (tie.spec
+    (λ c. search needs) (λ c κs. search needs) (λ c. search needs) (λ c κs. search needs) returns returns-2)

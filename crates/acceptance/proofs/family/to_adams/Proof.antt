@@ -44,35 +44,11 @@ returns : tie.Need-returns
 unfolding toAdamsOf moveIf
 returns c = rw (lt-ltb _ _ (c .if1 .taken))
 
-adams-proposal-requires : tie.Need-adams-proposal-requires
-adams-proposal-requires c κs = search needs
-
-abs-requires : tie.Need-abs-requires
-abs-requires c κs = search needs
-
 within-stability-requires : tie.Need-within-stability-requires
 within-stability-requires c κs = ordered (c .before .before)
 
-add-size : tie.Need-add-size
-add-size c = search needs
-
-size-requires : tie.Need-size-requires
-size-requires c κs = search needs
-
-max-requires : tie.Need-max-requires
-max-requires c κs = search needs
-
 add-root : tie.Need-add-root
 add-root c = omega (arith, ordered (c .before .before .before .before .before .before .before))
-
-root-requires : tie.Need-root-requires
-root-requires c κs = search needs
-
-abs-requires-2 : tie.Need-abs-requires-2
-abs-requires-2 c κs = search needs
-
-max-requires-2 : tie.Need-max-requires-2
-max-requires-2 c κs = search needs
 
 returns-2 : tie.Need-returns-2
 unfolding toAdamsOf moveIf
@@ -122,17 +98,6 @@ pub to-adams-spec : {M : Type 1} → statement M
 to-adams-spec =
     tie.close
     (tie.spec
-    returns
-    adams-proposal-requires
-    abs-requires
-    within-stability-requires
-    add-size
-    size-requires
-    max-requires
-    add-root
-    root-requires
-    abs-requires-2
-    max-requires-2
-    returns-2
-    returns-3
-    returns-4)
+    returns (λ c κs. search needs) (λ c κs. search needs) within-stability-requires (λ c. search needs)
+    (λ c κs. search needs) (λ c κs. search needs) add-root (λ c κs. search needs) (λ c κs. search needs)
+    (λ c κs. search needs) returns-2 returns-3 returns-4)

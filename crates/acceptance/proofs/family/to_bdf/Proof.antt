@@ -10,27 +10,6 @@ returns : tie.Need-returns
 unfolding toBdfOf moveIf
 returns c = rw (lt-leb _ _ (c .if1 .taken))
 
-add-size : tie.Need-add-size
-add-size c = search needs
-
-size-requires : tie.Need-size-requires
-size-requires c κs = search needs
-
-abs-requires : tie.Need-abs-requires
-abs-requires c κs = search needs
-
-within-stability-requires : tie.Need-within-stability-requires
-within-stability-requires c κs = search needs
-
-bdf-proposal-requires : tie.Need-bdf-proposal-requires
-bdf-proposal-requires c κs = search needs
-
-abs-requires-2 : tie.Need-abs-requires-2
-abs-requires-2 c κs = search needs
-
-max-requires : tie.Need-max-requires
-max-requires c κs = search needs
-
 returns-2 : tie.Need-returns-2
 unfolding toBdfOf moveIf
 returns-2 c =
@@ -80,15 +59,5 @@ pub to-bdf-spec : {M : Type 1} → statement M
 to-bdf-spec =
     tie.close
     (tie.spec
-    returns
-    add-size
-    size-requires
-    abs-requires
-    within-stability-requires
-    bdf-proposal-requires
-    abs-requires-2
-    max-requires
-    returns-2
-    returns-3
-    returns-4
-    returns-5)
+    returns (λ c. search needs) (λ c κs. search needs) (λ c κs. search needs) (λ c κs. search needs)
+    (λ c κs. search needs) (λ c κs. search needs) (λ c κs. search needs) returns-2 returns-3 returns-4 returns-5)

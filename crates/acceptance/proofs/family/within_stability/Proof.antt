@@ -4,21 +4,12 @@ use borrow.Author.Needs.{needs}
 use Rattle.acceptance.proofs.family.within_stability.Statement.{statement}
 use Rattle.acceptance.proofs.family.within_stability.Tie as tie
 
-sm1-requires : tie.Need-sm1-requires
-sm1-requires c κs = search needs
-
-min-requires : tie.Need-min-requires
-min-requires c κs = search needs
-
 returns : tie.Need-returns
 returns c = rw (c .min .ensures, c .before .sm1 .ensures, c .before .before .if1 .taken)
-
-min-requires-2 : tie.Need-min-requires-2
-min-requires-2 c κs = search needs
 
 returns-2 : tie.Need-returns-2
 returns-2 c = rw (c .min2 .ensures, c .before .if1 .left)
 
 pub within-stability-spec : {M : Type 1} → statement M
 within-stability-spec =
-    tie.close (tie.spec sm1-requires min-requires returns min-requires-2 returns-2)
+    tie.close (tie.spec (λ c κs. search needs) (λ c κs. search needs) returns (λ c κs. search needs) returns-2)

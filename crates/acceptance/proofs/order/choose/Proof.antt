@@ -11,35 +11,17 @@ use Rattle.acceptance.proofs.order.choose.Tie as tie
 less : (c : tie.Joined1) → sameLargest (c .before .before .before .args .f) ≡ false
 less c = ⊎-elim (λ w. rw (w .0 .taken, w .2 .left)) (λ w. rw (w .left)) (c .if1 .came)
 
-settle-requires : tie.Need-settle-requires
-settle-requires c κs = search needs
-
-same-length : tie.Need-same-length
-same-length c = search needs
-
 returns : tie.Need-returns
 unfolding chooseOf
 returns c =
     let t = c .before .before .before .before in
     rw (t .before .before .if1 .taken, t .if2 .taken) (c .before .before .settle .ensures)
 
-raise-requires : tie.Need-raise-requires
-raise-requires c κs = search needs
-
-same-length-2 : tie.Need-same-length-2
-same-length-2 c = search needs
-
 returns-2 : tie.Need-returns-2
 unfolding chooseOf
 returns-2 c =
     let t = c .before .before .before .before in
     rw (less (t .before .before), t .if3 .taken) (c .before .before .raise .ensures)
-
-lower-requires : tie.Need-lower-requires
-lower-requires c κs = search needs
-
-same-length-3 : tie.Need-same-length-3
-same-length-3 c = search needs
 
 returns-3 : tie.Need-returns-3
 unfolding chooseOf
@@ -51,12 +33,5 @@ pub choose-spec : {M : Type 1} → statement M
 choose-spec =
     tie.close
     (tie.spec
-    settle-requires
-    same-length
-    returns
-    raise-requires
-    same-length-2
-    returns-2
-    lower-requires
-    same-length-3
-    returns-3)
+    (λ c κs. search needs) (λ c. search needs) returns (λ c κs. search needs) (λ c. search needs) returns-2
+    (λ c κs. search needs) (λ c. search needs) returns-3)

@@ -8,33 +8,12 @@ use Rattle.history.proofs.Laws.{same-range}
 use Rattle.acceptance.proofs.order.choose_order.Statement.{statement}
 use Rattle.acceptance.proofs.order.choose_order.Tie as tie
 
-raised-size-requires : tie.Need-raised-size-requires
-raised-size-requires c κs = search needs
-
-add-size : tie.Need-add-size
-add-size c = search needs
-
-size-requires : tie.Need-size-requires
-size-requires c κs = search needs
-
-lowered-size-requires : tie.Need-lowered-size-requires
-lowered-size-requires c κs = search needs
-
-limited-factors-requires : tie.Need-limited-factors-requires
-limited-factors-requires c κs = search needs
-
-forget-estimate-requires : tie.Need-forget-estimate-requires
-forget-estimate-requires c κs = search needs
-
 choose-requires : tie.Need-choose-requires
 choose-requires c κs =
     let a = c .before .before .before .before .before .before .before .before .before .before .before .before in
     let p = a .pre .1 in
     rw (c .before .forget-estimate .ensures)
     (same-range _ refl refl refl refl (a .pre .0), (p .2, p .1, omega arith))
-
-same-length : tie.Need-same-length
-same-length c = search needs
 
 returns : tie.Need-returns
 unfolding chooseOrderOf
@@ -52,12 +31,5 @@ pub choose-order-spec : {M : Type 1} → statement M
 choose-order-spec =
     tie.close
     (tie.spec
-    raised-size-requires
-    add-size
-    size-requires
-    lowered-size-requires
-    limited-factors-requires
-    forget-estimate-requires
-    choose-requires
-    same-length
-    returns)
+    (λ c κs. search needs) (λ c. search needs) (λ c κs. search needs) (λ c κs. search needs) (λ c κs. search needs)
+    (λ c κs. search needs) choose-requires (λ c. search needs) returns)

@@ -5,9 +5,6 @@ use borrow.Author.Needs.{needs}
 use Rattle.acceptance.proofs.order.forget_estimate.Statement.{statement}
 use Rattle.acceptance.proofs.order.forget_estimate.Tie as tie
 
-is-bdf-requires : tie.Need-is-bdf-requires
-is-bdf-requires c κs = search needs
-
 returns : tie.Need-returns
 returns c = rw (sym (c .before .is-bdf .ensures) ∙ c .if1 .taken)
 
@@ -15,4 +12,4 @@ returns-2 : tie.Need-returns-2
 returns-2 c = rw (sym (c .before .is-bdf .ensures) ∙ c .if1 .left)
 
 pub forget-estimate-spec : {M : Type 1} → statement M
-forget-estimate-spec = tie.close (tie.spec is-bdf-requires returns returns-2)
+forget-estimate-spec = tie.close (tie.spec (λ c κs. search needs) returns returns-2)

@@ -33,42 +33,9 @@ above c =
     (λ w. w .1 ∙ rw (le-ltb _ _ (w .0 .left)))
     (c .if2 .came)
 
-is-bdf-requires : tie.Need-is-bdf-requires
-is-bdf-requires c κs = search needs
-
 returns : tie.Need-returns
 unfolding limitedFactorsOf
 returns c = rw (sym (c .before .is-bdf .ensures) ∙ c .if1 .taken)
-
-pdh-requires : tie.Need-pdh-requires
-pdh-requires c κs = search needs
-
-add-if2 : tie.Need-add-if2
-add-if2 c = search needs
-
-add-sm1 : tie.Need-add-sm1
-add-sm1 c = search needs
-
-sm1-requires : tie.Need-sm1-requires
-sm1-requires c κs = search needs
-
-min-requires : tie.Need-min-requires
-min-requires c κs = search needs
-
-sm1-requires-2 : tie.Need-sm1-requires-2
-sm1-requires-2 c κs = search needs
-
-min-requires-2 : tie.Need-min-requires-2
-min-requires-2 c κs = search needs
-
-sub-sm1 : tie.Need-sub-sm1
-sub-sm1 c = search needs
-
-sm1-requires-3 : tie.Need-sm1-requires-3
-sm1-requires-3 c κs = search needs
-
-min-requires-3 : tie.Need-min-requires-3
-min-requires-3 c κs = search needs
 
 returns-2 : tie.Need-returns-2
 unfolding limitedFactorsOf
@@ -108,17 +75,6 @@ pub limited-factors-spec : {M : Type 1} → statement M
 limited-factors-spec =
     tie.close
     (tie.spec
-    is-bdf-requires
-    returns
-    pdh-requires
-    add-if2
-    add-sm1
-    sm1-requires
-    min-requires
-    sm1-requires-2
-    min-requires-2
-    sub-sm1
-    sm1-requires-3
-    min-requires-3
-    returns-2
-    returns-3)
+    (λ c κs. search needs) returns (λ c κs. search needs) (λ c. search needs) (λ c. search needs)
+    (λ c κs. search needs) (λ c κs. search needs) (λ c κs. search needs) (λ c κs. search needs) (λ c. search needs)
+    (λ c κs. search needs) (λ c κs. search needs) returns-2 returns-3)

@@ -10,15 +10,6 @@ returns : tie.Need-returns
 unfolding lowerOf
 returns c = rw (eq-eqb _ _ (c .if1 .taken))
 
-sub-t8 : tie.Need-sub-t8
-sub-t8 c = search needs
-
-settle-requires : tie.Need-settle-requires
-settle-requires c κs = search needs
-
-same-length : tie.Need-same-length
-same-length c = search needs
-
 returns-2 : tie.Need-returns-2
 unfolding lowerOf
 returns-2 c =
@@ -26,4 +17,4 @@ returns-2 c =
     rw (ne-eqb _ _ (t .if1 .left)) (c .before .before .settle .ensures)
 
 pub lower-spec : {M : Type 1} → statement M
-lower-spec = tie.close (tie.spec returns sub-t8 settle-requires same-length returns-2)
+lower-spec = tie.close (tie.spec returns (λ c. search needs) (λ c κs. search needs) (λ c. search needs) returns-2)

@@ -10,15 +10,6 @@ returns : tie.Need-returns
 unfolding loweredSizeOf
 returns c = rw (eq-eqb _ _ (c .if1 .taken))
 
-column-size-requires : tie.Need-column-size-requires
-column-size-requires c κs = search needs
-
-tesco-requires : tie.Need-tesco-requires
-tesco-requires c κs = search needs
-
-size-requires : tie.Need-size-requires
-size-requires c κs = search needs
-
 returns-2 : tie.Need-returns-2
 unfolding loweredSizeOf
 returns-2 c =
@@ -31,4 +22,4 @@ returns-2 c =
 
 pub lowered-size-spec : {M : Type 1} → statement M
 lowered-size-spec =
-    tie.close (tie.spec returns column-size-requires tesco-requires size-requires returns-2)
+    tie.close (tie.spec returns (λ c κs. search needs) (λ c κs. search needs) (λ c κs. search needs) returns-2)

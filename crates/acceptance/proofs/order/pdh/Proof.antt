@@ -4,14 +4,8 @@ use borrow.Author.Needs.{needs}
 use Rattle.acceptance.proofs.order.pdh.Statement.{statement}
 use Rattle.acceptance.proofs.order.pdh.Tie as tie
 
-abs-requires : tie.Need-abs-requires
-abs-requires c κs = search needs
-
-max-requires : tie.Need-max-requires
-max-requires c κs = search needs
-
 returns : tie.Need-returns
 returns c = rw (c .max .ensures, c .before .before .abs .ensures)
 
 pub pdh-spec : {M : Type 1} → statement M
-pdh-spec = tie.close (tie.spec abs-requires max-requires returns)
+pdh-spec = tie.close (tie.spec (λ c κs. search needs) (λ c κs. search needs) returns)

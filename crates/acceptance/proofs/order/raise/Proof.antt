@@ -8,9 +8,6 @@ use Rattle.acceptance.specs.Order.{raiseOf}
 use Rattle.acceptance.proofs.order.raise.Statement.{statement}
 use Rattle.acceptance.proofs.order.raise.Tie as tie
 
-add-l : tie.Need-add-l
-add-l c = search needs
-
 returns : tie.Need-returns
 unfolding raiseOf
 returns c = rw (eq-eqb _ _ (c .if1 .taken))
@@ -19,27 +16,12 @@ returns-2 : tie.Need-returns-2
 unfolding raiseOf
 returns-2 c = rw (ne-eqb _ _ (c .before .if1 .left), c .if2 .taken)
 
-cast-count : tie.Need-cast-count
-cast-count c = search needs
-
 el-requires : tie.Need-el-requires
 el-requires c κs =
     let a = c .before .before .before .before .before in
     let p = a .pre .0 in
     let first = within (a .args .s .n) (a .args .c .nq) 0 (p .order .0) in
     (p .n .0, p .table, omega (arith, first), p .used .1, p .order .1)
-
-int-to-float-r : tie.Need-int-to-float-r
-int-to-float-r c = search needs
-
-set-column-requires : tie.Need-set-column-requires
-set-column-requires c κs = search needs
-
-settle-requires : tie.Need-settle-requires
-settle-requires c κs = search needs
-
-same-length : tie.Need-same-length
-same-length c = search needs
 
 returns-3 : tie.Need-returns-3
 unfolding raiseOf
@@ -53,13 +35,5 @@ pub raise-spec : {M : Type 1} → statement M
 raise-spec =
     tie.close
     (tie.spec
-    add-l
-    returns
-    returns-2
-    cast-count
-    el-requires
-    int-to-float-r
-    set-column-requires
-    settle-requires
-    same-length
-    returns-3)
+    (λ c. search needs) returns returns-2 (λ c. search needs) el-requires (λ c. search needs) (λ c κs. search needs)
+    (λ c κs. search needs) (λ c. search needs) returns-3)

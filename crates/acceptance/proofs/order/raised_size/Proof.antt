@@ -6,35 +6,11 @@ use Rattle.acceptance.specs.Order.{raisedSizeOf, raisedLeftOf}
 use Rattle.acceptance.proofs.order.raised_size.Statement.{statement}
 use Rattle.acceptance.proofs.order.raised_size.Tie as tie
 
-add-l : tie.Need-add-l
-add-l c = search needs
-
 returns : tie.Need-returns
 unfolding raisedSizeOf raisedLeftOf
 returns c =
     let last = eq-eqb _ _ (c .if1 .taken) in
     (rw last, rw last)
-
-set-raised-requires : tie.Need-set-raised-requires
-set-raised-requires c κs = search needs
-
-mul-norm-at : tie.Need-mul-norm-at
-mul-norm-at c = search needs
-
-norm-at-requires : tie.Need-norm-at-requires
-norm-at-requires c κs = search needs
-
-tesco-requires : tie.Need-tesco-requires
-tesco-requires c κs = search needs
-
-add-size : tie.Need-add-size
-add-size c = search needs
-
-size-requires : tie.Need-size-requires
-size-requires c κs = search needs
-
-same-length : tie.Need-same-length
-same-length c = search needs
 
 returns-2 : tie.Need-returns-2
 unfolding raisedSizeOf raisedLeftOf
@@ -50,13 +26,5 @@ pub raised-size-spec : {M : Type 1} → statement M
 raised-size-spec =
     tie.close
     (tie.spec
-    add-l
-    returns
-    set-raised-requires
-    mul-norm-at
-    norm-at-requires
-    tesco-requires
-    add-size
-    size-requires
-    same-length
-    returns-2)
+    (λ c. search needs) returns (λ c κs. search needs) (λ c. search needs) (λ c κs. search needs)
+    (λ c κs. search needs) (λ c. search needs) (λ c κs. search needs) (λ c. search needs) returns-2)

@@ -20,18 +20,6 @@ loop-holds : tie.Need-loop-holds Inv-loop μ-loop
 unfolding raiseColumnOf
 loop-holds c = (refl, refl)
 
-mul-work : tie.Need-mul-work Inv-loop μ-loop
-mul-work c = omega arith
-
-add-work : tie.Need-add-work Inv-loop μ-loop
-add-work c = omega arith
-
-mul-work-2 : tie.Need-mul-work-2 Inv-loop μ-loop
-mul-work-2 c = omega arith
-
-slice-read-work : tie.Need-slice-read-work Inv-loop μ-loop
-slice-read-work c = omega arith
-
 mul-work-3 : tie.Need-mul-work-3 Inv-loop μ-loop
 mul-work-3 c =
     let a = c .before .before .before .args in
@@ -52,17 +40,8 @@ slice-write-work c =
     let a = c .before .before .before .args in
     omega (arith, within (a .n) 13 (a .j) (omega arith))
 
-add-i : tie.Need-add-i Inv-loop μ-loop
-add-i c = omega arith
-
-loop-less : tie.Need-loop-less Inv-loop μ-loop
-loop-less c = omega arith
-
 loop-again : tie.Need-loop-again Inv-loop μ-loop
 loop-again c = (simp length-set (omega arith), again _ _ _ _ _ (omega arith) (c .before .before .loop .inv .1))
-
-same-length : tie.Need-same-length Inv-loop μ-loop
-same-length c = omega arith
 
 returns : tie.Need-returns Inv-loop μ-loop
 returns c = ended _ _ _ _ _ (omega arith) (c .before .loop .inv .1)
@@ -71,19 +50,5 @@ pub set-column-spec : {M : Type 1} → statement M
 set-column-spec =
     tie.close
     (tie.spec
-    Inv-loop
-    μ-loop
-    loop-holds
-    mul-work
-    add-work
-    mul-work-2
-    slice-read-work
-    mul-work-3
-    add-work-2
-    mul-work-4
-    slice-write-work
-    add-i
-    loop-less
-    loop-again
-    same-length
-    returns)
+    Inv-loop μ-loop loop-holds (λ c. omega arith) (λ c. omega arith) (λ c. omega arith) (λ c. omega arith) mul-work-3
+    add-work-2 mul-work-4 slice-write-work (λ c. omega arith) (λ c. omega arith) loop-again (λ c. omega arith) returns)

@@ -8,9 +8,6 @@ use Rattle.history.proofs.Laws.{reset-range}
 use Rattle.acceptance.proofs.order.settle.Statement.{statement}
 use Rattle.acceptance.proofs.order.settle.Tie as tie
 
-is-held-requires : tie.Need-is-held-requires
-is-held-requires c κs = search needs
-
 returns : tie.Need-returns
 unfolding settleOf
 returns c = rw (sym (c .before .is-held .ensures) ∙ c .if1 .taken)
@@ -20,18 +17,6 @@ unfolding settleOf
 returns-2 c =
     let t = c .before .before in
     rw (sym (t .before .is-held .ensures) ∙ t .if1 .left, c .if2 .taken)
-
-abs-requires : tie.Need-abs-requires
-abs-requires c κs = search needs
-
-max-requires : tie.Need-max-requires
-max-requires c κs = search needs
-
-stoda-adjust-step-size-requires : tie.Need-stoda-adjust-step-size-requires
-stoda-adjust-step-size-requires c κs = search needs
-
-same-length : tie.Need-same-length
-same-length c = search needs
 
 returns-3 : tie.Need-returns-3
 unfolding settleOf
@@ -52,18 +37,12 @@ returns-3 c =
       eq-eqb _ _ (t3 .if3 .taken),
     )
 
-stoda-reset-requires : tie.Need-stoda-reset-requires
-stoda-reset-requires c κs = search needs
-
 stoda-adjust-step-size-requires-2 : tie.Need-stoda-adjust-step-size-requires-2
 stoda-adjust-step-size-requires-2 c κs =
     let r = c .before in
     let a = r .before .before .before .before .before .before .before .before .before .before .before .before in
     let p = a .pre .1 in
     rw (r .stoda-reset .ensures) (reset-range _ (p .0) (p .1) (a .pre .0), p .2)
-
-same-length-2 : tie.Need-same-length-2
-same-length-2 c = search needs
 
 returns-4 : tie.Need-returns-4
 unfolding settleOf
@@ -89,15 +68,6 @@ pub settle-spec : {M : Type 1} → statement M
 settle-spec =
     tie.close
     (tie.spec
-    is-held-requires
-    returns
-    returns-2
-    abs-requires
-    max-requires
-    stoda-adjust-step-size-requires
-    same-length
-    returns-3
-    stoda-reset-requires
-    stoda-adjust-step-size-requires-2
-    same-length-2
+    (λ c κs. search needs) returns returns-2 (λ c κs. search needs) (λ c κs. search needs) (λ c κs. search needs)
+    (λ c. search needs) returns-3 (λ c κs. search needs) stoda-adjust-step-size-requires-2 (λ c. search needs)
     returns-4)

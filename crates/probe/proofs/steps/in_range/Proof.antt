@@ -44,9 +44,6 @@ returns-4 c =
       lt-leb (a .table) 2 (omega arith),
     )
 
-mul-if5 : tie.Need-mul-if5
-mul-if5 c = search needs
-
 returns-5 : tie.Need-returns-5
 unfolding inRange
 returns-5 c =
@@ -58,12 +55,6 @@ returns-5 c =
       le-leb (a .table) 2 (omega arith),
       lt-leb (19 * a .n) (a .work) (omega arith),
     )
-
-mul-are-columns : tie.Need-mul-are-columns
-mul-are-columns c = search needs
-
-are-columns-requires : tie.Need-are-columns-requires
-are-columns-requires c κs = search needs
 
 returns-6 : tie.Need-returns-6
 unfolding inRange
@@ -82,12 +73,5 @@ pub in-range-spec : {M : Type 1} → statement M
 in-range-spec =
     tie.close
     (tie.spec
-    returns
-    returns-2
-    returns-3
-    returns-4
-    mul-if5
-    returns-5
-    mul-are-columns
-    are-columns-requires
+    returns returns-2 returns-3 returns-4 (λ c. search needs) returns-5 (λ c. search needs) (λ c κs. search needs)
     returns-6)

@@ -14,21 +14,6 @@ returns-2 : tie.Need-returns-2
 unfolding isUsable
 returns-2 c = rw (eq-eqb _ _ (c .before .if1 .left), ne-eqb _ _ (c .if2 .taken))
 
-shared-slice-read-are-limits : tie.Need-shared-slice-read-are-limits
-shared-slice-read-are-limits c = search needs
-
-shared-slice-read-are-limits-2 : tie.Need-shared-slice-read-are-limits-2
-shared-slice-read-are-limits-2 c = search needs
-
-shared-slice-read-are-limits-3 : tie.Need-shared-slice-read-are-limits-3
-shared-slice-read-are-limits-3 c = search needs
-
-shared-slice-read-are-limits-4 : tie.Need-shared-slice-read-are-limits-4
-shared-slice-read-are-limits-4 c = search needs
-
-are-limits-requires : tie.Need-are-limits-requires
-are-limits-requires c κs = search needs
-
 returns-3 : tie.Need-returns-3
 unfolding isUsable
 returns-3 c =
@@ -40,21 +25,6 @@ returns-3 c =
       ← l .are-limits .ensures,
       not-true (l .are-limits .result) (c .if3 .taken),
     )
-
-shared-slice-read-in-range : tie.Need-shared-slice-read-in-range
-shared-slice-read-in-range c = search needs
-
-shared-slice-read-in-range-2 : tie.Need-shared-slice-read-in-range-2
-shared-slice-read-in-range-2 c = search needs
-
-shared-slice-read-in-range-3 : tie.Need-shared-slice-read-in-range-3
-shared-slice-read-in-range-3 c = search needs
-
-shared-slice-read-in-range-4 : tie.Need-shared-slice-read-in-range-4
-shared-slice-read-in-range-4 c = search needs
-
-in-range-requires : tie.Need-in-range-requires
-in-range-requires c κs = search needs
 
 returns-4 : tie.Need-returns-4
 unfolding isUsable
@@ -73,17 +43,6 @@ pub is-usable-spec : {M : Type 1} → statement M
 is-usable-spec =
     tie.close
     (tie.spec
-    returns
-    returns-2
-    shared-slice-read-are-limits
-    shared-slice-read-are-limits-2
-    shared-slice-read-are-limits-3
-    shared-slice-read-are-limits-4
-    are-limits-requires
-    returns-3
-    shared-slice-read-in-range
-    shared-slice-read-in-range-2
-    shared-slice-read-in-range-3
-    shared-slice-read-in-range-4
-    in-range-requires
-    returns-4)
+    returns returns-2 (λ c. search needs) (λ c. search needs) (λ c. search needs) (λ c. search needs)
+    (λ c κs. search needs) returns-3 (λ c. search needs) (λ c. search needs) (λ c. search needs) (λ c. search needs)
+    (λ c κs. search needs) returns-4)

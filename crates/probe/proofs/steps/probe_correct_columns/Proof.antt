@@ -7,9 +7,6 @@ use Rattle.probe.proofs.Usable.{usable}
 use Rattle.probe.proofs.steps.probe_correct_columns.Statement.{statement}
 use Rattle.probe.proofs.steps.probe_correct_columns.Tie as tie
 
-is-usable-requires : tie.Need-is-usable-requires
-is-usable-requires c κs = search needs
-
 settings-requires : tie.Need-settings-requires
 settings-requires c κs =
     let t = usable _ _ _ (sym (c .before .is-usable .ensures) ∙ c .if1 .taken) in
@@ -26,9 +23,6 @@ correct-columns-requires c κs =
     let a = b .before in
     let t = usable _ _ _ (sym (a .before .before .is-usable .ensures) ∙ a .before .if1 .taken) in
     rw (b .common .ensures, a .settings .ensures) (t .range, t .long)
-
-same-length : tie.Need-same-length
-same-length c = search needs
 
 returns : tie.Need-returns
 unfolding correctLeft
@@ -52,10 +46,5 @@ pub probe-correct-columns-spec : {M : Type 1} → statement M
 probe-correct-columns-spec =
     tie.close
     (tie.spec
-    is-usable-requires
-    settings-requires
-    common-requires
-    correct-columns-requires
-    same-length
-    returns
+    (λ c κs. search needs) settings-requires common-requires correct-columns-requires (λ c. search needs) returns
     returns-2)

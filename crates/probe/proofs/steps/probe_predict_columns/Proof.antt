@@ -7,16 +7,10 @@ use Rattle.probe.proofs.Usable.{columns-fit}
 use Rattle.probe.proofs.steps.probe_predict_columns.Statement.{statement}
 use Rattle.probe.proofs.steps.probe_predict_columns.Tie as tie
 
-are-columns-requires : tie.Need-are-columns-requires
-are-columns-requires c κs = search needs
-
 predict-columns-requires : tie.Need-predict-columns-requires
 predict-columns-requires c κs =
     let f = columns-fit _ _ _ _ (sym (c .before .before .are-columns .ensures) ∙ c .before .if1 .taken) in
     (f .1, f .2)
-
-same-length : tie.Need-same-length
-same-length c = search needs
 
 returns : tie.Need-returns
 unfolding predictLeft
@@ -31,5 +25,4 @@ returns-2 c = rw (← c .before .are-columns .ensures, c .if1 .left)
 
 pub probe-predict-columns-spec : {M : Type 1} → statement M
 probe-predict-columns-spec =
-    tie.close
-    (tie.spec are-columns-requires predict-columns-requires same-length returns returns-2)
+    tie.close (tie.spec (λ c κs. search needs) predict-columns-requires (λ c. search needs) returns returns-2)

@@ -7,16 +7,10 @@ use Rattle.probe.proofs.Usable.{columns-fit}
 use Rattle.probe.proofs.steps.probe_retract_columns.Statement.{statement}
 use Rattle.probe.proofs.steps.probe_retract_columns.Tie as tie
 
-are-columns-requires : tie.Need-are-columns-requires
-are-columns-requires c κs = search needs
-
 retract-columns-requires : tie.Need-retract-columns-requires
 retract-columns-requires c κs =
     let f = columns-fit _ _ _ _ (sym (c .before .before .are-columns .ensures) ∙ c .before .if1 .taken) in
     (f .1, f .2)
-
-same-length : tie.Need-same-length
-same-length c = search needs
 
 returns : tie.Need-returns
 unfolding retractLeft
@@ -31,5 +25,4 @@ returns-2 c = rw (← c .before .are-columns .ensures, c .if1 .left)
 
 pub probe-retract-columns-spec : {M : Type 1} → statement M
 probe-retract-columns-spec =
-    tie.close
-    (tie.spec are-columns-requires retract-columns-requires same-length returns returns-2)
+    tie.close (tie.spec (λ c κs. search needs) retract-columns-requires (λ c. search needs) returns returns-2)

@@ -14,9 +14,6 @@ use Rattle.probe.proofs.Usable.{usable}
 use Rattle.probe.proofs.steps.probe_snapshot_step.Statement.{statement}
 use Rattle.probe.proofs.steps.probe_snapshot_step.Tie as tie
 
-is-usable-requires : tie.Need-is-usable-requires
-is-usable-requires c κs = search needs
-
 returns : tie.Need-returns
 unfolding snapshotLeft
 returns c = rw (← c .before .is-usable .ensures, not-true (c .before .is-usable .result) (c .if1 .taken))
@@ -72,9 +69,6 @@ snapshot-step-requires c κs =
     rw (s .settings .ensures) (omega (arith, t .long)) in
     rw (b .common .ensures) (range .0, range .1, t .range .order .1, long, b .before .if2 .left)
 
-same-length : tie.Need-same-length
-same-length c = search needs
-
 returns-3 : tie.Need-returns-3
 unfolding snapshotLeft
 returns-3 c =
@@ -99,13 +93,5 @@ pub probe-snapshot-step-spec : {M : Type 1} → statement M
 probe-snapshot-step-spec =
     tie.close
     (tie.spec
-    is-usable-requires
-    returns
-    settings-requires
-    mul-if2
-    add-if2
-    returns-2
-    common-requires
-    snapshot-step-requires
-    same-length
-    returns-3)
+    (λ c κs. search needs) returns settings-requires mul-if2 add-if2 returns-2 common-requires snapshot-step-requires
+    (λ c. search needs) returns-3)
