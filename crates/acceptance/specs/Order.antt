@@ -8,9 +8,8 @@ use lib.ListN.{getD, set}
 use lib.Ieee as Ieee
 use lib.Ieee.{Float, nan}
 use Rattle.loops.specs.For.{for}
-use Rattle.numbers.specs.Float.{_⊖_, _⊗_, _⊘_, whole, zeroF, d1e-6, d1·1, d1·2, d1·2e-6, d1·3, d1·3e-6, d1·4, d1·4e-6}
+use Rattle.numbers.specs.Float.{_⊖_, _⊗_, _⊘_, whole, zeroF, d1·1, d1·2, d1·2e-6, d1·3, d1·3e-6, d1·4, d1·4e-6}
 use Rattle.numbers.specs.Float.{d1·00001}
-use Rattle.numbers.specs.Sign.{absOf}
 use Rattle.numbers.specs.Order.{maxOf, minOf}
 use Rattle.coefficients.specs.Table.{tescoOf, sm1Of}
 use Rattle.common.specs.declared.Settings.{Settings}
@@ -20,7 +19,7 @@ use Rattle.common.specs.Record.{isBdf, with-ialth, with-nq, with-pdest}
 use Rattle.common.specs.Rules.{elOf, resetOf}
 use Rattle.history.specs.Parts.{normAtOf}
 use Rattle.history.specs.Columns.{rescaleColumnsOf}
-use Rattle.history.specs.Steps.{leastOf, limitedOf, adjustOf}
+use Rattle.history.specs.Steps.{leastOf, pdhOf, limitedOf, adjustOf}
 use Rattle.acceptance.specs.declared.family.Proposal.{Proposal}
 use Rattle.acceptance.specs.Size.{sizeOf, columnSizeOf}
 use Rattle.acceptance.specs.declared.Branch.{Branch}
@@ -34,10 +33,6 @@ pub record Settled : Type 0 where
   pub work : List Float
 
 -- ---- the three factors
-
--- max(|h|·pdlast, 1e-6)
-abbrev pub pdhOf : Common → Float
-pdhOf c = maxOf (absOf (c .h) ⊗ c .pdlast) d1e-6
 
 -- savf = acor - column lmax - 1
 abbrev pub raisedAt : ℕ → ℕ → ℕ → List Float → List Float

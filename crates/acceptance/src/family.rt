@@ -100,7 +100,7 @@ fn to_bdf(s: Settings, c: Common, dsm: f64, work: &[f64]) -> Change
             );
             let p = bdf_proposal(s, c, dsm, work);
             if p.rh >= 5.0 * rh1 {
-                let rh = numbers::max(p.rh, c.hmin / numbers::abs(c.h));
+                let rh = numbers::max(p.rh, history::least(c));
                 return Change::To(Move {
                     rh: rh,
                     order: p.order,
@@ -156,7 +156,7 @@ fn to_adams(s: Settings, c: Common, dsm: f64, work: &[f64]) -> Change
         let dm1 = root::root(numbers::max(rh1, 0.001), order + 1).value * p.error;
         if dm1 > 1000.0 * 2.220446049250313e-16 * c.pnorm {
             return Change::To(Move {
-                rh: numbers::max(rh1, c.hmin / numbers::abs(c.h)),
+                rh: numbers::max(rh1, history::least(c)),
                 order: order,
             });
         }

@@ -1,4 +1,5 @@
 // An accepted step, as in `stoda`: the columns corrected, the family test or the order choice, and the end of the step.
+// The family test and the change of family are in family.rt, the order choice in order.rt.
 ghost use mathlib.Core.Path.{_≡_};
 ghost use Prim.Native.Nat.{_+_, _-_, _^_, _≤_, _<_};
 ghost use lib.ListN.{length};

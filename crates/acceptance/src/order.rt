@@ -5,7 +5,7 @@ ghost use lib.ListN.{length};
 ghost use Rattle.common.specs.Limits.{maxStates};
 ghost use Rattle.common.specs.Layout.{matrixAt};
 ghost use Rattle.history.specs.Steps.{StepInRange};
-ghost use Rattle.acceptance.specs.Order.{Settled, pdhOf, raisedWorkOf, raisedLeftOf, raisedSizeOf, loweredSizeOf};
+ghost use Rattle.acceptance.specs.Order.{Settled, raisedWorkOf, raisedLeftOf, raisedSizeOf, loweredSizeOf};
 ghost use Rattle.acceptance.specs.Order.{limitedFactorsOf, heldOf, settleOf, raiseColumnOf, raiseOf, lowerOf};
 ghost use Rattle.acceptance.specs.Order.{chooseOf, forgottenOf, chooseOrderOf};
 use common::Common;
@@ -14,13 +14,6 @@ use crate::Branch;
 use crate::Chosen;
 use crate::family;
 use crate::family::Proposal;
-
-// The step times the last estimate of the Jacobian's norm, at least 1e-6.
-fn pdh(c: Common) -> f64
-    ensures { λ r. ⌜ r ≡ pdhOf c ⌝ }
-{
-    numbers::max(numbers::abs(c.h) * c.pdlast, 1.0e-6)
-}
 
 // savf becomes the difference of the correction from column lmax - 1.
 fn set_raised(work: &mut [f64], n: usize, lmax: usize)
@@ -78,7 +71,7 @@ fn limited_factors(c: Common, f: Factors) -> Factors
     if common::is_bdf(meth) {
         return f;
     }
-    let d = pdh(c);
+    let d = history::pdh(c);
     let mut r = f;
     if c.nq + 1 < c.lmax {
         r.up = numbers::min(f.up, coefficients::sm1(c.nq + 1) / d);
@@ -109,7 +102,7 @@ fn is_held(c: Common, p: Proposal) -> bool
     if common::is_bdf(meth) {
         return false;
     }
-    p.rh * pdh(c) * 1.00001 >= coefficients::sm1(p.order)
+    p.rh * history::pdh(c) * 1.00001 >= coefficients::sm1(p.order)
 }
 
 // A proposal is taken, unless it is held or gains less than a tenth.
@@ -133,7 +126,7 @@ fn settle(s: Settings, c: Common, p: Proposal, branch: Branch, work: &mut [f64])
             common: d,
         };
     }
-    let rh = numbers::max(p.rh, c.hmin / numbers::abs(c.h));
+    let rh = numbers::max(p.rh, history::least(c));
     if p.order == c.nq {
         return Chosen {
             branch: branch,

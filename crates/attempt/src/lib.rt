@@ -5,7 +5,7 @@ ghost use Prim.Native.Nat.{_^_, _≤_, _<_};
 ghost use lib.ListN.{length};
 ghost use Rattle.common.specs.Layout.{matrixAt};
 ghost use Rattle.common.specs.State.{Moved};
-ghost use Rattle.history.specs.Steps.{StepInRange, leastOf};
+ghost use Rattle.history.specs.Steps.{StepInRange};
 ghost use Rattle.history.specs.Columns.{retractColumnsOf};
 ghost use Rattle.attempt.specs.Attempt.{Attempt, retractedOf, repredictOf, noConvergenceOf, errorOf, shrunkOf};
 ghost use Rattle.attempt.specs.Attempt.{missedOf, failedOf, restepOf};
@@ -39,13 +39,6 @@ fn retract(s: Settings, c: Common, work: &mut [f64]) -> Common
     d
 }
 
-// The least factor that keeps the step at hmin or above.
-fn least(c: Common) -> f64
-    ensures { λ r. ⌜ r ≡ leastOf c ⌝ }
-{
-    c.hmin / numbers::abs(c.h)
-}
-
 // The columns rescaled, then predicted again.
 fn repredict(s: Settings, c: Common, rh: f64, work: &mut [f64]) -> Common
     requires { ⌜ StepInRange s c ⌝ }
@@ -76,7 +69,7 @@ pub fn no_convergence(s: Settings, c: Common, work: &mut [f64]) -> Attempted
     let meth = d.meth;
     d.due = common::is_bdf(meth);
     d.rejected = c.rejected + 1;
-    let rh = numbers::max(0.25, least(d));
+    let rh = numbers::max(0.25, history::least(d));
     Attempted { next: Next::Pass, common: repredict(s, d, rh, work) }
 }
 
@@ -102,9 +95,9 @@ fn shrunk(c: Common, dsm: f64) -> f64
 {
     let rh = numbers::min(1.0 / (1.2 * root::root(dsm, c.nq + 1).value + 1.2e-6), 1.0);
     if 2 <= c.kflag {
-        return numbers::max(numbers::min(rh, 0.2), least(c));
+        return numbers::max(numbers::min(rh, 0.2), history::least(c));
     }
-    numbers::max(rh, least(c))
+    numbers::max(rh, history::least(c))
 }
 
 // An error failure, retracted: too small at the smallest step or at the tenth failure, from the third on a tenth of
@@ -128,7 +121,7 @@ fn missed(s: Settings, c: Common, dsm: f64, work: &mut [f64]) -> Attempted
     let n = s.n;
     history::copy_part(work, n, common::Y * n, 0);
     let mut d = c;
-    d.h = c.h * numbers::max(0.1, least(c));
+    d.h = c.h * numbers::max(0.1, history::least(c));
     Attempted { next: Next::Restep, common: d }
 }
 

@@ -29,13 +29,16 @@ pub record StepInRange (s : Settings) (c : Common) : Type 0 where
 abbrev pub leastOf : Common → Float
 leastOf c = c .hmin ⊘ absOf (c .h)
 
+-- max(|h|·pdlast, 1e-6)
+abbrev pub pdhOf : Common → Float
+pdhOf c = maxOf (absOf (c .h) ⊗ c .pdlast) d1e-6
+
 -- the factor of a rescale: at most rmax, within the largest step, and in the Adams family within the stability limit
 unfoldable pub limitedOf : Common → Float → Float
 limitedOf c rh =
     let rh1 = minOf rh (c .rmax) in
     let rh2 = rh1 ⊘ maxOf oneF (absOf (c .h) ⊗ c .hmxi ⊗ rh1) in
-    let pdh = maxOf (absOf (c .h) ⊗ c .pdlast) d1e-6 in
-    cond (isBdf (c .meth)) rh2 (cond (Ieee.le (sm1Of (c .nq)) (rh2 ⊗ pdh ⊗ d1·00001)) (sm1Of (c .nq) ⊘ pdh) rh2)
+    cond (isBdf (c .meth)) rh2 (cond (Ieee.le (sm1Of (c .nq)) (rh2 ⊗ pdhOf c ⊗ d1·00001)) (sm1Of (c .nq) ⊘ pdhOf c) rh2)
 
 unfoldable pub adjustOf : Common → Float → Common
 adjustOf c rh =

@@ -6,7 +6,8 @@ ghost use lib.ListN.{length, replicate};
 ghost use Rattle.common.specs.Layout.{matrixAt};
 ghost use Rattle.history.specs.Columns.{addRange, subRange, predictColumnsOf, retractColumnsOf, multiplyOf};
 ghost use Rattle.history.specs.Columns.{rescaleColumnsOf, addScaledOf, correctColumnsOf, copyOf, slopeOf};
-ghost use Rattle.history.specs.Steps.{StepInRange, limitedOf, adjustOf, staleOf, predictedOf, predictedWorkOf};
+ghost use Rattle.history.specs.Steps.{StepInRange, leastOf, pdhOf, limitedOf, adjustOf, staleOf, predictedOf};
+ghost use Rattle.history.specs.Steps.{predictedWorkOf};
 ghost use Rattle.history.specs.Parts.{normAtOf, storedOf};
 
 use common::Common;
@@ -157,6 +158,20 @@ pub fn copy_from(to: &mut [f64], from: &[f64])
     }
 }
 
+// The least factor that keeps a step at hmin or above.
+pub fn least(c: Common) -> f64
+    ensures { λ r. ⌜ r ≡ leastOf c ⌝ }
+{
+    c.hmin / numbers::abs(c.h)
+}
+
+// The step times the last estimate of the Jacobian's norm, at least 1e-6.
+pub fn pdh(c: Common) -> f64
+    ensures { λ r. ⌜ r ≡ pdhOf c ⌝ }
+{
+    numbers::max(numbers::abs(c.h) * c.pdlast, 1.0e-6)
+}
+
 // The factor of a rescale within its limits: rmax, the largest step, and in the Adams family the stability limit SM1.
 pub fn limited(c: Common, rh: f64) -> f64
     requires { ⌜ (1 ≤ c .nq) × (c .nq ≤ 12) ⌝ }
@@ -168,10 +183,10 @@ pub fn limited(c: Common, rh: f64) -> f64
     if common::is_bdf(meth) {
         return rh2;
     }
-    let pdh = numbers::max(numbers::abs(c.h) * c.pdlast, 1.0e-6);
+    let d = pdh(c);
     let sm1 = coefficients::sm1(c.nq);
-    if rh2 * pdh * 1.00001 >= sm1 {
-        return sm1 / pdh;
+    if rh2 * d * 1.00001 >= sm1 {
+        return sm1 / d;
     }
     rh2
 }

@@ -18,16 +18,14 @@ returns-2 : tie.Need-returns-2
 unfolding limitedOf
 returns-2 c =
     let p = c .before .before in
-    let b = p .before .before .before in
+    let b = p .before in
     let x = b .before .before in
     let a = x .before .before in
-    let same = p .before .before .abs2 .ensures ∙ sym (a .abs .ensures) in
-    let pdh = rw same at (p .max2 .ensures) in
     rw (
+      ← p .pdh .ensures,
       ← a .before .min .ensures,
       ← a .abs .ensures,
       ← x .max .ensures,
-      ← pdh,
       ← c .before .sm1 .ensures,
       sym (b .before .is-bdf .ensures) ∙ b .if1 .left,
       c .if2 .taken,
@@ -37,16 +35,14 @@ returns-3 : tie.Need-returns-3
 unfolding limitedOf
 returns-3 c =
     let p = c .before .before in
-    let b = p .before .before .before in
+    let b = p .before in
     let x = b .before .before in
     let a = x .before .before in
-    let same = p .before .before .abs2 .ensures ∙ sym (a .abs .ensures) in
-    let pdh = rw same at (p .max2 .ensures) in
     rw (
+      ← p .pdh .ensures,
       ← a .before .min .ensures,
       ← a .abs .ensures,
       ← x .max .ensures,
-      ← pdh,
       ← c .before .sm1 .ensures,
       sym (b .before .is-bdf .ensures) ∙ b .if1 .left,
       c .if2 .left,
@@ -57,4 +53,4 @@ limited-spec =
     tie.close
     (tie.spec
     (λ c κs. search needs) (λ c κs. search needs) (λ c κs. search needs) (λ c κs. search needs) returns
-    (λ c κs. search needs) (λ c κs. search needs) (λ c κs. search needs) returns-2 returns-3)
+    (λ c κs. search needs) (λ c κs. search needs) returns-2 returns-3)

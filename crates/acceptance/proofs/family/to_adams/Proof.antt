@@ -53,19 +53,19 @@ add-root c = omega (arith, ordered (c .before .before .before .before .before .b
 returns-2 : tie.Need-returns-2
 unfolding toAdamsOf moveIf
 returns-2 c =
-    let t2 = c .before .before .before .before .before .before .before .before .before in
+    let t2 = c .before .before .before .before .before .before .before .before in
     let z = t2 .before in
     let w = z .before .before in
     let p = w .before .before .before in
     let better = rw (factor w, z .size .ensures) at (t2 .if2 .taken) in
-    let t3 = c .before .before .before in
+    let t3 = c .before .before in
     let r = t3 .before .before .before .before in
     let noise = rw (r .root .ensures, r .before .max .ensures, factor w, p .adams-proposal .ensures)
     at (t3 .if3 .taken) in
     rw (
       le-ltb _ _ (p .before .if1 .left),
       c .max2 .ensures,
-      c .before .before .abs2 .ensures,
+      c .before .least .ensures,
       factor w,
       p .adams-proposal .ensures,
       better,

@@ -13,7 +13,7 @@ returns c = rw (lt-leb _ _ (c .if1 .taken))
 returns-2 : tie.Need-returns-2
 unfolding toBdfOf moveIf
 returns-2 c =
-    let t4 = c .before .before .before in
+    let t4 = c .before .before in
     let p = t4 .before .before .bdf-proposal .ensures in
     let w = t4 .before .before .before in
     let h = w .before .before in
@@ -24,7 +24,7 @@ returns-2 c =
     let gain = rw (w .within-stability .ensures, z .size .ensures, h .abs .ensures, p) at (t4 .if4 .taken) in
     rw (
       c .max .ensures,
-      c .before .before .abs2 .ensures,
+      c .before .least .ensures,
       p,
       le-leb _ _ (t1 .if1 .left),
       t2 .if2 .taken,

@@ -12,7 +12,8 @@ use Rattle.numbers.specs.Order.{minOf}
 use Rattle.coefficients.specs.Table.{sm1Of}
 use Rattle.common.specs.declared.Common.{Common}
 use Rattle.acceptance.specs.declared.order.Factors.{Factors}
-use Rattle.acceptance.specs.Order.{pdhOf, limitedFactorsOf}
+use Rattle.history.specs.Steps.{pdhOf}
+use Rattle.acceptance.specs.Order.{limitedFactorsOf}
 use Rattle.acceptance.proofs.order.limited_factors.Statement.{statement}
 use Rattle.acceptance.proofs.order.limited_factors.Tie as tie
 

@@ -24,14 +24,14 @@ returns-3 c =
     let scaled = c .before .before .stoda-adjust-step-size .ensures in
     let t3 = c .before .before .before .before in
     let m = t3 .before .before .before in
-    let h = m .before .before in
+    let h = m .before in
     let t2 = h .before in
     let t1 = t2 .before .before in
     rw (
       scaled .0,
       scaled .1,
       m .max .ensures,
-      h .abs .ensures,
+      h .least .ensures,
       sym (t1 .before .is-held .ensures) ∙ t1 .if1 .left,
       t2 .if2 .left,
       eq-eqb _ _ (t3 .if3 .taken),
@@ -40,7 +40,7 @@ returns-3 c =
 stoda-adjust-step-size-requires-2 : tie.Need-stoda-adjust-step-size-requires-2
 stoda-adjust-step-size-requires-2 c κs =
     let r = c .before in
-    let a = r .before .before .before .before .before .before .before .before .before .before .before .before in
+    let a = r .before .before .before .before .before .before .before .before .before .before .before in
     let p = a .pre .1 in
     rw (r .stoda-reset .ensures) (reset-range _ (p .0) (p .1) (a .pre .0), p .2)
 
@@ -50,7 +50,7 @@ returns-4 c =
     let scaled = c .before .before .stoda-adjust-step-size2 .ensures in
     let t3 = c .before .before .before .before .before in
     let m = t3 .before .before .before in
-    let h = m .before .before in
+    let h = m .before in
     let t2 = h .before in
     let t1 = t2 .before .before in
     rw (
@@ -58,7 +58,7 @@ returns-4 c =
       scaled .1,
       c .before .before .before .before .stoda-reset .ensures,
       m .max .ensures,
-      h .abs .ensures,
+      h .least .ensures,
       sym (t1 .before .is-held .ensures) ∙ t1 .if1 .left,
       t2 .if2 .left,
       ne-eqb _ _ (t3 .if3 .left),

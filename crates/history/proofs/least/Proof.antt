@@ -1,7 +1,7 @@
 -- `least` meets its contract: by that of `abs`. Assumes nothing.
 use borrow.Author.Needs.{needs}
-use Rattle.attempt.proofs.least.Statement.{statement}
-use Rattle.attempt.proofs.least.Tie as tie
+use Rattle.history.proofs.least.Statement.{statement}
+use Rattle.history.proofs.least.Tie as tie
 
 returns : tie.Need-returns
 returns c = rw (c .before .abs .ensures)

@@ -1,8 +1,8 @@
 -- `pdh` meets its contract: by those of `abs` and `max`.
 -- Assumes nothing.
 use borrow.Author.Needs.{needs}
-use Rattle.acceptance.proofs.order.pdh.Statement.{statement}
-use Rattle.acceptance.proofs.order.pdh.Tie as tie
+use Rattle.history.proofs.pdh.Statement.{statement}
+use Rattle.history.proofs.pdh.Tie as tie
 
 returns : tie.Need-returns
 returns c = rw (c .max .ensures, c .before .before .abs .ensures)
