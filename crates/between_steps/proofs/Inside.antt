@@ -14,14 +14,14 @@ use lib.ListN.{length}
 use Rattle.common.specs.declared.Settings.{Settings}
 use Rattle.common.specs.declared.Common.{Common}
 use Rattle.common.specs.Record.{with-tn, with-column}
-use Rattle.history.specs.Steps.{InRange}
-use Rattle.jacobian.specs.Jacobian.{finishedOf}
+use Rattle.history.specs.Steps.{StepInRange}
+use Rattle.jacobian.specs.Jacobian.{finishJacobianOf}
 use Rattle.jacobian.proofs.Laws.{length-finished, length-finished-ipiv, finished-below}
-use Rattle.verdict.specs.declared.Correction.{Correction}
-use Rattle.verdict.specs.Verdict.{judgeOf}
-use Rattle.verdict.proofs.Laws.{same-judge}
+use Rattle.corrector.specs.declared.Correction.{Correction}
+use Rattle.corrector.specs.Verdict.{judgeOf}
+use Rattle.corrector.proofs.Judged.{same-judge}
 use Rattle.corrector.specs.Iterate.{openOf}
-use Rattle.order.proofs.Ranges.{Ready}
+use Rattle.acceptance.proofs.Ready.{Ready}
 use Rattle.between_steps.specs.Ranges.{Ranges, Inside, Lent}
 use Rattle.between_steps.specs.Begin.{preparedOf}
 use Rattle.between_steps.specs.Start.{restartOf}
@@ -60,10 +60,10 @@ module _ {s : Settings} {c : Common} (p : Inside s c) where
     counts = k;
   }
 
-  pub in-range : InRange s c
+  pub in-range : StepInRange s c
   in-range = range-of (p .settings) c within-of
 
-  pub prepared-range : (work : List Float) → InRange s (preparedOf s c work .common)
+  pub prepared-range : (work : List Float) → StepInRange s (preparedOf s c work .common)
   prepared-range work = range-of (p .settings) _ (within-prepared (p .settings) c within-of work)
 
   -- what an accepted step asks
@@ -88,10 +88,10 @@ module _ {s : Settings} {c : Common} (p : Inside s c) where
       let q = same-judge s c x pnorm in
       inside-by _ (within-judged (p .settings) c within-of x pnorm) (rw (q .nfe, q .count, q .rejected) (p .counts))
 
-  pub inside-factored : (work : List Float) (ipiv : List ℕ) → Inside s (finishedOf s c work ipiv .common)
-  unfolding finishedOf
+  pub inside-factored : (work : List Float) (ipiv : List ℕ) → Inside s (finishJacobianOf s c work ipiv .common)
+  unfolding finishJacobianOf
   inside-factored work ipiv =
-      inside-by (finishedOf s c work ipiv .common)
+      inside-by (finishJacobianOf s c work ipiv .common)
       (within-factored (p .settings) c within-of (p .steps .1) work ipiv) (p .counts)
 
 -- ---- the work and the pivots
@@ -102,7 +102,7 @@ pub lent-length : {n : ℕ} {work : List Float} {ipiv : List ℕ} (w : List Floa
 lent-length w e p = record { sized = e ∙ p .sized; pivots = p .pivots; below = p .below }
 
 pub lent-factored : (s : Settings) (c : Common) (work : List Float) (ipiv : List ℕ) → Lent (s .n) work ipiv
-    → Lent (s .n) (finishedOf s c work ipiv .work) (finishedOf s c work ipiv .ipiv)
+    → Lent (s .n) (finishJacobianOf s c work ipiv .work) (finishJacobianOf s c work ipiv .ipiv)
 lent-factored s c work ipiv p = record {
   sized = length-finished s c work ipiv ∙ p .sized;
   pivots = length-finished-ipiv s c work ipiv ∙ p .pivots;

@@ -19,18 +19,18 @@ use Rattle.common.specs.declared.Common.{Common}
 use Rattle.common.specs.Limits.{mxncfOf, maxordOf}
 use Rattle.common.specs.Record.{with-column}
 use Rattle.common.specs.Rules.{icount20, firstCallInitOf, resetOf}
-use Rattle.history.specs.Steps.{InRange, adjustOf, predictedOf}
-use Rattle.jacobian.specs.Jacobian.{finishedOf}
+use Rattle.history.specs.Steps.{StepInRange, adjustOf, predictedOf}
+use Rattle.jacobian.specs.Jacobian.{finishJacobianOf}
 use Rattle.jacobian.proofs.Laws.{SameStep}
-use Rattle.verdict.specs.declared.Correction.{Correction}
-use Rattle.verdict.specs.Verdict.{judgeOf}
-use Rattle.verdict.proofs.Laws.{same-judge, judged}
+use Rattle.corrector.specs.declared.Correction.{Correction}
+use Rattle.corrector.specs.Verdict.{judgeOf}
+use Rattle.corrector.proofs.Judged.{same-judge, judged}
 use Rattle.corrector.specs.Iterate.{openOf}
-use Rattle.corrector.proofs.Laws.{same-open, open-flags}
+use Rattle.corrector.proofs.Iterated.{same-open, open-flags}
 use Rattle.attempt.specs.declared.Next.the-variants.{Pass, Restep}
 use Rattle.attempt.specs.Attempt.{noConvergenceOf, failedOf, restepOf}
 use Rattle.attempt.proofs.Laws.{Kept, unconverged, failed, restepped}
-use Rattle.order.proofs.Ranges.{Ready}
+use Rattle.acceptance.proofs.Ready.{Ready}
 use Rattle.acceptance.specs.Accept.{acceptOf}
 use Rattle.acceptance.proofs.Laws.{accept-keeps}
 use Rattle.between_steps.specs.Ranges.{Accepted, Orders}
@@ -84,7 +84,7 @@ module _ {s : Settings} (acc : Accepted s) {base most under : ℕ} (c : Common) 
     kflag = p .kflag; ncf = p .ncf; m = p .m; column = p .column;
   }
 
-  pub range-of : InRange s c
+  pub range-of : StepInRange s c
   range-of = record {
     n = acc .n;
     order = p .nq;
@@ -127,8 +127,8 @@ module _ {s : Settings} (acc : Accepted s) {base most under : ℕ} (c : Common) 
 
   -- nslp becomes nst
   pub within-factored : c .nst < 2 ^ 62 → (work : List Float) (ipiv : List ℕ)
-      → Within s base most under (coreOf (finishedOf s c work ipiv .common))
-  unfolding finishedOf
+      → Within s base most under (coreOf (finishJacobianOf s c work ipiv .common))
+  unfolding finishJacobianOf
   within-factored few work ipiv = record {
     nq = p .nq; lmax = p .lmax; nqnyh = p .nqnyh; table = p .table; ialth = p .ialth; icount = p .icount;
     kflag = p .kflag; ncf = p .ncf; m = p .m; column = p .column; nslp = few; steps = p .steps;
@@ -142,7 +142,7 @@ module _ {s : Settings} (acc : Accepted s) {base most under : ℕ} (c : Common) 
 
   -- ---- after a pass that was not accepted
 
-  attempt-within : (d : Common) → Kept c d → InRange s d → d .nq + 1 ≤ c .lmax → d .nqnyh % s .n ≡ 0
+  attempt-within : (d : Common) → Kept c d → StepInRange s d → d .nq + 1 ≤ c .lmax → d .nqnyh % s .n ≡ 0
       → 1 ≤ d .ialth → d .kflag ≤ 9 → d .ncf < mxncfOf s → Within s base most under (coreOf d)
   attempt-within d k r lmax multiple ialth kflag ncf = record {
     nq = r .order;

@@ -14,7 +14,7 @@ use Rattle.common.specs.Rules.{firstCallInitOf, resetOf}
 use Rattle.history.specs.Columns.{rescaleColumnsOf}
 use Rattle.history.specs.Parts.{normAtOf}
 use Rattle.history.specs.Steps.{limitedOf, adjustOf, predictedOf, predictedWorkOf}
-use Rattle.attempt.specs.Attempt.{Moved}
+use Rattle.common.specs.State.{Moved}
 
 -- what is left of the interval
 abbrev pub remainingOf : Settings → Common → Float

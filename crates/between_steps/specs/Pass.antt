@@ -5,8 +5,8 @@ use Rattle.common.specs.declared.Settings.{Settings}
 use Rattle.common.specs.declared.Common.{Common}
 use Rattle.common.specs.Record.{isBdf}
 use Rattle.history.specs.Parts.{normAtOf}
-use Rattle.verdict.specs.declared.Verdict.{Verdict}
-use Rattle.verdict.specs.Verdict.{judgeOf}
+use Rattle.corrector.specs.declared.Verdict.{Verdict}
+use Rattle.corrector.specs.Verdict.{judgeOf}
 use Rattle.corrector.specs.Iterate.{Corrected}
 
 -- the verdict weighs the correction against the norm of the prediction

@@ -27,11 +27,12 @@ use Rattle.common.specs.Rules.{firstCallInitOf, resetOf}
 use Rattle.history.specs.Columns.{predictColumnsOf, retractColumnsOf, scaleColumnOf, rescaleColumnsOf, addScaledOf}
 use Rattle.history.specs.Columns.{correctColumnsOf, copyOf, slopeOf, fillOf, scalePartOf}
 use Rattle.history.specs.Steps.{limitedOf, adjustOf, staleOf, predictedOf}
-use Rattle.verdict.specs.Verdict.{judgeOf, ratedOf, dconOf, estimatedOf, convergedOf, giveUpOf, furtherOf, testedOf}
+use Rattle.corrector.specs.Verdict.{judgeOf, ratedOf, dconOf, estimatedOf, judgedConverged, giveUpOf, judgedFurther}
+use Rattle.corrector.specs.Verdict.{judgedTested}
 use Rattle.corrector.specs.Iterate.{openOf, adamsResidualOf, adamsUpdateOf, adamsOf, correctOf}
 use Rattle.attempt.specs.Attempt as Attempt
-use Rattle.family.specs.Size.{sizeOf}
-use Rattle.order.specs.Order as Order
+use Rattle.acceptance.specs.Size.{sizeOf}
+use Rattle.acceptance.specs.Order as Order
 use Rattle.acceptance.specs.Accept as Accept
 use Rattle.turns.specs.declared.Phase.{Phase}
 use Rattle.turns.specs.declared.Phase.the-variants as Phase
@@ -183,12 +184,12 @@ unfolding toldBy standsAt kindOf settingsOf firstStepOf Refusals.smallestOf Refu
     Attempt.retractedOf Attempt.repredictOf Attempt.errorOf Attempt.shrunkOf Attempt.missedAt
     Attempt.missedOf Attempt.overshotOf Attempt.failedOf Attempt.unconvergedOf Attempt.quarteredOf
     Attempt.noConvergenceAt Attempt.noConvergenceOf Accept.correctedOf Accept.keepFamilyOf Accept.testFamilyOf
-    Accept.acceptOf Accept.closedOf judgeOf ratedOf dconOf estimatedOf convergedOf giveUpOf furtherOf testedOf openOf
-    adamsResidualOf adamsUpdateOf adamsOf correctOf limitedOf adjustOf staleOf predictedOf predictColumnsOf
-    retractColumnsOf scaleColumnOf rescaleColumnsOf addScaledOf correctColumnsOf copyOf slopeOf fillOf scalePartOf
-    firstCallInitOf resetOf ewsetOf invertOf toleranceOf vmnormOf elcoOf tescoOf sm1Of cfodeOf rootOf absOf negative
-    signumOf refused maxOf minOf times add sub mul div neg lt eq le ne ofInt ofBits
-    Order.raisedWorkOf Order.raisedLeftOf Order.raisedSizeOf Order.loweredSizeOf Order.limitedFactorsOf Order.settledOf
+    Accept.acceptOf Accept.closedOf judgeOf ratedOf dconOf estimatedOf judgedConverged giveUpOf judgedFurther
+    judgedTested openOf adamsResidualOf adamsUpdateOf adamsOf correctOf limitedOf adjustOf staleOf predictedOf
+    predictColumnsOf retractColumnsOf scaleColumnOf rescaleColumnsOf addScaledOf correctColumnsOf copyOf slopeOf fillOf
+    scalePartOf firstCallInitOf resetOf ewsetOf invertOf toleranceOf vmnormOf elcoOf tescoOf sm1Of cfodeOf rootOf absOf
+    negative signumOf refused maxOf minOf times add sub mul div neg lt eq le ne ofInt ofBits
+    Order.raisedWorkOf Order.raisedLeftOf Order.raisedSizeOf Order.loweredSizeOf Order.limitedFactorsOf Order.settleOf
     Order.raiseColumnOf Order.raiseOf Order.lowerOf Order.chooseOf Order.chooseOrderOf sizeOf
 computed =
     record {

@@ -17,21 +17,21 @@ use Rattle.common.specs.declared.Common.{Common}
 use Rattle.common.specs.Rules.{firstCallInitOf, resetOf, tinyOf}
 use Rattle.history.specs.Columns.{correctColumnsOf}
 use Rattle.history.specs.Steps.{adjustOf, predictedOf}
-use Rattle.verdict.specs.declared.Correction.{Correction}
-use Rattle.verdict.specs.Verdict.{judgeOf}
-use Rattle.verdict.proofs.Laws.{same-judge}
+use Rattle.corrector.specs.declared.Correction.{Correction}
+use Rattle.corrector.specs.Verdict.{judgeOf}
+use Rattle.corrector.proofs.Judged.{same-judge}
 use Rattle.attempt.specs.Attempt.{retractedOf, retractedWork, repredictOf, unconvergedOf as missedOf, poorOf}
 use Rattle.attempt.specs.Attempt.{quarteredOf, noConvergenceAt, noConvergenceOf, tenthOf, missedAt}
 use Rattle.attempt.specs.Attempt.{overshotOf, failedOf, loweredOf}
 use Rattle.attempt.specs.Attempt as Attempt
-use Rattle.family.specs.declared.Change.{Change}
-use Rattle.family.specs.declared.Change.the-variants.{Stay, Gap, To}
-use Rattle.family.specs.declared.Proposal.{Proposal}
-use Rattle.family.specs.Family.{changeOf, changedOf}
-use Rattle.order.specs.declared.Branch.{Branch}
-use Rattle.order.specs.declared.Factors.{Factors}
-use Rattle.order.specs.Order.{Settled, heldOf, settledOf, raiseOf, lowerOf, sameLargest, chooseOf}
-use Rattle.order.specs.Order.{forgottenOf, factorsOf as sizesOf, limitedFactorsOf, raisedLeftOf, chooseOrderOf}
+use Rattle.acceptance.specs.declared.family.Change.{Change}
+use Rattle.acceptance.specs.declared.family.Change.the-variants.{Stay, Gap, To}
+use Rattle.acceptance.specs.declared.family.Proposal.{Proposal}
+use Rattle.acceptance.specs.Family.{changeOf, changedOf}
+use Rattle.acceptance.specs.declared.Branch.{Branch}
+use Rattle.acceptance.specs.declared.order.Factors.{Factors}
+use Rattle.acceptance.specs.Order.{Settled, heldOf, settleOf, raiseOf, lowerOf, sameLargest, chooseOf}
+use Rattle.acceptance.specs.Order.{forgottenOf, factorsOf as sizesOf, limitedFactorsOf, raisedLeftOf, chooseOrderOf}
 use Rattle.acceptance.specs.Accept.{correctedOf, countedDown, keepFamilyOf, testedOf, testFamilyOf, acceptOf}
 use Rattle.between_steps.specs.Begin.{setupOf}
 use Rattle.invariants.proofs.Floats.{either}
@@ -109,8 +109,8 @@ module _ (B : ℕ) where
     SettledLow x = Low (x .common)
 
     settled-low : (c : Common) (p : Proposal) (branch : Branch) (work : List Float)
-        → SettledLow (settledOf s c p branch work)
-    unfolding settledOf
+        → SettledLow (settleOf s c p branch work)
+    unfolding settleOf
     settled-low c p branch work =
         either SettledLow (heldOf c p) _ _ (inl (omega arith))
         (either SettledLow (Ieee.lt (p .rh) d1·1) _ _ (inl (omega arith)) (adjust-low _ _))

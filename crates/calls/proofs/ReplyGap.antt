@@ -11,10 +11,10 @@ use Rattle.common.specs.declared.MethodFamily.the-variants.{Bdf}
 use Rattle.common.specs.declared.Settings.{Settings}
 use Rattle.common.specs.declared.Common.{Common}
 use Rattle.history.specs.Columns.{correctColumnsOf}
-use Rattle.family.specs.Family.{toAdamsOf, changeOf}
-use Rattle.order.specs.declared.Branch.{Branch}
-use Rattle.order.specs.declared.Branch.the-variants as Branch
-use Rattle.acceptance.specs.Accept.{correctedOf, settled, testedOf, testFamilyOf, acceptOf}
+use Rattle.acceptance.specs.Family.{toAdamsOf, changeOf}
+use Rattle.acceptance.specs.declared.Branch.{Branch}
+use Rattle.acceptance.specs.declared.Branch.the-variants as Branch
+use Rattle.acceptance.specs.Accept.{correctedOf, tookBranch, testedOf, testFamilyOf, acceptOf}
 use Rattle.between_steps.specs.declared.Status.the-variants as Status
 use Rattle.turns.specs.Turns.{finishedOf}
 use Rattle.passes.specs.Pass.{acceptedAt, acceptedOf}
@@ -32,7 +32,7 @@ module _ (s : Settings) (c : Common) (dsm : Float) (work : List Float) where
   meets = step-said .gap s c dsm work .gap .0
 
   -- what the gap leaves
-  gap-leaves : Meets → acceptOf s c dsm work ≡ settled Branch.CoefficientGap (correctedOf c) (correctColumnsOf s c work)
+  gap-leaves : Meets → acceptOf s c dsm work ≡ tookBranch Branch.CoefficientGap (correctedOf c) (correctColumnsOf s c work)
   unfolding acceptOf testFamilyOf correctedOf changeOf toAdamsOf testedOf
   gap-leaves m = rw (m .0, lt-ltb 5 (c .nq) (m .1), lt-ltb (c .icount - 1) 1000000 (m .2))
 

@@ -23,15 +23,15 @@ use Rattle.common.specs.declared.Common.{Common}
 use Rattle.common.specs.Limits.{mxncfOf}
 use Rattle.common.specs.Record.{with-tn, with-column}
 use Rattle.common.specs.Rules.{tinyOf}
-use Rattle.jacobian.specs.Jacobian.{beginOf, suppliedOf, finishedOf as factorsOf}
-use Rattle.verdict.specs.declared.Pass.{Pass}
-use Rattle.verdict.specs.declared.Pass.the-variants as Pass
+use Rattle.jacobian.specs.Jacobian.{beginOf, suppliedOf, finishJacobianOf as factorsOf}
+use Rattle.corrector.specs.declared.Pass.{Pass}
+use Rattle.corrector.specs.declared.Pass.the-variants as Pass
 use Rattle.corrector.specs.Iterate.{openOf, correctOf}
 use Rattle.attempt.specs.Attempt.{poorOf, noConvergenceAt, noConvergenceOf, errorOf, missedAt, missedOf}
 use Rattle.attempt.specs.Attempt.{overshotOf, failedOf, retractedWork}
 use Rattle.attempt.specs.Attempt as Attempt
-use Rattle.order.specs.declared.Branch.{Branch}
-use Rattle.order.specs.declared.Branch.the-variants as Branch
+use Rattle.acceptance.specs.declared.Branch.{Branch}
+use Rattle.acceptance.specs.declared.Branch.the-variants as Branch
 use Rattle.acceptance.specs.Accept.{acceptOf, closedOf}
 use Rattle.between_steps.specs.declared.Answer.{Answer}
 use Rattle.between_steps.specs.declared.Answer.the-variants.{Continue, Interrupt, Modified}

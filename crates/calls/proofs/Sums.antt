@@ -29,7 +29,8 @@ use Rattle.history.specs.Columns.{predictColumnsOf, retractColumnsOf, scaleColu
 use Rattle.history.specs.Columns.{correctColumnsOf, copyOf, slopeOf, fillOf, scalePartOf}
 use Rattle.history.specs.Steps.{limitedOf, adjustOf, staleOf, predictedOf}
 use Rattle.interpolation.proofs.Examples.{sum-7}
-use Rattle.verdict.specs.Verdict.{judgeOf, ratedOf, dconOf, estimatedOf, convergedOf, giveUpOf, furtherOf, testedOf}
+use Rattle.corrector.specs.Verdict.{judgeOf, ratedOf, dconOf, estimatedOf, judgedConverged, giveUpOf, judgedFurther}
+use Rattle.corrector.specs.Verdict.{judgedTested}
 use Rattle.corrector.specs.Iterate.{openOf, adamsResidualOf, adamsUpdateOf, adamsOf, correctOf}
 use Rattle.attempt.specs.Attempt as Attempt
 use Rattle.acceptance.specs.Accept as Accept
@@ -248,11 +249,11 @@ unfolding allowed hosted shownAs settingsOf firstStepOf Refusals.smallestOf Refu
     Reports.afterReportOf Attempt.retractedOf Attempt.repredictOf Attempt.errorOf Attempt.shrunkOf Attempt.missedAt
     Attempt.missedOf Attempt.overshotOf Attempt.failedOf Attempt.unconvergedOf Attempt.quarteredOf
     Attempt.noConvergenceAt Attempt.noConvergenceOf Accept.correctedOf Accept.keepFamilyOf Accept.testFamilyOf
-    Accept.acceptOf Accept.closedOf judgeOf ratedOf dconOf estimatedOf convergedOf giveUpOf furtherOf testedOf openOf
-    adamsResidualOf adamsUpdateOf adamsOf correctOf limitedOf adjustOf staleOf predictedOf predictColumnsOf
-    retractColumnsOf scaleColumnOf rescaleColumnsOf addScaledOf correctColumnsOf copyOf slopeOf fillOf scalePartOf
-    firstCallInitOf resetOf ewsetOf invertOf toleranceOf vmnormOf elcoOf tescoOf sm1Of cfodeOf rootOf absOf negative
-    signumOf refused maxOf minOf times add sub mul div neg lt eq le ne ofInt ofBits
+    Accept.acceptOf Accept.closedOf judgeOf ratedOf dconOf estimatedOf judgedConverged giveUpOf judgedFurther
+    judgedTested openOf adamsResidualOf adamsUpdateOf adamsOf correctOf limitedOf adjustOf staleOf predictedOf
+    predictColumnsOf retractColumnsOf scaleColumnOf rescaleColumnsOf addScaledOf correctColumnsOf copyOf slopeOf fillOf
+    scalePartOf firstCallInitOf resetOf ewsetOf invertOf toleranceOf vmnormOf elcoOf tescoOf sm1Of cfodeOf rootOf absOf
+    negative signumOf refused maxOf minOf times add sub mul div neg lt eq le ne ofInt ofBits
 computed = (
   record { asked = refl; over = refl; reply = refl; y = refl },
   record { asked = refl; over = refl; reply = refl; y = refl },

@@ -16,7 +16,7 @@ use Rattle.common.specs.declared.Common.{Common}
 use Rattle.common.specs.Limits.{mxncfOf}
 use Rattle.common.specs.Record.{with-tn}
 use Rattle.common.specs.Rules.{tinyOf}
-use Rattle.order.specs.declared.Branch.the-variants.{CoefficientGap}
+use Rattle.acceptance.specs.declared.Branch.the-variants.{CoefficientGap}
 use Rattle.acceptance.specs.Accept.{acceptOf}
 use Rattle.turns.specs.declared.At.{At}
 use Rattle.between_steps.specs.declared.Answer.the-variants as Answer

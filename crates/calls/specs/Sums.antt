@@ -14,7 +14,7 @@ use Rattle.coefficients.specs.Table.{elcoOf, tescoOf}
 use Rattle.vectors.specs.Norm.{vmnormOf}
 use Rattle.dense.specs.Factor.{factorOf}
 use Rattle.dense.specs.Solve.{solveOf}
-use Rattle.interpolation.specs.Evaluate.{left, interpolateOf}
+use Rattle.interpolation.specs.Evaluate.{outputs, interpolateOf}
 use Rattle.common.specs.Layout.{column}
 use Rattle.refusals.specs.declared.Options.{Options}
 use Rattle.answers.specs.declared.Reply.{Reply}
@@ -210,8 +210,8 @@ pub record Sums : Type 0 where
   -- (6) root 3 of 8 is 2; root 13 of 1 is 1
   pub six : (rootOf d8 3 ≡ record { value = d2 }) × (rootOf oneF 13 ≡ record { value = oneF })
   -- (7) snapshot n 1, nq 1, t 1, h 0.5, columns 2 and 0.5: at 0.75 the pose is 1.75; with h 0 refused 17
-  pub seven : (y : Float) → (interpolateOf d0·75 (snapshot d0·5) (y ∷ []) ≡ left 0 (d1·75 ∷ []))
-      × (interpolateOf d0·75 (snapshot zeroF) (y ∷ []) ≡ left 17 (y ∷ []))
+  pub seven : (y : Float) → (interpolateOf d0·75 (snapshot d0·5) (y ∷ []) ≡ outputs 0 (d1·75 ∷ []))
+      × (interpolateOf d0·75 (snapshot zeroF) (y ∷ []) ≡ outputs 17 (y ∷ []))
   -- (8) derivatives 0: success, h 1, 2 derivatives, steps 1, 1, 0
   pub eight : (b : Buffers) (q : ℕ → List Float) → Lent b q → resultOf b q row8 ≡ row8 .result
   -- (9) second derivative NaN there: success, y NaN

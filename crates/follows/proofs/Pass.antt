@@ -10,8 +10,8 @@ use lib.Dec.{ltb}
 use lib.Ieee.{Float}
 use borrow.Author.Tests.{lt-ltb, le-ltb}
 use Rattle.common.specs.State.{Given, State}
-use Rattle.verdict.specs.declared.Pass.{Pass}
-use Rattle.verdict.specs.declared.Pass.the-variants.{Converged, Retry, NoConvergence, Further}
+use Rattle.corrector.specs.declared.Pass.{Pass}
+use Rattle.corrector.specs.declared.Pass.the-variants.{Converged, Retry, NoConvergence, Further}
 use Rattle.between_steps.specs.Pass.{isSupplied}
 use Rattle.turns.specs.declared.Phase.the-variants as Phase
 use Rattle.turns.specs.Turns.{Left, leaving, askedInStepOf}

@@ -16,8 +16,8 @@ use Rattle.common.specs.Limits.{mxncfOf}
 use Rattle.common.specs.State.{Given, State}
 use Rattle.attempt.specs.declared.Next.{Next}
 use Rattle.attempt.specs.declared.Next.the-variants as Next
-use Rattle.order.specs.declared.Branch.{Branch}
-use Rattle.order.specs.declared.Branch.the-variants as Branch
+use Rattle.acceptance.specs.declared.Branch.{Branch}
+use Rattle.acceptance.specs.declared.Branch.the-variants as Branch
 use Rattle.between_steps.specs.declared.Answer.{Answer}
 use Rattle.between_steps.specs.declared.Answer.the-variants.{Continue, Interrupt, Modified}
 use Rattle.between_steps.specs.declared.Status.{Status}

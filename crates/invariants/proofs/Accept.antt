@@ -12,15 +12,15 @@ use Rattle.common.specs.declared.Common.{Common}
 use Rattle.common.specs.Record.{isBdf, with-nq}
 use Rattle.common.specs.Rules.{resetOf}
 use Rattle.history.specs.Columns.{correctColumnsOf}
-use Rattle.family.specs.declared.Change.{Change}
-use Rattle.family.specs.declared.Change.the-variants.{Stay, Gap, To}
-use Rattle.family.specs.declared.Move.{Move}
-use Rattle.family.specs.declared.Proposal.{Proposal}
-use Rattle.family.specs.Family.{changeOf, changedOf}
-use Rattle.order.specs.declared.Branch.{Branch}
-use Rattle.order.specs.declared.Factors.{Factors}
-use Rattle.order.specs.Order.{Settled, heldOf, atOrder, settledOf, raiseOf, lowerOf, sameLargest, chooseOf}
-use Rattle.order.specs.Order.{forgottenOf, factorsOf, limitedFactorsOf, raisedLeftOf, chooseOrderOf}
+use Rattle.acceptance.specs.declared.family.Change.{Change}
+use Rattle.acceptance.specs.declared.family.Change.the-variants.{Stay, Gap, To}
+use Rattle.acceptance.specs.declared.family.Move.{Move}
+use Rattle.acceptance.specs.declared.family.Proposal.{Proposal}
+use Rattle.acceptance.specs.Family.{changeOf, changedOf}
+use Rattle.acceptance.specs.declared.Branch.{Branch}
+use Rattle.acceptance.specs.declared.order.Factors.{Factors}
+use Rattle.acceptance.specs.Order.{Settled, heldOf, atOrder, settleOf, raiseOf, lowerOf, sameLargest, chooseOf}
+use Rattle.acceptance.specs.Order.{forgottenOf, factorsOf, limitedFactorsOf, raisedLeftOf, chooseOrderOf}
 use Rattle.acceptance.specs.Accept.{correctedOf, countedDown, keepFamilyOf, testedOf, testFamilyOf, acceptOf}
 use Rattle.fields.specs.Fields.{Fit}
 use Rattle.invariants.proofs.Floats.{either, literal}
@@ -35,8 +35,8 @@ module _ (s : Settings) where
   at-order c q f = either CommonFits (eqb q (c .nq)) c (resetOf s (with-nq q c)) f (reset-fits s (with-nq q c) f)
 
   settled-fits : (c : Common) (p : Proposal) (branch : Branch) (work : List Float) → CommonFits c
-      → SettledFits (settledOf s c p branch work)
-  unfolding settledOf
+      → SettledFits (settleOf s c p branch work)
+  unfolding settleOf
   settled-fits c p branch work f =
       either SettledFits (heldOf c p) _ _ f
       (either SettledFits (Ieee.lt (p .rh) d1·1) _ _ f (adjust-fits s _ _ (at-order c (p .order) f)))

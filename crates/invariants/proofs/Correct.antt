@@ -14,11 +14,11 @@ use Rattle.common.specs.declared.Common.{Common}
 use Rattle.common.specs.declared.MethodFamily.{MethodFamily}
 use Rattle.common.specs.declared.MethodFamily.the-variants.{Adams, Bdf}
 use Rattle.common.specs.Record.{isBdf}
-use Rattle.jacobian.specs.Jacobian.{beginOf, finishedOf}
-use Rattle.verdict.specs.declared.Correction.{Correction}
-use Rattle.verdict.specs.declared.Verdict.{Verdict}
-use Rattle.verdict.specs.Verdict.{rmOf, ratedOf, dconOf, pdestOf, estimatedOf, convergedOf, giveUpOf, strays}
-use Rattle.verdict.specs.Verdict.{furtherOf, testedOf, ratedVerdict, solvedVerdict, judgeOf}
+use Rattle.jacobian.specs.Jacobian.{beginOf, finishJacobianOf}
+use Rattle.corrector.specs.declared.Correction.{Correction}
+use Rattle.corrector.specs.declared.Verdict.{Verdict}
+use Rattle.corrector.specs.Verdict.{rmOf, ratedOf, dconOf, pdestOf, estimatedOf, judgedConverged, giveUpOf, strays}
+use Rattle.corrector.specs.Verdict.{judgedFurther, judgedTested, ratedVerdict, solvedVerdict, judgeOf}
 use Rattle.corrector.specs.Iterate.{openOf, Corrected, adamsOf, bdfOf, bdfResidualOf, correctIn, correctOf}
 use Rattle.fields.specs.Fields.{Fit}
 use Rattle.invariants.proofs.Floats.{either, literal, product, quotient, maximum}
@@ -33,8 +33,8 @@ unfolding beginOf
 begin-fits c f = f
 
 pub finished-fits : (s : Settings) (c : Common) (work : List Float) (ipiv : List ℕ) → CommonFits c
-    → CommonFits (finishedOf s c work ipiv .common)
-unfolding finishedOf
+    → CommonFits (finishJacobianOf s c work ipiv .common)
+unfolding finishJacobianOf
 finished-fits s c work ipiv f = put-pdnorm (quotient _ _) (put-rc (literal _) (put-convrate (literal _) f))
 
 -- ---- iterations
@@ -80,12 +80,12 @@ unfolding giveUpOf
 give-up-fits c f = f
 
 module _ (s : Settings) (del : Float) (size : Fit del) where
-  further-fits : (c : Common) → CommonFits c → VerdictFits (furtherOf s c del)
-  unfolding furtherOf
+  further-fits : (c : Common) → CommonFits c → VerdictFits (judgedFurther s c del)
+  unfolding judgedFurther
   further-fits c f = either VerdictFits (strays s c del) _ _ (give-up-fits c f) (put-delp size f)
 
-  tested-fits : (c : Common) → CommonFits c → VerdictFits (testedOf s c del)
-  unfolding testedOf convergedOf
+  tested-fits : (c : Common) → CommonFits c → VerdictFits (judgedTested s c del)
+  unfolding judgedTested judgedConverged
   tested-fits c f = either VerdictFits (Ieee.le (dconOf c del) oneF) _ _ (estimated-fits s c f) (further-fits c f)
 
   rated-verdict : (first bdf : Bool) (c : Common) → CommonFits c → VerdictFits (ratedVerdict s c del first bdf)
@@ -94,7 +94,7 @@ module _ (s : Settings) (del : Float) (size : Fit del) where
   rated-verdict false bdf c f = tested-fits (ratedOf c del) (rated-fits c del f)
 
   solved-fits : (c : Common) (pnorm : Float) → CommonFits c → VerdictFits (solvedVerdict s c del pnorm)
-  unfolding convergedOf
+  unfolding judgedConverged
   solved-fits c pnorm f =
       either VerdictFits (Ieee.le del (d100 ⊗ pnorm ⊗ uround)) _ _ f
       (rated-verdict (eqb (c .m) 0) (isBdf (c .meth)) c f)

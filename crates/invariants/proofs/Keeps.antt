@@ -18,7 +18,7 @@ use Rattle.common.specs.declared.Common.{Common}
 use Rattle.common.specs.State.{State}
 use Rattle.common.specs.Layout.{matrixAt}
 use Rattle.common.specs.Record.{with-tn, with-h, with-nfe, with-count, with-total, with-column}
-use Rattle.jacobian.specs.Jacobian.{beginOf, finishedOf}
+use Rattle.jacobian.specs.Jacobian.{beginOf, finishJacobianOf}
 use Rattle.corrector.specs.Iterate.{openOf, correctOf}
 use Rattle.attempt.specs.declared.Next.{Next}
 use Rattle.attempt.specs.declared.Next.the-variants as Next
@@ -137,7 +137,7 @@ pub record Keeps (s : Settings) (rtol atol : List Float) (time : Float) (B S O :
   pub jacobian-begun : (x : State) → S x → S (with-c (beginOf (x .c)) x)
   pub column : (x : State) → S x → (j : ℕ) → (1 ≤ s .n → j < s .n) → S (with-c (with-column j (x .c)) x)
   pub factored : (x : State) → S x
-      → let f = finishedOf s (x .c) (x .w) (x .p) in S (at (f .common) (f .work) (f .ipiv))
+      → let f = finishJacobianOf s (x .c) (x .w) (x .p) in S (at (f .common) (f .work) (f .ipiv))
   -- after a pass that was not accepted
   pub unconverged : (x : State) → S x → (w : List Float)
       → let a = noConvergenceOf s (x .c) w in After (a .next) (S (with-c (a .common) x)) (O (with-c (a .common) x))

@@ -18,7 +18,7 @@ use Rattle.common.specs.declared.Settings.{Settings}
 use Rattle.common.specs.declared.Common.{Common}
 use Rattle.common.specs.Limits.{mxncfOf}
 use Rattle.common.specs.Rules.{icount20}
-use Rattle.history.specs.Steps.{InRange}
+use Rattle.history.specs.Steps.{StepInRange}
 use Rattle.jacobian.specs.Jacobian.{beginOf}
 use Rattle.attempt.specs.declared.Next.{Next}
 use Rattle.attempt.specs.declared.Next.the-variants as Next
@@ -63,7 +63,7 @@ closing-of p = record {
 
 module _ {s : Settings} (acc : Accepted s) {base most under : ℕ} (c : Common)
     (p : Within s base most under (coreOf c)) (work : List Float) where
-  attempt-closing : (d : Common) → Kept c d → InRange s d → d .kflag ≤ 10 → d .ncf ≤ mxncfOf s
+  attempt-closing : (d : Common) → Kept c d → StepInRange s d → d .kflag ≤ 10 → d .ncf ≤ mxncfOf s
       → Closing s (coreOf d)
   attempt-closing d k r kflag ncf = record {
     nq = r .order .1;

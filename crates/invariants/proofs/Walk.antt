@@ -24,17 +24,17 @@ use Rattle.common.specs.Record.{with-tn, with-column}
 use Rattle.history.specs.Columns.{copyOf, slopeOf}
 use Rattle.history.specs.Parts.{storedOf}
 use Rattle.history.proofs.Laws.{length-copy, length-slope, length-fill}
-use Rattle.jacobian.specs.Jacobian.{beginOf, finishedOf as factorsOf}
+use Rattle.jacobian.specs.Jacobian.{beginOf, finishJacobianOf as factorsOf}
 use Rattle.jacobian.proofs.Laws.{length-perturb, length-restore, length-supplied}
-use Rattle.verdict.specs.declared.Pass.{Pass}
-use Rattle.verdict.specs.declared.Pass.the-variants as Pass
-use Rattle.corrector.proofs.Laws.{length-iteration}
+use Rattle.corrector.specs.declared.Pass.{Pass}
+use Rattle.corrector.specs.declared.Pass.the-variants as Pass
+use Rattle.corrector.proofs.Iterated.{length-iteration}
 use Rattle.attempt.specs.declared.Next.{Next}
 use Rattle.attempt.specs.declared.Next.the-variants as Next
 use Rattle.attempt.specs.Attempt.{errorOf}
 use Rattle.attempt.proofs.Laws as Attempt
-use Rattle.order.specs.declared.Branch.{Branch}
-use Rattle.order.specs.declared.Branch.the-variants as Branch
+use Rattle.acceptance.specs.declared.Branch.{Branch}
+use Rattle.acceptance.specs.declared.Branch.the-variants as Branch
 use Rattle.acceptance.proofs.Laws.{length-accept, length-closed}
 use Rattle.between_steps.specs.declared.Answer.{Answer}
 use Rattle.between_steps.specs.declared.Answer.the-variants.{Continue, Interrupt, Modified}

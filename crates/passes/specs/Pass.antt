@@ -15,18 +15,18 @@ use Rattle.common.specs.Layout.{ftemAt, acorAt, yAt, yfdAt}
 use Rattle.common.specs.Record.{with-total, with-column}
 use Rattle.history.specs.Columns.{copyOf, fillOf}
 use Rattle.history.specs.Parts.{storedOf}
-use Rattle.jacobian.specs.Jacobian.{beginOf, perturbOf, restoreOf, finishedOf as factorsOf}
+use Rattle.jacobian.specs.Jacobian.{beginOf, perturbOf, restoreOf, finishJacobianOf as factorsOf}
 use Rattle.jacobian.specs.Jacobian as Jacobian
-use Rattle.verdict.specs.declared.Pass.{Pass}
-use Rattle.verdict.specs.declared.Pass.the-variants as Pass
+use Rattle.corrector.specs.declared.Pass.{Pass}
+use Rattle.corrector.specs.declared.Pass.the-variants as Pass
 use Rattle.corrector.specs.Iterate.{openOf, correctOf}
 use Rattle.attempt.specs.declared.Next.{Next}
 use Rattle.attempt.specs.declared.Next.the-variants as Next
 use Rattle.attempt.specs.Attempt.{Attempt, noConvergenceOf, errorOf, failedOf}
 use Rattle.attempt.specs.Attempt as Attempt
-use Rattle.order.specs.declared.Branch.{Branch}
-use Rattle.order.specs.declared.Branch.the-variants.{Unchanged, SmallGain, Lowered, Kept as KeptOrder, Raised}
-use Rattle.order.specs.declared.Branch.the-variants.{HeldBySm1, FamilyChanged, CoefficientGap}
+use Rattle.acceptance.specs.declared.Branch.{Branch}
+use Rattle.acceptance.specs.declared.Branch.the-variants.{Unchanged, SmallGain, Lowered, Kept as KeptOrder, Raised}
+use Rattle.acceptance.specs.declared.Branch.the-variants.{HeldBySm1, FamilyChanged, CoefficientGap}
 use Rattle.acceptance.specs.Accept.{acceptOf, closedOf}
 use Rattle.between_steps.specs.Pass.{verdictOf, isSupplied}
 use Rattle.between_steps.specs.declared.Status.the-variants.{StepTooSmall, PoorConvergence}

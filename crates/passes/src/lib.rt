@@ -5,7 +5,7 @@ ghost use lib.ListN.{length};
 ghost use Rattle.vectors.specs.Tolerance.{List1OrN};
 ghost use Rattle.common.specs.Layout.{matrixAt};
 ghost use Rattle.common.specs.Limits.{maxStates};
-ghost use Rattle.history.specs.Steps.{InRange};
+ghost use Rattle.history.specs.Steps.{StepInRange};
 ghost use Rattle.between_steps.specs.Ranges.{Inside, Lent};
 ghost use Rattle.turns.specs.Turns.{kept, leaving};
 ghost use Rattle.passes.specs.Pass.{attemptedAt, reportedOf, closeOf, acceptedOf, convergedOf, unconvergedOf};
@@ -16,13 +16,13 @@ use attempt::Next;
 use between_steps::Status;
 use common::Common;
 use common::Settings;
-use order::Branch;
+use acceptance::Branch;
 use turns::At;
 use turns::Phase;
 use turns::Question;
 use turns::Step;
 use turns::Turn;
-use verdict::Pass;
+use corrector::Pass;
 
 // ---- a pass's end
 
@@ -55,7 +55,7 @@ fn report(c: Common, n: usize, work: &mut [f64]) -> Turn
 
 // The end of an accepted step that used the given order: weights, then the report or 12.
 fn close(s: Settings, c: Common, order: usize, rtol: &[f64], atol: &[f64], work: &mut [f64]) -> Turn
-    requires { ⌜ InRange s c ⌝ }
+    requires { ⌜ StepInRange s c ⌝ }
     requires { ⌜ (1 ≤ order) × (order ≤ 12) ⌝ }
     requires { ⌜ (c .nst < 2 ^ 63) × (c .rejected < 2 ^ 63) ⌝ }
     requires { ⌜ List1OrN (now rtol) (s .n - 1) ⌝ }
@@ -133,7 +133,7 @@ fn iterate(s: Settings, c: Common, rtol: &[f64], atol: &[f64], work: &mut [f64],
     let n = s.n;
     let x = corrector::correct(s, c, work, ipiv);
     let pnorm = history::norm_at(work, n, 0).value;
-    let verdict = verdict::judge(s, c, x, pnorm);
+    let verdict = corrector::judge(s, c, x, pnorm);
     let pass = verdict.pass;
     let d = verdict.common;
     match pass {

@@ -11,18 +11,18 @@ use lib.Ieee.{Float, binary64}
 use Rattle.loops.specs.For.{for}
 use Rattle.root.specs.Root.{rootOf}
 use Rattle.sqrt.specs.Sqrt.{sqrtOf}
-use Rattle.probe.specs.Probe.{elcoAt, tescoAt, cm1At, cm2At, sm1At}
+use Rattle.probe.specs.Probe.{elcoOrNan, tescoOrNan, cm1OrNan, cm2OrNan, sm1OrNan}
 
 -- the number that our function of that kind gives
 unfoldable pub numberOf : ℕ → ℕ → ℕ → ℕ → Float
 numberOf kind a b c =
     cond (eqb kind 0) (rootOf (Ieee.ofBits binary64 a) b .value)
     (cond (eqb kind 1) (sqrtOf (Ieee.ofBits binary64 a))
-    (cond (eqb kind 2) (elcoAt a b c)
-    (cond (eqb kind 3) (tescoAt a b c)
-    (cond (eqb kind 4) (cm1At a b)
-    (cond (eqb kind 5) (cm2At a b)
-    (sm1At b))))))
+    (cond (eqb kind 2) (elcoOrNan a b c)
+    (cond (eqb kind 3) (tescoOrNan a b c)
+    (cond (eqb kind 4) (cm1OrNan a b)
+    (cond (eqb kind 5) (cm2OrNan a b)
+    (sm1OrNan b))))))
 
 -- whether our number for the case that stands at a place has the stored pattern
 abbrev pub isStored : List ℕ → ℕ → Bool

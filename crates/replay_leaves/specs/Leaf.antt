@@ -12,11 +12,11 @@ use Rattle.numbers.specs.Float.{zeroF}
 use Rattle.vectors.specs.Weights.{invertOf, outcomeOf}
 use Rattle.interpolation.specs.Evaluate.{interpolateOf}
 use Rattle.probe.specs.Leaves as P
-use Rattle.probe.specs.Leaves.{vmnormAt, fnormAt, ewsetLeft, ewsetLikeLeft, indexOf, initialStepAt}
+use Rattle.probe.specs.Leaves.{vmnormOrNan, fnormOrNan, ewsetLeft, ewsetLikeLeft, indexOf, initialStepOrNan}
 use Rattle.probe.specs.Leaves.{factorLeft, solveLeft}
-use Rattle.probe_history.specs.Left as H
-use Rattle.probe_history.specs.Left.{predictLeft, retractLeft, correctLeft, adjustLeft, predictedLeft}
-use Rattle.probe_history.specs.Left.{initLeft, resetLeft, snapshotLeft}
+use Rattle.probe.specs.Left as H
+use Rattle.probe.specs.Left.{predictLeft, retractLeft, correctLeft, adjustLeft, predictedLeft}
+use Rattle.probe.specs.Left.{initLeft, resetLeft, snapshotLeft}
 use Rattle.replay_leaves.specs.declared.leaf.Call.{Call}
 
 -- the answer, and what then stands in the lists that were lent
@@ -40,14 +40,14 @@ between a e l = take (e - a) (drop a l)
 unfoldable pub firstStepOf : Float → Float → List Float → List Float → ℕ → ℕ → ℕ
 firstStepOf t tout y b n nrtol =
     cond (leb n 64 && (leb nrtol 64 && leb (2 * n + nrtol) (length b)))
-    (bits (initialStepAt t tout y (between 0 n b) (between n (2 * n) b) (between (2 * n) (2 * n + nrtol) b)
+    (bits (initialStepOrNan t tout y (between 0 n b) (between n (2 * n) b) (between (2 * n) (2 * n + nrtol) b)
     (between (2 * n + nrtol) (length b) b)))
     2
 
 -- rtol and atol
-unfoldable pub weightsOf : List Float → ℕ → ℕ → ℕ → List Float → P.Left
+unfoldable pub weightsOf : List Float → ℕ → ℕ → ℕ → List Float → P.WorkLeft
 weightsOf b nrtol n at a =
-    cond (leb nrtol (length b)) (ewsetLeft (between 0 nrtol b) (between nrtol (length b) b) n at a) (P.left 2 a)
+    cond (leb nrtol (length b)) (ewsetLeft (between 0 nrtol b) (between nrtol (length b) b) n at a) (P.workLeft 2 a)
 
 -- the record's floats and the work
 unfoldable pub snapshotAt : List Float → List ℕ → List Float → H.Columns
@@ -58,7 +58,7 @@ snapshotAt b m a =
 -- 0 vmnorm, 1 fnorm_dense, and any other initial_step_size
 unfoldable pub normsOf : ℕ → ℕ → ℕ → Float → Float → List Float → List Float → ℕ
 normsOf kind p q x y a b =
-    cond (eqb kind 0) (bits (vmnormAt a b)) (cond (eqb kind 1) (bits (fnormAt p a b)) (firstStepOf x y a b p q))
+    cond (eqb kind 0) (bits (vmnormOrNan a b)) (cond (eqb kind 1) (bits (fnormOrNan p a b)) (firstStepOf x y a b p q))
 
 -- 3 ewset, 4 ewset_scalar_like, 5 invert_weights, 6 dense_lu_factor, 7 dense_lu_solve, 8 predict_columns,
 -- and any other retract_columns
@@ -72,7 +72,7 @@ listsOf kind p q r a b m =
     (cond (eqb kind 8) (after (predictLeft p q r a .number) (predictLeft p q r a .yh) b m)
     (after (retractLeft p q r a .number) (retractLeft p q r a .yh) b m))))))
 
-abbrev pub ofRecord : H.Left → List Float → After
+abbrev pub ofRecord : H.RecordLeft → List Float → After
 ofRecord l a = after (l .number) a (l .floats) (l .counts)
 
 -- 10 correct_columns, 11 stoda_adjust_step_size, 12 stoda_get_predicted_values, 13 stoda_first_call_init,

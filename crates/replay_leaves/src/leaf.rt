@@ -1,4 +1,4 @@
-// A stored call of a leaf, made again: one of the functions of probe or probe_history on the lists a, b and m that are
+// A stored call of a leaf, made again: one of the functions of probe on the lists a, b and m that are
 // lent to it, and whether it answers and leaves what the reference did.
 ghost use mathlib.Core.Path.{_≡_};
 ghost use Prim.Native.Nat.{_+_, _*_, _≤_};
@@ -7,8 +7,8 @@ ghost use Rattle.replay_leaves.specs.Leaf.{After, normsOf, firstStepOf, 
 ghost use Rattle.replay_leaves.specs.Leaf.{weightsOf, snapshotAt, floatsOf, countsOf, areFloats, areCounts};
 ghost use Rattle.replay_leaves.specs.Leaf.{calledOf, isLeft, isAgain, callOf, lengthOf, isSame};
 ghost use Rattle.replay_leaves.specs.Leaf.{countedOf, differOf};
-ghost use Rattle.probe.specs.Leaves.{Left};
-ghost use Rattle.probe_history.specs.Left.{Columns};
+ghost use Rattle.probe.specs.Leaves.{WorkLeft};
+ghost use Rattle.probe.specs.Left.{Columns};
 
 // The lists behind the first stand one behind the other in b: f0, the weights, rtol and atol.
 fn first_step(t: f64, tout: f64, y: &[f64], b: &[f64], n: usize, nrtol: usize) -> u64
@@ -38,7 +38,7 @@ fn first_step(t: f64, tout: f64, y: &[f64], b: &[f64], n: usize, nrtol: usize) -
 
 // rtol and atol stand one behind the other in b.
 fn weights(b: &[f64], nrtol: usize, a: &mut [f64], n: usize, at: usize) -> usize
-    ensures { λ r. ⌜ _≡_ {A = Left} (record { number = r; work = now (a .exit) })
+    ensures { λ r. ⌜ _≡_ {A = WorkLeft} (record { number = r; work = now (a .exit) })
         (weightsOf (now (b .entry)) nrtol n at (now (a .entry))) ⌝ }
 {
     if b.len() < nrtol {
@@ -55,7 +55,7 @@ fn snapshot(b: &[f64], m: &[usize], a: &mut [f64]) -> usize
     if b.len() < 11 {
         return 2;
     }
-    probe_history::probe_snapshot_step(&b[0..11], m, &b[11..], a)
+    probe::steps::probe_snapshot_step(&b[0..11], m, &b[11..], a)
 }
 
 fn of_norms(kind: u64, p: usize, q: usize, x: f64, y: f64, a: &[f64], b: &[f64]) -> u64
@@ -99,9 +99,9 @@ fn of_lists(
         return probe::probe_dense_lu_solve(a, p, q, m, r);
     }
     if kind == 8 {
-        return probe_history::probe_predict_columns(a, p, q, r);
+        return probe::steps::probe_predict_columns(a, p, q, r);
     }
-    probe_history::probe_retract_columns(a, p, q, r)
+    probe::steps::probe_retract_columns(a, p, q, r)
 }
 
 fn of_records(kind: u64, x: f64, a: &mut [f64], b: &mut [f64], m: &mut [usize]) -> usize
@@ -110,24 +110,24 @@ fn of_records(kind: u64, x: f64, a: &mut [f64], b: &mut [f64], m: &mut [usize]) 
         (recordsOf kind x (now (a .entry)) (now (b .entry)) (now (m .entry))) ⌝ }
 {
     if kind == 10 {
-        return probe_history::probe_correct_columns(b, m, a);
+        return probe::steps::probe_correct_columns(b, m, a);
     }
     if kind == 11 {
-        return probe_history::probe_stoda_adjust_step_size(b, m, x, a);
+        return probe::steps::probe_stoda_adjust_step_size(b, m, x, a);
     }
     if kind == 12 {
-        return probe_history::probe_stoda_get_predicted_values(b, m, a);
+        return probe::steps::probe_stoda_get_predicted_values(b, m, a);
     }
     if kind == 13 {
-        return probe_history::probe_stoda_first_call_init(b, m);
+        return probe::steps::probe_stoda_first_call_init(b, m);
     }
     if kind == 14 {
-        return probe_history::probe_stoda_reset(b, m);
+        return probe::steps::probe_stoda_reset(b, m);
     }
     if kind == 15 {
         return snapshot(b, m, a);
     }
-    probe_history::probe_interpolate(x, a, b)
+    probe::steps::probe_interpolate(x, a, b)
 }
 
 // What the function of that kind answers; a float's pattern where it answers a float. Kinds: 0 vmnorm, 1 fnorm_dense,

@@ -23,7 +23,8 @@ use Rattle.common.specs.State.{Given}
 use Rattle.history.specs.Columns.{predictColumnsOf, retractColumnsOf, scaleColumnOf, rescaleColumnsOf}
 use Rattle.history.specs.Columns.{copyOf, slopeOf, fillOf}
 use Rattle.history.specs.Steps.{limitedOf, adjustOf, staleOf, predictedOf}
-use Rattle.verdict.specs.Verdict.{judgeOf, ratedOf, dconOf, estimatedOf, convergedOf, giveUpOf, furtherOf, testedOf}
+use Rattle.corrector.specs.Verdict.{judgeOf, ratedOf, dconOf, estimatedOf, judgedConverged, giveUpOf, judgedFurther}
+use Rattle.corrector.specs.Verdict.{judgedTested}
 use Rattle.corrector.specs.Iterate.{openOf, adamsResidualOf, adamsUpdateOf, adamsOf, correctOf}
 use Rattle.attempt.specs.Attempt.{retractedOf, repredictOf, errorOf, shrunkOf, tenthOf, missedAt, missedOf, overshotOf}
 use Rattle.attempt.specs.Attempt.{failedOf, restepOf}
@@ -85,8 +86,9 @@ pub cap-attained : fed 1 (start given from) [] replies .steps
 unfolding fed waits start started weighted sized firstAnswered beginning solveAt step stepped attempts decide tested
     attempted follow pass passAt iterations turns iterated initialOf firstSizeOf setupOf preparedAt preparedOf
     predictedAt failedOf restepOf retractedOf repredictOf errorOf shrunkOf tenthOf missedAt missedOf overshotOf
-    judgeOf ratedOf dconOf estimatedOf convergedOf giveUpOf furtherOf testedOf openOf adamsResidualOf adamsUpdateOf
-    adamsOf correctOf limitedOf adjustOf staleOf predictedOf predictColumnsOf retractColumnsOf scaleColumnOf
-    rescaleColumnsOf copyOf slopeOf fillOf firstCallInitOf resetOf ewsetOf invertOf toleranceOf vmnormOf elcoOf
-    tescoOf sm1Of cfodeOf rootOf absOf negative refused maxOf minOf times add sub mul div neg lt eq le ne ofInt ofBits
+    judgeOf ratedOf dconOf estimatedOf judgedConverged giveUpOf judgedFurther judgedTested openOf adamsResidualOf
+    adamsUpdateOf adamsOf correctOf limitedOf adjustOf staleOf predictedOf predictColumnsOf retractColumnsOf
+    scaleColumnOf rescaleColumnsOf copyOf slopeOf fillOf firstCallInitOf resetOf ewsetOf invertOf toleranceOf vmnormOf
+    elcoOf tescoOf sm1Of cfodeOf rootOf absOf negative refused maxOf minOf times add sub mul div neg lt eq le ne ofInt
+    ofBits
 cap-attained = refl

@@ -12,8 +12,8 @@ use Rattle.vectors.specs.declared.Weights.{Weights}
 use Rattle.vectors.specs.declared.Weights.the-variants.{Inverted, Refused}
 use Rattle.common.specs.declared.Settings.{Settings}
 use Rattle.common.specs.State.{Given, State}
-use Rattle.verdict.specs.declared.Pass.{Pass}
-use Rattle.verdict.specs.declared.Pass.the-variants.{Converged, Retry, NoConvergence, Further}
+use Rattle.corrector.specs.declared.Pass.{Pass}
+use Rattle.corrector.specs.declared.Pass.the-variants.{Converged, Retry, NoConvergence, Further}
 use Rattle.attempt.specs.declared.Next.{Next}
 use Rattle.attempt.specs.declared.Next.the-variants as Next
 use Rattle.between_steps.specs.declared.Answer.{Answer}

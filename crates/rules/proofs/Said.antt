@@ -23,25 +23,25 @@ use Rattle.common.specs.Rules.{firstCallInitOf, resetOf, tinyOf}
 use Rattle.common.specs.State.{Given, State}
 use Rattle.history.specs.Columns.{retractColumnsOf}
 use Rattle.history.specs.Steps.{limitedOf, adjustOf, predictedOf}
-use Rattle.verdict.specs.declared.Pass.the-variants as Pass
-use Rattle.verdict.specs.declared.Verdict.{Verdict}
-use Rattle.verdict.specs.declared.Correction.{Correction}
-use Rattle.verdict.specs.Verdict.{ratedOf, dconOf, estimatedOf, convergedOf, oldJacobian, giveUpOf}
-use Rattle.verdict.specs.Verdict.{strays, furtherOf, testedOf, ratedVerdict, judgeOf}
-use Rattle.verdict.proofs.Shared.{chosen}
-use Rattle.verdict.proofs.Laws.{Ways, converges, retries, fails, goes-on, judge-ways}
+use Rattle.corrector.specs.declared.Pass.the-variants as Pass
+use Rattle.corrector.specs.declared.Verdict.{Verdict}
+use Rattle.corrector.specs.declared.Correction.{Correction}
+use Rattle.corrector.specs.Verdict.{ratedOf, dconOf, estimatedOf, judgedConverged, oldJacobian, giveUpOf}
+use Rattle.corrector.specs.Verdict.{strays, judgedFurther, judgedTested, ratedVerdict, judgeOf}
+use Rattle.history.proofs.Laws.{chosen}
+use Rattle.corrector.proofs.Judged.{Ways, converges, retries, fails, goes-on, judge-ways}
 use Rattle.attempt.specs.declared.Next.the-variants.{Pass, TooSmall, Poor}
 use Rattle.attempt.specs.Attempt.{Attempt, retractedOf, retractedWork, repredictOf}
 use Rattle.attempt.specs.Attempt.{unconvergedOf, quarteredOf, noConvergenceAt, noConvergenceOf}
 use Rattle.attempt.specs.Attempt.{tenthOf, missedAt, missedOf, overshotOf, failedOf, loweredOf, restepOf}
 use Rattle.attempt.proofs.Laws.{unconverged, restepped}
-use Rattle.family.specs.declared.Change.the-variants.{Gap}
-use Rattle.family.specs.Family.{moveIf, toBdfOf, toAdamsAt, toAdamsOf, adamsProposalOf, changeIn, changeOf}
-use Rattle.family.specs.declared.Proposal.{Proposal}
-use Rattle.order.specs.declared.Branch.{Branch}
-use Rattle.order.specs.declared.Branch.the-variants.{CoefficientGap, Lowered, Kept, Raised}
-use Rattle.order.specs.declared.Factors.{Factors}
-use Rattle.order.specs.Order.{Settled, heldOf, settledOf, raiseOf, lowerOf, sameLargest, chooseOf, chooseOrderOf}
+use Rattle.acceptance.specs.declared.family.Change.the-variants.{Gap}
+use Rattle.acceptance.specs.Family.{moveIf, toBdfOf, toAdamsAt, toAdamsOf, adamsProposalOf, changeIn, changeOf}
+use Rattle.acceptance.specs.declared.family.Proposal.{Proposal}
+use Rattle.acceptance.specs.declared.Branch.{Branch}
+use Rattle.acceptance.specs.declared.Branch.the-variants.{CoefficientGap, Lowered, Kept, Raised}
+use Rattle.acceptance.specs.declared.order.Factors.{Factors}
+use Rattle.acceptance.specs.Order.{Settled, heldOf, settleOf, raiseOf, lowerOf, sameLargest, chooseOf, chooseOrderOf}
 use Rattle.acceptance.specs.Accept.{correctedOf, keepFamilyOf, testedOf as testedFamily, testFamilyOf, acceptOf}
 use Rattle.acceptance.proofs.Laws.{accept-keeps}
 use Rattle.between_steps.specs.declared.Status.the-variants as Status
@@ -78,16 +78,16 @@ give-up-stays c = go (oldJacobian c) refl
     go true e p q = differs (cc)
     go false e p q = never (oldJacobian c) e (old-is (c .meth) (c .jcur) (q .0) (q .1))
 
-further-stays : (s : Settings) (c : Common) (del : Float) → Stays c (furtherOf s c del)
-unfolding furtherOf
+further-stays : (s : Settings) (c : Common) (del : Float) → Stays c (judgedFurther s c del)
+unfolding judgedFurther
 further-stays s c del = chosen (Stays c) (strays s c del) (give-up-stays c) (λ p q. differs (cc))
 
-converged-stays : (c d : Common) → Stays c (convergedOf d)
-unfolding convergedOf
+converged-stays : (c d : Common) → Stays c (judgedConverged d)
+unfolding judgedConverged
 converged-stays c d p q = differs (cc)
 
-tested-stays : (s : Settings) (c : Common) (del : Float) → Stays c (testedOf s c del)
-unfolding testedOf
+tested-stays : (s : Settings) (c : Common) (del : Float) → Stays c (judgedTested s c del)
+unfolding judgedTested
 tested-stays s c del =
     chosen (Stays c) (Ieee.le (dconOf c del) oneF) (converged-stays c (estimatedOf s c)) (further-stays s c del)
 
@@ -264,8 +264,8 @@ NoGap r = r .branch ≡ CoefficientGap → ⊥
 
 module _ (s : Settings) where
   settled-other : (c : Common) (p : Proposal) (branch : Branch) (work : List Float) → (branch ≡ CoefficientGap → ⊥)
-      → NoGap (settledOf s c p branch work)
-  unfolding settledOf
+      → NoGap (settleOf s c p branch work)
+  unfolding settleOf
   settled-other c p branch work other =
       chosen NoGap (heldOf c p) (λ e. differs (cc)) (chosen NoGap (Ieee.lt (p .rh) d1·1) (λ e. differs (cc)) other)
 

@@ -14,11 +14,11 @@ use Rattle.common.specs.Record.{with-nfe, with-count, with-column}
 use Rattle.common.specs.State.{Given, State}
 use Rattle.history.specs.Columns.{copyOf, fillOf}
 use Rattle.history.specs.Parts.{storedOf}
-use Rattle.jacobian.specs.Jacobian.{beginOf, perturbOf, restoreOf, suppliedOf, Factored, finishedOf as factorsOf}
-use Rattle.verdict.specs.declared.Pass.{Pass}
-use Rattle.verdict.specs.declared.Pass.the-variants.{Converged, Retry, NoConvergence, Further}
+use Rattle.jacobian.specs.Jacobian.{beginOf, perturbOf, restoreOf, suppliedOf, Factored, finishJacobianOf as factorsOf}
+use Rattle.corrector.specs.declared.Pass.{Pass}
+use Rattle.corrector.specs.declared.Pass.the-variants.{Converged, Retry, NoConvergence, Further}
 use Rattle.corrector.specs.Iterate.{openOf, correctOf}
-use Rattle.attempt.specs.Attempt.{Moved}
+use Rattle.common.specs.State.{Moved}
 use Rattle.between_steps.specs.Start.{withDerivative}
 use Rattle.between_steps.specs.Pass.{verdictOf, isSupplied}
 use Rattle.rules.specs.Play.{Question, derivativeAt, jacobianAt}

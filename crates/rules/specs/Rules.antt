@@ -24,9 +24,9 @@ use Rattle.history.specs.Columns.{copyOf, slopeOf}
 use Rattle.attempt.specs.declared.Next.{Next}
 use Rattle.attempt.specs.declared.Next.the-variants as Next
 use Rattle.attempt.specs.Attempt.{Attempt, noConvergenceOf, errorOf, failedOf, restepOf}
-use Rattle.order.specs.declared.Branch.{Branch}
-use Rattle.order.specs.declared.Branch.the-variants as Branch
-use Rattle.order.specs.Order.{Settled}
+use Rattle.acceptance.specs.declared.Branch.{Branch}
+use Rattle.acceptance.specs.declared.Branch.the-variants as Branch
+use Rattle.acceptance.specs.Order.{Settled}
 use Rattle.acceptance.specs.Accept.{acceptOf, Closed, closedOf}
 use Rattle.between_steps.specs.declared.Answer.{Answer}
 use Rattle.between_steps.specs.declared.Answer.the-variants.{Continue, Interrupt, Modified}

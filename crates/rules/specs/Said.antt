@@ -20,14 +20,15 @@ use Rattle.common.specs.Limits.{mxncfOf}
 use Rattle.common.specs.State.{Given, State}
 use Rattle.history.specs.Columns.{retractColumnsOf}
 use Rattle.history.specs.Steps.{limitedOf}
-use Rattle.verdict.specs.declared.Pass.the-variants as Pass
-use Rattle.verdict.specs.declared.Verdict.{Verdict}
-use Rattle.verdict.specs.declared.Correction.{Correction}
-use Rattle.verdict.specs.Verdict.{judgeOf}
+use Rattle.corrector.specs.declared.Pass.the-variants as Pass
+use Rattle.corrector.specs.declared.Verdict.{Verdict}
+use Rattle.corrector.specs.declared.Correction.{Correction}
+use Rattle.corrector.specs.Verdict.{judgeOf}
 use Rattle.attempt.specs.declared.Next.the-variants.{Pass, Restep, TooSmall, Poor}
-use Rattle.attempt.specs.Attempt.{Attempt, Moved, noConvergenceOf, failedOf, restepOf}
-use Rattle.order.specs.declared.Branch.the-variants.{CoefficientGap}
-use Rattle.order.specs.Order.{Settled}
+use Rattle.common.specs.State.{Moved}
+use Rattle.attempt.specs.Attempt.{Attempt, noConvergenceOf, failedOf, restepOf}
+use Rattle.acceptance.specs.declared.Branch.the-variants.{CoefficientGap}
+use Rattle.acceptance.specs.Order.{Settled}
 use Rattle.acceptance.specs.Accept.{acceptOf}
 use Rattle.between_steps.specs.declared.Status.the-variants as Status
 use Rattle.rules.specs.Play.{Report, finished, ret}

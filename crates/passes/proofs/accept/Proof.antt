@@ -10,10 +10,10 @@ use types.Run.{OneOf, miss}
 use borrow.Author.Needs.{needs}
 use Rattle.common.specs.declared.Settings.{Settings}
 use Rattle.common.specs.declared.Common.{Common}
-use Rattle.order.specs.declared.Branch.{Branch}
-use Rattle.order.specs.declared.Branch.the-variants.{Unchanged, SmallGain, Lowered, Kept as KeptOrder, Raised}
-use Rattle.order.specs.declared.Branch.the-variants.{HeldBySm1, FamilyChanged, CoefficientGap}
-use Rattle.order.proofs.Branch.{the-type}
+use Rattle.acceptance.specs.declared.Branch.{Branch}
+use Rattle.acceptance.specs.declared.Branch.the-variants.{Unchanged, SmallGain, Lowered, Kept as KeptOrder, Raised}
+use Rattle.acceptance.specs.declared.Branch.the-variants.{HeldBySm1, FamilyChanged, CoefficientGap}
+use Rattle.acceptance.proofs.Branch.{the-type}
 use Rattle.acceptance.proofs.Laws.{accept-keeps}
 use Rattle.between_steps.proofs.Inside.{ready}
 use Rattle.passes.specs.Pass.{closeOf, acceptedOf, acceptedAt}

@@ -5,7 +5,7 @@ use native.Mathlib.Omega.{arith}
 use lib.ListN.{length}
 use borrow.Author.Needs.{needs}
 use Rattle.corrector.specs.Iterate.{Corrected}
-use Rattle.corrector.proofs.Laws.{length-iteration}
+use Rattle.corrector.proofs.Iterated.{length-iteration}
 use Rattle.between_steps.specs.Ranges.{Inside}
 use Rattle.between_steps.proofs.Inside.{in-range, inside-judged}
 use Rattle.passes.specs.Pass.{iterateOf, concludedAt}

@@ -2,7 +2,7 @@
 use mathlib.Core.Path.{ap, _∙_}
 use native.Mathlib.Omega.{arith}
 use borrow.Author.Needs.{needs}
-use Rattle.attempt.specs.Attempt.{Moved}
+use Rattle.common.specs.State.{Moved}
 use Rattle.attempt.proofs.Laws.{restepped}
 use Rattle.between_steps.proofs.Inside.{in-range}
 use Rattle.passes.specs.Pass.{restepOf}
