@@ -1,6 +1,6 @@
 -- What callers need of the definitions: a factoring and a solve keep every length, a factoring leaves every pivot
--- below n if all were before, and a solve leaves every entry outside the right side. Each follows by `keeps` from one
--- turn of each loop.
+-- below n if all were before, and a solve leaves every entry outside the right side. Each follows from one turn
+-- of each loop (`keeps`, `length-for`).
 -- Assumes nothing.
 use mathlib.Core.Path.{_≡_, refl, _∙_}
 use mathlib.Core.List.{List, [], _∷_}
@@ -13,7 +13,9 @@ use lib.ListN.{length, getD, set, length-set}
 use lib.Seq.{getD-set-other}
 use lib.Ieee as Ieee
 use lib.Ieee.{Float, nan}
-use Rattle.loops.specs.For.{for, keeps}
+use Rattle.loops.specs.For.{keeps}
+use Rattle.loops.specs.Stores.{length-for}
+use Rattle.loops.specs.Test.{chosen}
 use Rattle.numbers.specs.Float.{zeroF}
 use Rattle.numbers.specs.Sign.{absOf}
 use Rattle.dense.specs.declared.Pivot.{Pivot}
@@ -21,16 +23,6 @@ use Rattle.dense.specs.Factor.{entry, pickRow, pivotOf, swapAt, swapOf, 
 use Rattle.dense.specs.Factor.{columnAt, columnOf, eliminateOf, Factors, stepOf, factorOf}
 use Rattle.dense.specs.Solve.{entryAt, lessAt, lessOf, forwardStepOf, forwardAllOf, backwardOf}
 use Rattle.dense.specs.Solve.{Solution, backwardStepOf, solveOf}
-
--- what both choices have, the chosen one has
-chosen : {S : Type 0} (P : S → Type 0) (t : Bool) {x y : S} → P x → P y → P (cond t x y)
-chosen P true p q = p
-chosen P false p q = q
-
--- a loop over a list keeps its length if every turn does
-pub length-for : {A : Type 0} (f : ℕ → List A → List A) (i e : ℕ) (l : List A) → i ≤ e
-    → ((k : ℕ) (s : List A) → k < e → length (f k s) ≡ length s) → length (for i e f l) ≡ length l
-length-for f i e l h one = keeps (λ s. length s ≡ length l) f e (λ k s below p. one k s below ∙ p) i l h refl
 
 -- what step k leaves of s where the pivot is not 0
 abbrev made : ℕ → ℕ → Factors → Factors
@@ -45,21 +37,20 @@ module _ (n k : ℕ) (h : k < n) where
   length-exchange : (p : ℕ) (a : List Float) → length (exchangeOf n k p a) ≡ length a
   unfolding swapOf
   length-exchange p a =
-      let swapped = length-for (swapAt n k p) 0 n a (omega arith) (λ j s below. simp length-set) in
+      let swapped = length-for (swapAt n k p) 0 n a (λ j s. simp length-set) in
       chosen (λ (s : List Float). length s ≡ length a) (eqb p k) refl swapped
 
   length-scale : (a : List Float) → length (scaleOf n k a) ≡ length a
   unfolding scaleOf
-  length-scale a = length-for (scaleAt n k (entry n a k k)) (k + 1) n a (omega arith) (λ i s below. simp length-set)
+  length-scale a = length-for (scaleAt n k (entry n a k k)) (k + 1) n a (λ i s. simp length-set)
 
   length-column : (j : ℕ) (a : List Float) → length (columnOf n k j a) ≡ length a
   unfolding columnOf
-  length-column j a =
-      length-for (columnAt n k j (entry n a k j)) (k + 1) n a (omega arith) (λ i s below. simp length-set)
+  length-column j a = length-for (columnAt n k j (entry n a k j)) (k + 1) n a (λ i s. simp length-set)
 
   length-eliminate : (a : List Float) → length (eliminateOf n k a) ≡ length a
   unfolding eliminateOf
-  length-eliminate a = length-for (columnOf n k) (k + 1) n a (omega arith) (λ j s below. length-column j s)
+  length-eliminate a = length-for (columnOf n k) (k + 1) n a length-column
 
   -- what s has, whatever its flag, and what a step made of it has too, the step keeps
   step-keeps : (P : Factors → Type 0) (s : Factors) → P s → P (record { a = s .a; ipiv = s .ipiv; ok = false })

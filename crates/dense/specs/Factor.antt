@@ -1,6 +1,6 @@
 -- `dense_lu_factor` on a matrix of n columns of n numbers, the entry in row i of column j at i + j·n: the first
 -- largest pivot of each column, whole rows exchanged (the multipliers already stored included), a column refused
--- only if its pivot is 0.
+-- only if its pivot is 0. How near its factors' product comes to the matrix is not claimed.
 use mathlib.Core.List.{List}
 use mathlib.Core.Bool.{Bool, true, false, cond}
 use Prim.Native.Nat.{ℕ, _+_, _*_}

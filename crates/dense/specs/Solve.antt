@@ -1,6 +1,7 @@
 -- `dense_lu_solve` on one list: the right side is the n numbers at b, and the entry in row i of column j of the matrix
 -- stands at a + (i + j·n). Each row's exchange directly before its elimination, then the rows from the last up; refused
--- at a zero diagonal, with the rows below it done.
+-- at a zero diagonal, with the rows below it done. That it solves the system that was factored is not claimed: from
+-- n = 3 on it may solve another (`another-system` in proofs/Examples.antt).
 use mathlib.Core.List.{List}
 use mathlib.Core.Bool.{Bool, true, false, cond}
 use Prim.Native.Nat.{ℕ, _+_, _-_, _*_}

@@ -1,7 +1,7 @@
 -- A part of a list, lent as `&l[a..a + n]` or `&mut l[a..a + n]`: `part a n l` is what is lent, and `putPart a n l s`
 -- the whole when the part is back as s. (They are the logic's `midOf` and `putMid`.)
 --     length-part, length-putPart, getD-part    sizes and elements
--- Assumes nothing.
+-- Nothing is said of a part that reaches beyond its list. Assumes nothing.
 use mathlib.Core.Path.{_≡_, sym, _∙_}
 use mathlib.Core.List.{List, _++_}
 use Prim.Native.Nat.{ℕ, _+_, _-_, _≤_, _<_}

@@ -37,7 +37,8 @@ to-infinity b h = rw (nanBits-above binary64 b, le-ltb 0x7ff0_0000_0000_0000 (b 
 pub past-infinity : (b : ℕ) → 0x7ff0_0000_0000_0000 < b % 0x8000_0000_0000_0000 → Ieee.ofBits binary64 b ≡ nan
 past-infinity b h =
     is-nan (Ieee.ofBits binary64 b)
-    (sym (nanBits-is binary64 b) ∙ nanBits-above binary64 b ∙ lt-ltb 0x7ff0_0000_0000_0000 (b % 0x8000_0000_0000_0000) h)
+    (sym (nanBits-is binary64 b) ∙ nanBits-above binary64 b
+    ∙ lt-ltb 0x7ff0_0000_0000_0000 (b % 0x8000_0000_0000_0000) h)
 
 pub zero-over-zero : Ieee.div binary64 (Ieee.ofBits binary64 0) (Ieee.ofBits binary64 0) ≡ nan
 unfolding Ieee.div Ieee.ofBits

@@ -34,10 +34,14 @@ literals :
     × (F.d1e-5 ≡ nearest 1 100000)
     × (F.d1e-3 ≡ nearest 1 1000)
     × (F.d2 ≡ nearest 2 1)
+    × (F.d3 ≡ nearest 3 1)
     × (F.d5 ≡ nearest 5 1)
     × (F.d100 ≡ nearest 100 1)
     × (F.d1000 ≡ nearest 1000 1)
     × (F.d1024 ≡ nearest 1024 1)
     × (F.d10000 ≡ nearest 10000 1)
 unfolding nearest ofBits
-literals = (refl, refl, refl, refl, refl, refl, refl, refl, refl, refl, refl, refl, refl, refl, refl, refl, refl, refl, refl, refl, refl, refl, refl, refl, refl, refl, refl)
+literals = (
+  refl, refl, refl, refl, refl, refl, refl, refl, refl, refl, refl, refl, refl, refl,
+  refl, refl, refl, refl, refl, refl, refl, refl, refl, refl, refl, refl, refl, refl,
+)

@@ -5,7 +5,8 @@
 use mathlib.Core.Path.{_≡_, sym, ap, _∙_, subst}
 use mathlib.Core.Bool.{Bool, cond, _&&_}
 use Prim.Native.Nat.{ℕ, suc, _+_, _-_, _*_, _/_, _%_, _^_, _≤_, _<_}
-use native.Mathlib.Nat.{mul-assoc, mul-comm, mul-one, mul-right-comm, mul-lt-mul-of-pos-right, lt-of-mul-lt-mul-right, lt-of-not-le}
+use native.Mathlib.Nat.{mul-assoc, mul-comm, mul-one, mul-right-comm, mul-lt-mul-of-pos-right}
+use native.Mathlib.Nat.{lt-of-mul-lt-mul-right, lt-of-not-le}
 use native.Mathlib.Omega.{arith}
 use lib.IntN.{ℤ, pos, negsuc}
 use lib.Dec.{T, eqb, leb, ltb, leb→le, ltb→lt}
@@ -32,9 +33,11 @@ unique f s m n e g p q h =
     let same : m * up e * 2 ^ low f / down e ≡ n * up g * 2 ^ low f / down g =
         div-same (m * up e * 2 ^ low f) (down e) (n * up g * 2 ^ low f) (down g) (down-pos e) (down-pos g)
         (scaled m n (up e) (up g) (down e) (down g) (2 ^ low f) h) in
-    sym (ofBits-toBits f (fin s m e) p) ∙ ap (λ (x : ℕ). Ieee.ofBits f (pattern f s x)) same ∙ ofBits-toBits f (fin s n g) q
+    sym (ofBits-toBits f (fin s m e) p) ∙ ap (λ (x : ℕ). Ieee.ofBits f (pattern f s x)) same
+    ∙ ofBits-toBits f (fin s n g) q
 
-of-value : (f : Format) (x : Float) (s : Bool) (m : ℕ) (e : ℤ) → T (Ieee.fits f x) → T (Ieee.fits f (fin s m e)) → HasValue x s (m * up e) (down e) → x ≡ fin s m e
+of-value : (f : Format) (x : Float) (s : Bool) (m : ℕ) (e : ℤ) → T (Ieee.fits f x) → T (Ieee.fits f (fin s m e))
+    → HasValue x s (m * up e) (down e) → x ≡ fin s m e
 of-value f nan s m e p q v = absurd v
 of-value f (inf t) s m e p q v = absurd v
 of-value f (fin t n g) s m e p q v =
@@ -66,27 +69,32 @@ fine k l h = lt-of-not-le (λ small. let p : 2 ^ l < 2 ^ suc k = pow-lt (omega a
 in-units : (f : Format) (m : ℕ) (e : ℤ) → down e ≤ 2 ^ low f → InUnits f m e
 in-units f m (pos k) h = record {
   j = k + low f;
-  is = mul-assoc m (2 ^ k) (2 ^ low f) ∙ ap (λ (x : ℕ). m * x) (sym (pow-add 2 k (low f))) ∙ sym (mul-one (m * 2 ^ (k + low f)));
+  is = mul-assoc m (2 ^ k) (2 ^ low f) ∙ ap (λ (x : ℕ). m * x) (sym (pow-add 2 k (low f)))
+      ∙ sym (mul-one (m * 2 ^ (k + low f)));
 }
 in-units f m (negsuc k) h =
     let le = fine k (low f) h in record {
       j = low f - suc k;
       is = ap (λ (x : ℕ). x * 2 ^ low f) (mul-one m)
-          ∙ ap (λ (x : ℕ). m * x) (ap (λ (x : ℕ). 2 ^ x) (sym (back (low f) (suc k) le)) ∙ pow-add 2 (low f - suc k) (suc k))
+          ∙ ap (λ (x : ℕ). m * x)
+          (ap (λ (x : ℕ). 2 ^ x) (sym (back (low f) (suc k) le)) ∙ pow-add 2 (low f - suc k) (suc k))
           ∙ sym (mul-assoc m (2 ^ (low f - suc k)) (2 ^ suc k));
     }
 
 below : (a b c d e : ℕ) → 0 < b → a * b ≡ d * c → a < e * c → d < e * b
 below a b c d e p q h =
     let w : a * b < e * c * b = mul-lt-mul-of-pos-right h p in
-    lt-of-mul-lt-mul-right c (subst (λ (x : ℕ). x < e * b * c) q (subst (λ (x : ℕ). a * b < x) (mul-right-comm e c b) w))
+    lt-of-mul-lt-mul-right c
+    (subst (λ (x : ℕ). x < e * b * c) q (subst (λ (x : ℕ). a * b < x) (mul-right-comm e c b) w))
 
-pub round-own : (f : Format) (s : Bool) (m : ℕ) (e : ℤ) → T (Ieee.fits f (fin s (suc m) e)) → round f s (suc m * up e) (down e) ≡ fin s (suc m) e
+pub round-own : (f : Format) (s : Bool) (m : ℕ) (e : ℤ) → T (Ieee.fits f (fin s (suc m) e))
+    → round f s (suc m * up e) (down e) ≡ fin s (suc m) e
 round-own f s m e h =
     let w = says f s m e h in
     let u = in-units f (suc m) e (w .1) in
     of-value f (round f s (suc m * up e) (down e)) s (suc m) e (round-fits f s (suc m * up e) (down e)) h
     (round-exact f s (suc m * up e) (down e) (suc m) (u .j) (down-pos e) (w .0)
-    (subst (λ (x : ℕ). suc m * 2 ^ u .j < x) (mul-comm (2 ^ suc (emax f)) (2 ^ low f) ∙ sym (pow-add 2 (low f) (suc (emax f))))
+    (subst (λ (x : ℕ). suc m * 2 ^ u .j < x)
+    (mul-comm (2 ^ suc (emax f)) (2 ^ low f) ∙ sym (pow-add 2 (low f) (suc (emax f))))
     (below (suc m * up e) (2 ^ low f) (down e) (suc m * 2 ^ u .j) (2 ^ suc (emax f)) (pow-pos (low f)) (u .is) (w .2)))
     (u .is))

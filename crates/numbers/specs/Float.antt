@@ -1,6 +1,7 @@
 -- 64-bit floats: short names for the operations of lib.Ieee at binary64, and the constants of the method.
 -- A literal of the code is `ofBits` of its pattern. Each stands here once, named after its decimal (`d1·2` is 1.2), and
--- proofs/Literals.antt shows that it is the float nearest to that decimal.
+-- proofs/Literals.antt shows that it is the float nearest to that decimal. How an operation rounds is said in
+-- lib.Ieee.
 use Prim.Native.Nat.{ℕ}
 use lib.IntN.{pos}
 use lib.Ieee as Ieee
@@ -97,6 +98,9 @@ d1e-3 = lit 0x3f50_624d_d2f1_a9fc
 
 abbrev pub d2 : Float
 d2 = lit 0x4000_0000_0000_0000
+
+abbrev pub d3 : Float
+d3 = lit 0x4008_0000_0000_0000
 
 abbrev pub d5 : Float
 d5 = lit 0x4014_0000_0000_0000

@@ -1,4 +1,5 @@
 -- Maximum, minimum and clamp as Rust's f64 has them: maximum and minimum ignore a NaN, clamp keeps it.
+-- Of +0 and -0 the first is taken; Rust leaves that open.
 use mathlib.Core.Bool.{cond}
 use lib.Ieee as Ieee
 use lib.Ieee.{Float}

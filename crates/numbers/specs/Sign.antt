@@ -1,5 +1,5 @@
 -- The sign of a float, as Rust's `abs`, `is_sign_negative`, `signum` and `copysign` see it: zeros have one.
--- A NaN has none: it counts as positive.
+-- A NaN has none: it counts as positive. The sign bit that a NaN has in Rust is not spoken of.
 use mathlib.Core.Bool.{Bool, false, _||_}
 use lib.IntN.{pos}
 use lib.Ieee as Ieee

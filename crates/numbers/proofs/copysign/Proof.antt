@@ -12,10 +12,14 @@ is-sign-negative-requires : tie.Need-is-sign-negative-requires
 is-sign-negative-requires c κs = search needs
 
 returns : tie.Need-returns
-returns c = rw (c .before .before .abs .ensures) (copysign-negative _ _ (sym (c .before .is-sign-negative .ensures) ∙ c .if1 .taken))
+returns c =
+    rw (c .before .before .abs .ensures)
+    (copysign-negative _ _ (sym (c .before .is-sign-negative .ensures) ∙ c .if1 .taken))
 
 returns-2 : tie.Need-returns-2
-returns-2 c = c .before .before .abs .ensures ∙ copysign-positive _ _ (sym (c .before .is-sign-negative .ensures) ∙ c .if1 .left)
+returns-2 c =
+    c .before .before .abs .ensures
+    ∙ copysign-positive _ _ (sym (c .before .is-sign-negative .ensures) ∙ c .if1 .left)
 
 pub copysign-spec : {M : Type 1} → statement M
 copysign-spec = tie.close (tie.spec abs-requires is-sign-negative-requires returns returns-2)

@@ -15,7 +15,8 @@ is-sign-negative-requires : tie.Need-is-sign-negative-requires
 is-sign-negative-requires c κs = search needs
 
 returns-2 : tie.Need-returns-2
-returns-2 c = signum-negative (c .before .before .before .args .x) (sym (c .before .is-sign-negative .ensures) ∙ c .if2 .taken)
+returns-2 c =
+    signum-negative (c .before .before .before .args .x) (sym (c .before .is-sign-negative .ensures) ∙ c .if2 .taken)
 
 returns-3 : tie.Need-returns-3
 returns-3 c =
