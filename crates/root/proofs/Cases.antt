@@ -1,4 +1,4 @@
--- Which case of `rootOf` an order and of `valueOf` a float is, by the tests that the code makes.
+-- Which case of `rootOf` an order and of `rootValue` a float is, by the tests that the code makes.
 -- Assumes nothing.
 use mathlib.Core.Path.{_≡_, refl, sym}
 use mathlib.Core.Bool.{true, false}
@@ -14,10 +14,10 @@ use lib.Ieee.Positive.{positive}
 use borrow.Author.Tests.{lt-ltb, ne-eqb, le-leb, lt-leb}
 use Rattle.loops.specs.Test.{differs}
 use Rattle.numbers.specs.Float.{lit, zeroF}
-use Rattle.root.specs.Root.{bitsOf, valueOf, rootOf}
+use Rattle.root.specs.Root.{rootBits, rootValue, rootOf}
 use Rattle.root.specs.Largest.{infinityBits}
 
-pub accepted : (x : Float) (k : ℕ) → 2 ≤ k → k ≤ 13 → rootOf x k ≡ record { value = valueOf x k }
+pub accepted : (x : Float) (k : ℕ) → 2 ≤ k → k ≤ 13 → rootOf x k ≡ record { value = rootValue x k }
 unfolding rootOf
 accepted x k g h = rw (le-leb 2 k g, le-leb k 13 h)
 
@@ -33,8 +33,8 @@ too-high x k h = rw (le-leb 2 k (omega arith), lt-leb k 13 h)
 size-pos : (m : ℕ) (e : ℤ) → 0 * down e < suc m * up e * 1
 size-pos m e = omega (arith, mul-pos (zero-lt-suc m) (up-pos e), zero-mul (down e))
 
-pub of-zero : (x : Float) (k : ℕ) → Ieee.eq x zeroF ≡ true → zeroF ≡ valueOf x k
-unfolding valueOf Ieee.eq Ieee.ofBits
+pub of-zero : (x : Float) (k : ℕ) → Ieee.eq x zeroF ≡ true → zeroF ≡ rootValue x k
+unfolding rootValue Ieee.eq Ieee.ofBits
 of-zero nan k h = differs h
 of-zero (inf true) k h = differs h
 of-zero (inf false) k h = differs h
@@ -44,16 +44,16 @@ of-zero (fin true (suc m) e) k h =
 of-zero (fin false (suc m) e) k h =
     differs (rw (ne-eqb (suc m * up e * 1) (0 * down e) (λ q. omega (arith, size-pos m e))) at h)
 
-pub of-infinity : (x : Float) (k : ℕ) → Ieee.eq x (lit infinityBits) ≡ true → x ≡ valueOf x k
-unfolding valueOf Ieee.eq Ieee.ofBits
+pub of-infinity : (x : Float) (k : ℕ) → Ieee.eq x (lit infinityBits) ≡ true → x ≡ rootValue x k
+unfolding rootValue Ieee.eq Ieee.ofBits
 of-infinity nan k h = differs h
 of-infinity (inf true) k h = differs h
 of-infinity (inf false) k h = refl
 of-infinity (fin s m e) k h = differs h
 
 pub of-positive : (x : Float) (k : ℕ) → Ieee.eq x (lit infinityBits) ≡ false → Ieee.lt zeroF x ≡ true
-    → Ieee.ofBits binary64 (bitsOf x k) ≡ valueOf x k
-unfolding valueOf Ieee.eq Ieee.lt Ieee.ofBits
+    → Ieee.ofBits binary64 (rootBits x k) ≡ rootValue x k
+unfolding rootValue Ieee.eq Ieee.lt Ieee.ofBits
 of-positive nan k g h = differs h
 of-positive (inf true) k g h = differs h
 of-positive (inf false) k g h = differs (sym g)
@@ -74,8 +74,8 @@ is-positive (fin true (suc m) e) g h = differs h
 is-positive (fin false (suc m) e) g h = lt→ltb 0 (suc m) (zero-lt-suc m)
 
 pub of-other : (x : Float) (k : ℕ) → Ieee.eq x zeroF ≡ false → Ieee.eq x (lit infinityBits) ≡ false
-    → Ieee.lt zeroF x ≡ false → nan ≡ valueOf x k
-unfolding valueOf Ieee.eq Ieee.lt Ieee.ofBits
+    → Ieee.lt zeroF x ≡ false → nan ≡ rootValue x k
+unfolding rootValue Ieee.eq Ieee.lt Ieee.ofBits
 of-other nan k f g h = refl
 of-other (inf true) k f g h = refl
 of-other (inf false) k f g h = differs (sym g)

@@ -1,7 +1,7 @@
 -- The k-fold product, each rounded, grows with the candidate's pattern. So the kept bits are the largest pattern whose
 -- product is at most x, and the root is the largest such float, products that underflow or overflow included.
 --     product-unsigned, product-mono    no product is a NaN, and a larger pattern has no smaller product
---     largest                           what `bitsOf` finds
+--     largest                           what `rootBits` finds
 --     fails-beyond                      from infinity's pattern on, where the NaNs lie, none passes
 --     root-is, largest-float            the same of the root
 -- They hold for every x that is finite and above 0, which is `positive x`. Assumes nothing.
@@ -19,7 +19,7 @@ use lib.Ieee.Positive.{positive}
 use Rattle.loops.specs.Test.{differs}
 use Rattle.loops.specs.For.{times, stays}
 use Rattle.numbers.proofs.Bits.{past-infinity}
-use Rattle.root.specs.Root.{factor, powerOf, keepOf, turnOf, bitsOf, valueOf, rootOf}
+use Rattle.root.specs.Root.{factor, powerOf, keepOf, bitTurn, rootBits, rootValue, rootOf}
 use Rattle.root.specs.Largest.{infinityBits, unsigned, productOf, Largest, LargestFloat}
 use Rattle.root.proofs.Laws.{alike}
 use Rattle.root.proofs.Cases.{accepted}
@@ -130,15 +130,15 @@ module _ (x : Float) (k : ℕ) (above : T (positive x)) where
       }
 
   kept-bits : (n i bits : ℕ) → Left x k n bits
-      → Left x k 0 (times (turnOf x k) n i (record { bits = bits; bit = 2 ^ n / 2 }) .bits)
+      → Left x k 0 (times (bitTurn x k) n i (record { bits = bits; bit = 2 ^ n / 2 }) .bits)
   unfolding times
   kept-bits zero i bits l = l
   kept-bits (suc n) i bits l =
       let half : 2 ^ suc n / 2 ≡ 2 ^ n = omega (arith, pow-succ' 2 n) in
       rw half (kept-bits n (i + 1) (keepOf x k bits (2 ^ n)) (kept-bit n bits l))
 
-  searched : Left x k 0 (bitsOf x k)
-  unfolding bitsOf
+  searched : Left x k 0 (rootBits x k)
+  unfolding rootBits
   searched =
       kept-bits 63 0 0 (record {
         room = omega arith;
@@ -146,19 +146,19 @@ module _ (x : Float) (k : ℕ) (above : T (positive x)) where
         beyond = λ b g h. absurd (omega arith);
       })
 
-pub largest : (x : Float) (k : ℕ) → T (positive x) → Largest x k (bitsOf x k)
+pub largest : (x : Float) (k : ℕ) → T (positive x) → Largest x k (rootBits x k)
 largest x k p =
     let s = searched x k p in
     record {
-      finite = lt-of-not-le (λ g. differs (sym (fails-beyond x k p (bitsOf x k) g (omega arith)) ∙ s .here));
+      finite = lt-of-not-le (λ g. differs (sym (fails-beyond x k p (rootBits x k) g (omega arith)) ∙ s .here));
       reached = s .here;
       passed = λ b l h. fails-is x k p b h ∙ ap not (s .beyond b (omega arith) h);
     }
 
 -- ---- the root itself
 pub root-is : (x : Float) (k : ℕ) → T (positive x) → 2 ≤ k → k ≤ 13
-    → rootOf x k ≡ record { value = ofBits binary64 (bitsOf x k) }
-unfolding valueOf
+    → rootOf x k ≡ record { value = ofBits binary64 (rootBits x k) }
+unfolding rootValue
 root-is nan k p g h = absurd p
 root-is (inf s) k p g h = absurd p
 root-is (fin true m e) k p g h = absurd p
@@ -176,7 +176,7 @@ above-bits r z h u f a =
 
 pub largest-float : (x : Float) (k : ℕ) → T (positive x) → 2 ≤ k → k ≤ 13 → LargestFloat x k (rootOf x k .value)
 largest-float x k p g h =
-    let r = bitsOf x k in
+    let r = rootBits x k in
     let l = largest x k p in
     rw (root-is x k p g h)
     (record {

@@ -1,5 +1,6 @@
 -- What the kept bits are: the largest pattern whose float's k-fold product, left to right, each rounded, is at most x.
 -- The patterns from 0 to infinity's are the floats without a sign, in their order; `unitsOf` says how large each is.
+-- That this is the float nearest to the real root is not claimed.
 use mathlib.Core.Path.{_≡_}
 use mathlib.Core.Bool.{Bool, true, false, not}
 use Prim.Native.Nat.{ℕ, zero, suc, _+_, _*_, _/_, _%_, _^_, _≤_, _<_}

@@ -4,7 +4,7 @@ ghost use mathlib.Core.Path.{_≡_};
 ghost use Prim.Native.Nat.{_+_, _≤_};
 ghost use lib.Dec.{T};
 ghost use lib.Ieee.Positive.{positive};
-ghost use Rattle.root.specs.Root.{powerOf, keepOf, bitsOf, rootOf};
+ghost use Rattle.root.specs.Root.{powerOf, keepOf, rootBits, rootOf};
 
 pub struct Answer {
     pub value: f64,
@@ -35,7 +35,7 @@ fn keep(x: f64, k: usize, bits: u64, bit: u64) -> u64
 
 fn root_bits(x: f64, k: usize) -> u64
     requires { ⌜ T (positive x) ⌝ }
-    ensures { λ r. ⌜ r ≡ bitsOf x k ⌝ }
+    ensures { λ r. ⌜ r ≡ rootBits x k ⌝ }
 {
     let mut bits = 0;
     let mut bit = 0x4000_0000_0000_0000;

@@ -19,7 +19,7 @@ use borrow.Author.Tests.{ne-eqb, lt-ltb}
 use Rattle.loops.specs.Test.{differs}
 use Rattle.numbers.specs.Float.{zeroF}
 use Rattle.numbers.proofs.Bits.{past-infinity}
-use Rattle.sqrt.specs.Sqrt.{bitsOf, sqrtOf}
+use Rattle.sqrt.specs.Sqrt.{sqrtBits, sqrtOf}
 
 -- a number that is not 0, as the tests see it: its size times the other denominator, which is 1
 size-pos : (m : ℕ) (e : ℤ) → 0 < suc m * up e * 1
@@ -126,7 +126,7 @@ finite-bits x f infinite n = absurd (n infinity-bits)
 finite-bits x f (number m e) n = positive-bits m e f
 
 pub root-of-bits : (x : Float) → Above x → (toBits binary64 x ≡ 0x7ff0_0000_0000_0000 → ⊥)
-    → ofBits binary64 (bitsOf (toBits binary64 x)) ≡ sqrtOf x
+    → ofBits binary64 (sqrtBits (toBits binary64 x)) ≡ sqrtOf x
 unfolding sqrtOf
 root-of-bits x infinite n = absurd (n infinity-bits)
 root-of-bits x (number m e) n = refl

@@ -20,7 +20,7 @@ use lib.Ieee.Bits.{ofBits-fits}
 use lib.Ieee.Positive.{num, den, positive, den-pos, positive-of-value}
 use borrow.Author.Tests.{ltb-true, lt-ltb}
 use Rattle.numbers.proofs.Unique.{unique}
-use Rattle.sqrt.specs.Sqrt.{normalOf, evenOf, digitsOf, bitsOf, sqrtOf}
+use Rattle.sqrt.specs.Sqrt.{normalOf, evenOf, digitsOf, sqrtBits, sqrtOf}
 use Rattle.sqrt.specs.Rounded.{HalfBelow, HalfAbove, HalfUnit, Nearest}
 use Rattle.sqrt.specs.Rounded.{RootRounded, RootOnly, RootOfSquare, RootOfRest}
 use Rattle.sqrt.proofs.Pattern.{normal, evened}
@@ -53,7 +53,7 @@ half n e k h =
 
 found : (m : ℕ) (e : ℤ) → T (Ieee.fits binary64 (fin false (suc m) e))
     → Found (fin false (suc m) e) (sqrtOf (fin false (suc m) e))
-unfolding sqrtOf bitsOf
+unfolding sqrtOf sqrtBits
 found m e f =
     let b = toBits binary64 (fin false (suc m) e) in
     let range = positive-bits m e f in
@@ -143,7 +143,7 @@ module _ (x y : Float) (s : Found x y) where
 
 fits-root : (m : ℕ) (e : ℤ) → T (Ieee.fits binary64 (sqrtOf (fin false (suc m) e)))
 unfolding sqrtOf
-fits-root m e = ofBits-fits binary64 (bitsOf (toBits binary64 (fin false (suc m) e)))
+fits-root m e = ofBits-fits binary64 (sqrtBits (toBits binary64 (fin false (suc m) e)))
 
 pub rounded : RootRounded
 rounded m e f =

@@ -12,10 +12,9 @@ use native.Mathlib.Numerals.{add-one}
 use native.Mathlib.Omega.{arith}
 use lib.Dec.{leb}
 use borrow.Author.Tests.{leb-true, leb-false}
-use Rattle.loops.specs.For.{for}
+use Rattle.loops.specs.For.{for, reaches}
 use Rattle.sqrt.specs.declared.Digits.{Digits}
-use Rattle.sqrt.specs.Sqrt.{hidden, digitOf, turnOf, digitsOf}
-use Rattle.sqrt.proofs.Laws.{carries}
+use Rattle.sqrt.specs.Sqrt.{hidden, digitOf, digitTurn, digitsOf}
 
 pub record Kept (n i : ℕ) (s : Digits) : Type 0 where
   pub whole : (s .root * s .root + s .remainder) * 2 ^ 54 + s .rest ≡ n * (2 ^ i * 2 ^ i)
@@ -89,7 +88,7 @@ pub root : (n : ℕ) → n < 2 ^ 54 → Root n (digitsOf n)
 unfolding digitsOf
 root n h =
     let first : Digits = record { rest = n; remainder = 0; root = 0 } in
-    let s = for 0 54 turnOf first in
-    let k = carries (Kept n) turnOf (turned n) 0 54 first (omega arith) (starts n h) in
+    let s = for 0 54 digitTurn first in
+    let k = reaches (Kept n) digitTurn 54 (λ i t l. turned n i t) 0 first (omega arith) (starts n h) in
     let e = all-down n (s .root * s .root + s .remainder) (s .rest) (k .whole) (k .left) in
     record { low = omega arith; high = omega (arith, k .close); short = k .short }

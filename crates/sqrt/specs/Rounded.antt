@@ -1,7 +1,8 @@
 -- The correctly rounded square root in whole numbers: what IEEE 754 asks of squareRoot, rounding to nearest.
 -- A finite float is the fraction num / den (m · 2^e is m · up e / down e), and every order of fractions is
 -- multiplied out. No real root is named: a fraction v ≥ 0 lies below the root of x where v² < x, so that half of v
--- does where v² < 4 · x. The theorems at the end are proved in proofs/Rounded.antt.
+-- does where v² < 4 · x. The theorems at the end are proved in proofs/Rounded.antt; of the standard's other rounding
+-- directions and its flags they say nothing.
 use mathlib.Core.Path.{_≡_}
 use mathlib.Core.Bool.{Bool, true, false}
 use Prim.Native.Nat.{ℕ, suc, _+_, _-_, _*_, _^_, _≤_, _<_}

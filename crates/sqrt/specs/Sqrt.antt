@@ -45,26 +45,26 @@ triedOf rest remainder root =
 unfoldable pub digitOf : Digits → Digits
 digitOf s = triedOf (4 * (s .rest % hidden)) (4 * s .remainder + s .rest / hidden) (s .root)
 
-abbrev pub turnOf : ℕ → Digits → Digits
-turnOf i s = digitOf s
+abbrev pub digitTurn : ℕ → Digits → Digits
+digitTurn i s = digitOf s
 
 unfoldable pub digitsOf : ℕ → ℕ
 unfolding times digitOf
-digitsOf n = for 0 54 turnOf (record { rest = n; remainder = 0; root = 0 }) .root
+digitsOf n = for 0 54 digitTurn (record { rest = n; remainder = 0; root = 0 }) .root
 
 -- 53 digits are kept and the 54th rounds: it is never followed by zeros alone, so there is no tie
-unfoldable pub bitsOf : ℕ → ℕ
+unfoldable pub sqrtBits : ℕ → ℕ
 unfolding normalOf evenOf digitsOf
-bitsOf bits =
+sqrtBits bits =
     let x = evenOf (normalOf bits) in
     let q = digitsOf (x .digits) in
     ((x .exponent + 971) / 2 - 1) * hidden + (q / 2 + q % 2)
 
 unfoldable pub sqrtOf : Float → Float
-unfolding bitsOf Ieee.toBits Ieee.ofBits
+unfolding sqrtBits Ieee.toBits Ieee.ofBits
 sqrtOf nan = nan
 sqrtOf (inf true) = nan
 sqrtOf (inf false) = inf false
 sqrtOf (fin s zero e) = fin s zero e
 sqrtOf (fin true (suc m) e) = nan
-sqrtOf (fin false (suc m) e) = Ieee.ofBits binary64 (bitsOf (Ieee.toBits binary64 (fin false (suc m) e)))
+sqrtOf (fin false (suc m) e) = Ieee.ofBits binary64 (sqrtBits (Ieee.toBits binary64 (fin false (suc m) e)))

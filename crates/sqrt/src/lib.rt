@@ -1,7 +1,7 @@
 // The square root, correctly rounded, by integer digits.
 ghost use mathlib.Core.Path.{_≡_};
 ghost use Prim.Native.Nat.{_+_, _*_, _^_, _≤_, _<_};
-ghost use Rattle.sqrt.specs.Sqrt.{normalOf, evenOf, digitOf, digitsOf, bitsOf, sqrtOf};
+ghost use Rattle.sqrt.specs.Sqrt.{normalOf, evenOf, digitOf, digitsOf, sqrtBits, sqrtOf};
 
 // A number above 0 as digits · 2^(exponent - 1127), the leading one of its 53 digits in place 52.
 pub struct Normal {
@@ -70,7 +70,7 @@ fn root_digits(n: u64) -> u64
 // The pattern of the root of a pattern above 0 and finite: 53 digits, the 54th rounds.
 fn root_bits(bits: u64) -> u64
     requires { ⌜ (0 < bits) × (bits < 0x7ff0_0000_0000_0000) ⌝ }
-    ensures { λ r. ⌜ r ≡ bitsOf bits ⌝ }
+    ensures { λ r. ⌜ r ≡ sqrtBits bits ⌝ }
 {
     let x = even(normalise(bits));
     let q = root_digits(x.digits);

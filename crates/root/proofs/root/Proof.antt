@@ -3,7 +3,7 @@ use native.Mathlib.Omega.{arith}
 use lib.Ieee.{nanBits}
 use borrow.Author.Needs.{needs}
 use Rattle.numbers.proofs.Bits.{to-infinity, zero-over-zero}
-use Rattle.root.specs.Root.{bitsOf}
+use Rattle.root.specs.Root.{rootBits}
 use Rattle.root.proofs.Cases.{accepted, too-low, too-high}
 use Rattle.root.proofs.Cases.{of-zero, of-infinity, of-positive, of-other, is-positive}
 use Rattle.root.proofs.Monotone.{largest}
@@ -45,7 +45,7 @@ float-from-bits-value c =
     let w = t .before in
     let a = w .before .before .before .before .args in
     let l = largest (a .x) (a .k) (is-positive (a .x) (w .if4 .left) (t .if5 .taken)) in
-    rw (c .root-bits .ensures) (to-infinity (bitsOf (a .x) (a .k)) (omega (arith, l .finite)))
+    rw (c .root-bits .ensures) (to-infinity (rootBits (a .x) (a .k)) (omega (arith, l .finite)))
 
 returns-5 : tie.Need-returns-5
 returns-5 c =

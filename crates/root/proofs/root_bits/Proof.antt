@@ -4,7 +4,7 @@ use Prim.Native.Nat.{_-_}
 use mathlib.Core.Path.{_≡_, refl, ap}
 use native.Mathlib.Omega.{arith}
 use Rattle.loops.specs.For.{for, again, ended}
-use Rattle.root.specs.Root.{Kept, turnOf, bitsOf}
+use Rattle.root.specs.Root.{Candidate, bitTurn, rootBits}
 use Rattle.root.proofs.Room.{Room, first, candidate, next}
 use Rattle.root.proofs.root_bits.Statement.{statement}
 use Rattle.root.proofs.root_bits.Tie as tie
@@ -12,8 +12,8 @@ use Rattle.root.proofs.root_bits.Tie as tie
 abbrev Inv-loop : tie.InvT-loop
 Inv-loop x k bits₀ bit₀ counter₀ bits bit counter =
     Room counter bits bit
-    × (for counter 63 (turnOf x k) (record { bits = bits; bit = bit })
-    ≡ for 0 63 (turnOf x k) (record { bits = 0; bit = 0x4000_0000_0000_0000 }))
+    × (for counter 63 (bitTurn x k) (record { bits = bits; bit = bit })
+    ≡ for 0 63 (bitTurn x k) (record { bits = 0; bit = 0x4000_0000_0000_0000 }))
 
 abbrev μ-loop : tie.MeasureT-loop
 μ-loop x k bits₀ bit₀ counter₀ bits bit counter = 63 - counter
@@ -37,10 +37,10 @@ loop-again c =
     rw (c .keep .ensures) (next _ _ above _ _ _ (l .inv .0), again _ _ _ _ _ (omega arith) (l .inv .1))
 
 returns : tie.Need-returns Inv-loop μ-loop
-unfolding bitsOf
+unfolding rootBits
 returns c =
     let l = c .before .loop in
-    ap (λ (s : Kept). s .bits) (ended _ (l .counter) 63 _ _ (omega arith) (l .inv .1))
+    ap (λ (s : Candidate). s .bits) (ended _ (l .counter) 63 _ _ (omega arith) (l .inv .1))
 
 pub root-bits-spec : {M : Type 1} → statement M
 root-bits-spec =

@@ -1,11 +1,11 @@
--- `root_bits` meets its contract: it calls what `bitsOf` calls, and the bounds of the digits and the exponent keep
+-- `root_bits` meets its contract: it calls what `sqrtBits` calls, and the bounds of the digits and the exponent keep
 -- every sum in 64 bits.
 use Prim.Native.Nat.{ℕ, _<_}
 use mathlib.Core.Path.{_≡_}
 use native.Mathlib.Omega.{arith}
 use borrow.Author.Needs.{needs}
 use Rattle.sqrt.specs.declared.Normal.{Normal}
-use Rattle.sqrt.specs.Sqrt.{normalOf, evenOf, digitsOf, bitsOf}
+use Rattle.sqrt.specs.Sqrt.{normalOf, evenOf, digitsOf, sqrtBits}
 use Rattle.sqrt.proofs.Pattern.{Evened, normal, evened}
 use Rattle.sqrt.proofs.Turns.{Root, root}
 use Rattle.sqrt.proofs.root_bits.Statement.{statement}
@@ -61,7 +61,7 @@ add-result-2 c =
     omega (arith, odd b (omega arith) (omega arith) n e .last, digits b (omega arith) (omega arith) n e q .short)
 
 returns : tie.Need-returns
-unfolding bitsOf
+unfolding sqrtBits
 returns c =
     let s = c .before .before in
     rw (c .before .root-digits .ensures, s .even .ensures, s .before .normalise .ensures)

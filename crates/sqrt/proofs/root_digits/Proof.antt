@@ -5,13 +5,14 @@ use mathlib.Core.Path.{_≡_, refl, sym, ap}
 use native.Mathlib.Omega.{arith}
 use lib.Pow.{pow-mono}
 use Rattle.loops.specs.For.{for, onward, ended}
-use Rattle.sqrt.specs.Sqrt.{turnOf, digitsOf}
+use Rattle.sqrt.specs.Sqrt.{digitTurn, digitsOf}
 use Rattle.sqrt.proofs.Turns.{Kept, starts, turned}
 use Rattle.sqrt.proofs.root_digits.Statement.{statement}
 use Rattle.sqrt.proofs.root_digits.Tie as tie
 
 abbrev Inv-loop : tie.InvT-loop
-Inv-loop n s₀ counter₀ s counter = (counter ≤ 54) × Kept n counter s × (for counter 54 turnOf s ≡ for 0 54 turnOf s₀)
+Inv-loop n s₀ counter₀ s counter =
+    (counter ≤ 54) × Kept n counter s × (for counter 54 digitTurn s ≡ for 0 54 digitTurn s₀)
 
 abbrev μ-loop : tie.MeasureT-loop
 μ-loop n s₀ counter₀ s counter = 54 - counter
@@ -36,14 +37,14 @@ loop-again : tie.Need-loop-again Inv-loop μ-loop
 loop-again c =
     let l = c .before .before .loop in
     let e = c .digit .ensures in
-    let r = onward turnOf (l .counter) 54 (l .s) (c .digit .result) _ (omega arith) (sym e) (l .inv .2) in
+    let r = onward digitTurn (l .counter) 54 (l .s) (c .digit .result) _ (omega arith) (sym e) (l .inv .2) in
     (omega arith, rw e (turned _ _ _ (l .inv .1)), r)
 
 returns : tie.Need-returns Inv-loop μ-loop
 unfolding digitsOf
 returns c =
     let l = c .before .loop in
-    ap (λ s. s .root) (ended turnOf (l .counter) 54 (l .s) _ (omega arith) (l .inv .2))
+    ap (λ s. s .root) (ended digitTurn (l .counter) 54 (l .s) _ (omega arith) (l .inv .2))
 
 pub root-digits-spec : {M : Type 1} → statement M
 root-digits-spec =
