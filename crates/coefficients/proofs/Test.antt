@@ -10,7 +10,7 @@ use native.Mathlib.Nat.{eq-or-lt-of-le}
 use native.Mathlib.Omega.{arith}
 use lib.Dec.{T, leb, ltb, leb→le, ltb→lt}
 use lib.Ieee.{Float, nan, inf, fin, binary64, up, down, ofBits, toBits}
-use Rattle.coefficients.specs.Published.{Fraction, _over_, bottom, AtMost, AtLeast, Within}
+use Rattle.coefficients.specs.Published.{Ratio, _over_, bottom, AtMost, AtLeast, Within}
 
 abbrev pub both : Bool → Bool → Bool
 both true b = b
@@ -36,31 +36,31 @@ all-at (suc n) a f t k h g =
       | inr l ↦ all-at n (suc a) f (both-right (f a) (all n (suc a) f) t) k l (omega arith)
     ]
 
-abbrev atMost : Float → Fraction → Bool
+abbrev atMost : Float → Ratio → Bool
 atMost nan f = false
 atMost (inf s) f = false
 atMost (fin true m e) f = false
 atMost (fin false m e) (a over b) = leb (m * up e * b) (a * down e)
 
-abbrev atLeast : Float → Fraction → Bool
+abbrev atLeast : Float → Ratio → Bool
 atLeast nan f = false
 atLeast (inf s) f = false
 atLeast (fin true m e) f = false
 atLeast (fin false m e) (a over b) = leb (a * down e) (m * up e * b)
 
-at-most : (x : Float) (f : Fraction) → T (atMost x f) → AtMost x f
+at-most : (x : Float) (f : Ratio) → T (atMost x f) → AtMost x f
 at-most nan f t = t
 at-most (inf s) f t = t
 at-most (fin true m e) f t = t
 at-most (fin false m e) (a over b) t = leb→le (m * up e * b) (a * down e) t
 
-at-least : (x : Float) (f : Fraction) → T (atLeast x f) → AtLeast x f
+at-least : (x : Float) (f : Ratio) → T (atLeast x f) → AtLeast x f
 at-least nan f t = t
 at-least (inf s) f t = t
 at-least (fin true m e) f t = t
 at-least (fin false m e) (a over b) t = leb→le (a * down e) (m * up e * b) t
 
-module _ (n : ℕ) (x : Float) (f : Fraction) where
+module _ (n : ℕ) (x : Float) (f : Ratio) where
   abbrev below : Bool
   below = atMost (ofBits binary64 (toBits binary64 x - n)) f
 
@@ -79,7 +79,7 @@ module _ (n : ℕ) (x : Float) (f : Fraction) where
       }
 
 -- orders 1 to m, and at order q the entries from `first q` to `last q`
-module _ (n m : ℕ) (first last : ℕ → ℕ) (table : ℕ → ℕ → Float) (formula : ℕ → ℕ → Fraction) where
+module _ (n m : ℕ) (first last : ℕ → ℕ) (table : ℕ → ℕ → Float) (formula : ℕ → ℕ → Ratio) where
   abbrev row : ℕ → Bool
   row q = all (last q + 1 - first q) (first q) (λ i. within n (table q i) (formula q i))
 

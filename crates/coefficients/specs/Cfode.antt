@@ -1,6 +1,7 @@
 -- The coefficients of the Adams and BDF families by the recurrences of `cfode` (lsoda.rs), in its order of operations.
 -- Its pass nq sets order nq + 1. An order has 13 numbers in elco and 3 in tesco; those that it does not set stay 0.
--- pc holds the coefficients of a polynomial, the lowest first.
+-- pc holds the coefficients of a polynomial, the lowest first. That these are the published numbers is not said here
+-- but in Published, up to a few units in the last place.
 use mathlib.Core.List.{List, _++_}
 use mathlib.Core.Bool.{cond}
 use Prim.Native.Nat.{ℕ, _+_, _-_, _*_}
@@ -9,10 +10,7 @@ use lib.ListN.{getD, set, replicate}
 use lib.Ieee as Ieee
 use lib.Ieee.{Float, nan}
 use Rattle.loops.specs.For.{for, times}
-use Rattle.numbers.specs.Float.{_⊕_, _⊗_, _⊘_, lit, whole, zeroF, oneF, d0·5, d2}
-
-abbrev pub d3 : Float
-d3 = lit 0x4008_0000_0000_0000
+use Rattle.numbers.specs.Float.{_⊕_, _⊗_, _⊘_, whole, zeroF, oneF, d0·5, d2, d3}
 
 abbrev pub at : List Float → ℕ → Float
 at l i = getD l i nan
@@ -35,21 +33,21 @@ multiply n a pc =
     set up 0 (at up 0 ⊗ a)
 
 -- the integrals from -1 to 0 of pc and of -x times pc, term by term with a sign that alternates
-pub record Sums : Type 0 where
+pub record Integrals : Type 0 where
   pub pint : Float
   pub xpin : Float
   pub tsign : Float
 
-abbrev pub sumAt : List Float → ℕ → Sums → Sums
+abbrev pub sumAt : List Float → ℕ → Integrals → Integrals
 sumAt pc i s = record {
   pint = s .pint ⊕ Ieee.neg (s .tsign) ⊗ at pc i ⊘ (whole i ⊕ oneF);
   xpin = s .xpin ⊕ Ieee.neg (s .tsign) ⊗ at pc i ⊘ (whole i ⊕ d2);
   tsign = Ieee.neg (s .tsign);
 }
 
-unfoldable pub sums : ℕ → List Float → Sums
+unfoldable pub integralsOf : ℕ → List Float → Integrals
 unfolding times Ieee.add Ieee.mul Ieee.div Ieee.neg Ieee.ofInt Ieee.ofBits
-sums nq pc = for 1 (nq + 1) (sumAt pc) (record { pint = at pc 0; xpin = d0·5 ⊗ at pc 0; tsign = oneF })
+integralsOf nq pc = for 1 (nq + 1) (sumAt pc) (record { pint = at pc 0; xpin = d0·5 ⊗ at pc 0; tsign = oneF })
 
 abbrev pub adamsElcoAt : ℕ → List Float → Float → ℕ → List Float → List Float
 adamsElcoAt nq pc rq1fac i elco = set elco (i + 1 + nq * 13) (rq1fac ⊗ at pc i ⊘ (whole i ⊕ oneF))
@@ -67,11 +65,11 @@ adamsTesco nq ragq rqfac tesco =
     set next (2 + 3 * (nq - 1)) ragq
 
 unfoldable pub adamsRow : ℕ → Rows → Rows
-unfolding multiply sums adamsElco adamsTesco Ieee.add Ieee.mul Ieee.div Ieee.ofInt Ieee.ofBits
+unfolding multiply integralsOf adamsElco adamsTesco Ieee.add Ieee.mul Ieee.div Ieee.ofInt Ieee.ofBits
 adamsRow nq s =
     let rqfac = s .fac ⊘ (whole nq ⊕ oneF) in
     let pc = multiply nq (whole nq) (s .pc) in
-    let sum = sums nq pc in
+    let sum = integralsOf nq pc in
     record {
       pc = pc;
       fac = rqfac;

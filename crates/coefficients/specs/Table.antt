@@ -1,6 +1,7 @@
 -- The table by name: elco, tesco, cm1 and cm2 of the table in force and an order q from 1 on, and SM1.
 -- The table in force is 0 before the first setup (`stoda_first_call_init`), where all are 0; 1 is Adams', 2 is BDF's.
 -- Table t + 1 has its elco from place 192 t of `cfodeOf` on, 13 numbers an order, and its tesco 156 later, 3 an order.
+-- Of cm1 and cm2 nothing is claimed but these products; SM1's decimals are those of the Rust.
 use mathlib.Core.List.{List, [], _∷_}
 use Prim.Native.Nat.{ℕ, zero, suc, _+_, _-_, _*_}
 use lib.ListN.{getD}

@@ -13,7 +13,7 @@ use Rattle.numbers.specs.Order.{maxOf, minOf, clampOf}
 use Rattle.sqrt.specs.Sqrt.{sqrtOf}
 use Rattle.vectors.specs.Tolerance.{toleranceOf}
 use Rattle.vectors.specs.Norm.{vmnormOf, rowOf, fnormOf}
-use Rattle.vectors.specs.Weights.{ewsetOf, invertOf, outcomeOf}
+use Rattle.vectors.specs.Weights.{ewsetOf, invertOf, weightsOutcome}
 use Rattle.vectors.specs.FirstStep.{largestRtolOf, relativeOf, toleranceUsedOf, initialStepOf}
 use Rattle.vectors.specs.declared.Weights.the-variants.{Refused}
 
@@ -60,7 +60,7 @@ pub refused : invertOf (d2 ∷ nan ∷ minusZero ∷ [])
 unfolding times invertOf le div ofBits
 refused = refl
 
-pub answer : outcomeOf (invertOf (d2 ∷ nan ∷ minusZero ∷ [])) ≡ Refused 2
+pub answer : weightsOutcome (invertOf (d2 ∷ nan ∷ minusZero ∷ [])) ≡ Refused 2
 unfolding times invertOf le div ofBits
 answer = refl
 

@@ -17,11 +17,10 @@ use lib.Ieee as Ieee
 use lib.Ieee.{Float, nan}
 use lib.Ieee.Compare.{differs-from-itself, nan-differs}
 use Rattle.loops.specs.Test.{differs}
-use Rattle.loops.specs.For.{for}
+use Rattle.loops.specs.For.{for, reaches}
 use Rattle.numbers.specs.Float.{_⊗_, zeroF, uround}
 use Rattle.numbers.specs.Sign.{absOf}
 use Rattle.numbers.specs.Order.{maxOf}
-use Rattle.sqrt.proofs.Laws.{carries}
 use Rattle.vectors.specs.Norm.{vmnormOf, rowOf, fnormOf}
 use Rattle.vectors.proofs.Order.{Number, nan-or, le-refl, le-of-lt, lt-number, le-trans, total}
 
@@ -129,7 +128,7 @@ module _ (x : ℕ → Float) where
 
   -- the maximum of x 0 to x (n - 1), from +0 on
   pub largest : (n : ℕ) → Largest x n (for 0 n (λ i s. maxOf s (x i)) zeroF)
-  largest n = carries (Largest x) (λ i s. maxOf s (x i)) one-more 0 n zeroF (omega arith) (nothing x)
+  largest n = reaches (Largest x) (λ i s. maxOf s (x i)) n (λ k s h p. one-more k s p) 0 zeroF (omega arith) (nothing x)
 
 pub norm-largest : (v w : List Float)
     → Largest (λ i. absOf (getD v i nan) ⊗ getD w i nan) (length v) (vmnormOf v w .value)

@@ -18,12 +18,12 @@ use lib.Seq.{getD-set-same, getD-set-other}
 use lib.Ieee as Ieee
 use lib.Ieee.{Float, nan}
 use Rattle.loops.specs.Test.{differs}
-use Rattle.loops.specs.For.{for, keeps}
+use Rattle.loops.specs.For.{for, reaches}
+use Rattle.loops.specs.Stores.{length-stores, stores}
 use Rattle.loops.specs.Part.{part, length-part, getD-part}
 use Rattle.numbers.specs.Float.{_⊕_, _⊗_, _⊘_, zeroF, oneF, uround}
 use Rattle.numbers.specs.Sign.{absOf}
 use Rattle.numbers.specs.Order.{maxOf}
-use Rattle.sqrt.proofs.Laws.{carries}
 use Rattle.vectors.specs.Tolerance.{List1OrN, toleranceOf}
 use Rattle.vectors.specs.Weights.{ewsetOf, ewsetLikeOf, Inversion, invertAt, invertOf}
 use Rattle.vectors.proofs.Largest.{max-above}
@@ -43,35 +43,16 @@ module _ (g : ℕ → Float → Float) (n at : ℕ) (work : List Float) where
   abbrev store : ℕ → List Float → List Float
   store i l = set l (at + i) (g i (getD l i nan))
 
-  length-stores : length (for 0 n store work) ≡ length work
-  length-stores =
-      keeps (λ l. length l ≡ length work) store n (λ k l below p. simp length-set p) 0 work (omega arith) refl
-
-  module _ (apart : n ≤ at) (room : at + n ≤ length work) where
-    one-more : (k : ℕ) (l : List Float) → (k ≤ n → Written g k at work l)
-        → k + 1 ≤ n → Written g (k + 1) at work (store k l)
-    one-more k l so-far h =
-        let p = so-far (omega arith) in
-        let x = g k (getD l k nan) in
-        let other : (j : ℕ) → (j ≡ at + k → ⊥) → getD (set l (at + k) x) j nan ≡ getD l j nan =
-        λ j d. getD-set-other l (at + k) j x nan d
-        in
-        record {
-          long = length-set l (at + k) x ∙ p .long;
-          made =
-              below-more (λ (i : ℕ). getD (store k l) (at + i) nan ≡ g i (getD work i nan)) k
-              (λ i b. other (at + i) (λ q. omega arith) ∙ p .made i b)
-              (getD-set-same l (at + k) x nan (omega (arith, p .long)) ∙ ap (g k) (p .below k (omega arith)));
-          below = λ j b. other j (λ q. omega arith) ∙ p .below j b;
-          beyond = λ j b. other j (λ q. omega arith) ∙ p .beyond j (omega arith);
-        }
-
-    stores-written : Written g n at work (for 0 n store work)
-    stores-written =
-        let none : Written g 0 at work work =
-        record { long = refl; made = λ i b. absurd (omega arith); below = λ j b. refl; beyond = λ j b. refl }
-        in
-        carries (λ k l. k ≤ n → Written g k at work l) store one-more 0 n work (omega arith) (λ h. none) (omega arith)
+  stores-written : n ≤ at → at + n ≤ length work → Written g n at work (for 0 n store work)
+  stores-written apart room =
+      let s = stores nan (λ i. at + i) (λ i. i) g n work (λ i j h k. (λ e. omega arith, λ e. omega arith))
+      (λ i h. omega arith) in
+      record {
+        long = s .long;
+        made = s .made;
+        below = λ j b. s .other j (λ i h e. omega arith);
+        beyond = λ j b. s .other j (λ i h e. omega arith);
+      }
 
 -- the weight of state i
 abbrev pub weight : List Float → List Float → ℕ → Float → Float
@@ -84,7 +65,7 @@ weightLike i y = maxOf (absOf y) uround
 module _ (rtol atol : List Float) (n at : ℕ) (work : List Float) where
   pub length-ewset : length (ewsetOf rtol atol n at work) ≡ length work
   unfolding ewsetOf
-  length-ewset = length-stores (weight rtol atol) n at work
+  length-ewset = length-stores (λ i. at + i) (λ i l. weight rtol atol i (getD l i nan)) 0 n work
 
   pub ewset-written : n ≤ at → at + n ≤ length work
       → Written (weight rtol atol) n at work (ewsetOf rtol atol n at work)
@@ -94,7 +75,7 @@ module _ (rtol atol : List Float) (n at : ℕ) (work : List Float) where
 module _ (n at : ℕ) (work : List Float) where
   pub length-ewset-like : length (ewsetLikeOf n at work) ≡ length work
   unfolding ewsetLikeOf
-  length-ewset-like = length-stores weightLike n at work
+  length-ewset-like = length-stores (λ i. at + i) (λ i l. weightLike i (getD l i nan)) 0 n work
 
   pub like-written : n ≤ at → at + n ≤ length work → Written weightLike n at work (ewsetLikeOf n at work)
   unfolding ewsetLikeOf
@@ -137,13 +118,9 @@ module _ (ewt : List Float) where
         rest = λ i b. other i (λ q. omega arith) ∙ p .rest i (omega arith);
       }
 
-  one-turn : (k : ℕ) (s : Inversion) → (k ≤ length ewt → State k s)
-      → k + 1 ≤ length ewt → State (k + 1) (invertAt k s)
-  one-turn k s so-far h = go (s .refused) refl (Ieee.le (getD (s .ewt) k nan) zeroF) refl
+  one-turn : (k : ℕ) (s : Inversion) → k < length ewt → State k s → State (k + 1) (invertAt k s)
+  one-turn k s h p = go (s .refused) refl (Ieee.le (getD (s .ewt) k nan) zeroF) refl
     where
-      p : State k s
-      p = so-far (omega arith)
-
       go : (t : Bool) → s .refused ≡ t → (u : Bool) → Ieee.le (getD (s .ewt) k nan) zeroF ≡ u
           → State (k + 1)
           (cond t s
@@ -175,8 +152,8 @@ module _ (ewt : List Float) where
         rest = λ i b. refl;
       }
       in
-      carries (λ k s. k ≤ length ewt → State k s) invertAt one-turn 0 (length ewt) _ (omega arith)
-      (λ h. record { going = λ q. none; halted = λ q. differs q }) (omega arith)
+      reaches State invertAt (length ewt) one-turn 0 _ (omega arith)
+      (record { going = λ q. none; halted = λ q. differs q })
 
   -- an inversion that refuses nothing inverts every weight
   pub inverted : invertOf ewt .refused ≡ false → Inverted ewt (length ewt) (invertOf ewt .ewt)

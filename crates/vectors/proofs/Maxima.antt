@@ -21,7 +21,7 @@ use Rattle.numbers.specs.Float.{zeroF}
 use Rattle.numbers.specs.Sign.{absOf}
 use Rattle.numbers.specs.Order.{maxOf}
 use Rattle.vectors.specs.declared.Four.{Four}
-use Rattle.vectors.specs.Norm.{entryOf, normAt}
+use Rattle.vectors.specs.Norm.{entryOf, normTurn}
 use Rattle.vectors.specs.Maxima.{fourAt, topOf}
 use Rattle.vectors.proofs.Order.{Number, nan-or, le-refl, le-of-lt, lt-number, le-trans, total}
 use Rattle.vectors.proofs.Order.{lt-not-le, lt-trans, same}
@@ -258,7 +258,7 @@ module _ (v w : List Float) (i : ℕ) (m : Four) (p : AllClean m) where
   }
 
   pub four-top : topOf (fourAt v w i m)
-      ≡ normAt v w (i + 3) (normAt v w (i + 2) (normAt v w (i + 1) (normAt v w i (topOf m))))
+      ≡ normTurn v w (i + 3) (normTurn v w (i + 2) (normTurn v w (i + 1) (normTurn v w i (topOf m))))
   four-top =
       let q = four-clean in
       to-d _ _ _ _ _ (q .a) (q .b) (q .c) (p .d) (entry-fits v w (i + 3))
@@ -270,6 +270,6 @@ module _ (v w : List Float) (i : ℕ) (m : Four) (p : AllClean m) where
       (to-a _ _ _ _ _ (p .a) (p .b) (p .c) (p .d) (entry-fits v w i))))
 
   -- the four at entry i + 4, where the norm's loop has come from i
-  pub four-on : (e : ℕ) (r : Float) → i + 4 ≤ e → for i e (normAt v w) (topOf m) ≡ r
-      → for (i + 4) e (normAt v w) (topOf (fourAt v w i m)) ≡ r
-  four-on e r h q = rw four-top (again-four (normAt v w) i e (topOf m) r h q)
+  pub four-on : (e : ℕ) (r : Float) → i + 4 ≤ e → for i e (normTurn v w) (topOf m) ≡ r
+      → for (i + 4) e (normTurn v w) (topOf (fourAt v w i m)) ≡ r
+  four-on e r h q = rw four-top (again-four (normTurn v w) i e (topOf m) r h q)

@@ -1,5 +1,6 @@
 -- `initial_step_size`: the first step from the derivative's size at the start, in the Rust's order of operations.
 -- The tolerance is the largest relative one or, where that is 0, the largest absolute one relative to its state.
+-- That the step suits the problem is not claimed: it may be 0 or a NaN, which 11 refuses.
 use mathlib.Core.List.{List}
 use mathlib.Core.Bool.{cond}
 use Prim.Native.Nat.{ℕ}

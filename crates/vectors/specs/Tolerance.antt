@@ -1,4 +1,5 @@
 -- A tolerance list, the Rust's `Tolerance`: 1 number for all states, or one for each.
+-- A number below 0 is not ruled out here: 9 and 10 refuse it at a start.
 use mathlib.Core.List.{List}
 use mathlib.Core.Bool.{cond}
 use mathlib.Core.Path.{_≡_}

@@ -1,5 +1,6 @@
 -- `ewset`, `ewset_scalar_like` and `invert_weights`: the error weights, and their inverses, by which every norm
 -- multiplies. A weight that is at most 0 is refused (12); a NaN is not.
+-- That a weight or its inverse is finite is not claimed.
 use mathlib.Core.List.{List}
 use mathlib.Core.Bool.{Bool, true, false, cond}
 use Prim.Native.Nat.{ℕ, _+_}
@@ -47,5 +48,5 @@ invertAt i s = cond (s .refused) s (invertOne i s)
 unfoldable pub invertOf : List Float → Inversion
 invertOf ewt = for 0 (length ewt) invertAt (record { ewt = ewt; refused = false; index = 0 })
 
-abbrev pub outcomeOf : Inversion → Weights
-outcomeOf s = cond (s .refused) (Refused (s .index)) Inverted
+abbrev pub weightsOutcome : Inversion → Weights
+weightsOutcome s = cond (s .refused) (Refused (s .index)) Inverted

@@ -7,8 +7,8 @@ ghost use lib.Ieee as Ieee;
 ghost use Rattle.numbers.specs.Order.{maxOf};
 ghost use Rattle.vectors.specs.Tolerance.{List1OrN, toleranceOf};
 ghost use Rattle.vectors.specs.Norm.{entryOf, vmnormOf, rowAt, rowOf, fnormOf};
-ghost use Rattle.vectors.specs.Maxima.{fourAt, topOf, rowsAt, rowsOf, fourRowsAt};
-ghost use Rattle.vectors.specs.Weights.{ewsetOf, ewsetLikeOf, invertOf, outcomeOf};
+ghost use Rattle.vectors.specs.Maxima.{fourAt, topOf, rowSumsAt, rowSumsOf, fourRowsAt};
+ghost use Rattle.vectors.specs.Weights.{ewsetOf, ewsetLikeOf, invertOf, weightsOutcome};
 ghost use Rattle.vectors.specs.FirstStep.{largestRtolOf, relativeAt, relativeOf, toleranceUsedOf, initialStepOf};
 
 // What a norm answers.
@@ -123,7 +123,7 @@ fn row_sum(n: usize, a: &[f64], w: &[f64], i: usize) -> f64
 // The sums of the rows i to i + 3 with entry j more.
 fn add_entries(n: usize, a: &[f64], w: &[f64], i: usize, j: usize, s: Four) -> Four
     requires { ⌜ (i + 4 ≤ n) × (j * n + n ≤ length (now a)) × (j < length (now w)) ⌝ }
-    ensures { λ r. ⌜ r ≡ rowsAt n (now (a .entry)) (now (w .entry)) i j s ⌝ }
+    ensures { λ r. ⌜ r ≡ rowSumsAt n (now (a .entry)) (now (w .entry)) i j s ⌝ }
 {
     let b0 = add_entry(n, a, w, i, j, s.a);
     let b1 = add_entry(n, a, w, i + 1, j, s.b);
@@ -135,7 +135,7 @@ fn add_entries(n: usize, a: &[f64], w: &[f64], i: usize, j: usize, s: Four) -> F
 // The sums of the rows i to i + 3.
 fn row_sums(n: usize, a: &[f64], w: &[f64], i: usize) -> Four
     requires { ⌜ (i + 4 ≤ n) × (n * n ≤ length (now a)) × (n ≤ length (now w)) ⌝ }
-    ensures { λ r. ⌜ r ≡ rowsOf n (now (a .entry)) (now (w .entry)) i ⌝ }
+    ensures { λ r. ⌜ r ≡ rowSumsOf n (now (a .entry)) (now (w .entry)) i ⌝ }
 {
     let mut s = Four { a: 0.0, b: 0.0, c: 0.0, d: 0.0 };
     for j in 0..n {
@@ -197,7 +197,7 @@ pub fn ewset_scalar_like(work: &mut [f64], n: usize, at: usize)
 // Each weight inverted, up to the first that is at most 0, -0.0 included; a NaN passes.
 pub fn invert_weights(ewt: &mut [f64]) -> Weights
     ensures { λ r. ⌜ (now (ewt .exit) ≡ invertOf (now (ewt .entry)) .ewt)
-        × (r ≡ outcomeOf (invertOf (now (ewt .entry)))) ⌝ }
+        × (r ≡ weightsOutcome (invertOf (now (ewt .entry)))) ⌝ }
 {
     for i in 0..ewt.len() {
         if ewt[i] <= 0.0 {

@@ -6,7 +6,7 @@ use native.Mathlib.Omega.{arith}
 use borrow.Author.Needs.{needs}
 use lib.Ieee.{Float}
 use Rattle.loops.specs.For.{for, again, again-four, ended}
-use Rattle.vectors.specs.Norm.{fnormAt, fnormOf}
+use Rattle.vectors.specs.Norm.{fnormTurn, fnormOf}
 use Rattle.vectors.proofs.Order.{Number}
 use Rattle.vectors.proofs.Largest.{max-larger, zero-number}
 use Rattle.vectors.proofs.fnorm_dense.Statement.{statement}
@@ -14,13 +14,13 @@ use Rattle.vectors.proofs.fnorm_dense.Tie as tie
 
 abbrev Inv-loop : tie.InvT-loop
 Inv-loop n a w an₀ k₀ k-end an k =
-    (k-end ≡ n / 4) × (k ≤ n / 4) × Number an × (for (4 * k) n (fnormAt n a w) an ≡ fnormOf n a w .value)
+    (k-end ≡ n / 4) × (k ≤ n / 4) × Number an × (for (4 * k) n (fnormTurn n a w) an ≡ fnormOf n a w .value)
 
 abbrev μ-loop : tie.MeasureT-loop
 μ-loop n a w an₀ k₀ k-end an k = k-end - k
 
 abbrev Inv-loop2 : tie.InvT-loop2
-Inv-loop2 n a w an₀ i₀ an i = Number an × (for i n (fnormAt n a w) an ≡ fnormOf n a w .value)
+Inv-loop2 n a w an₀ i₀ an i = Number an × (for i n (fnormTurn n a w) an ≡ fnormOf n a w .value)
 
 abbrev μ-loop2 : tie.MeasureT-loop2
 μ-loop2 n a w an₀ i₀ an i = n - i

@@ -10,13 +10,13 @@ use lib.Ieee as Ieee
 use lib.Ieee.{Float, nan}
 use Rattle.loops.specs.For.{for, onward, ended, stays}
 use Rattle.numbers.specs.Float.{_⊘_, zeroF, oneF}
-use Rattle.vectors.specs.Weights.{Inversion, invertAt, invertOf, outcomeOf}
+use Rattle.vectors.specs.Weights.{Inversion, invertAt, invertOf, weightsOutcome}
 use Rattle.vectors.proofs.invert_weights.Statement.{statement}
 use Rattle.vectors.proofs.invert_weights.Tie as tie
 
 -- the contract's two equations, from the one of the whole state
-parts : {s t : Inversion} → s ≡ t → (s .ewt ≡ t .ewt) × (outcomeOf s ≡ outcomeOf t)
-parts e = (ap (λ (s : Inversion). s .ewt) e, ap outcomeOf e)
+parts : {s t : Inversion} → s ≡ t → (s .ewt ≡ t .ewt) × (weightsOutcome s ≡ weightsOutcome t)
+parts e = (ap (λ (s : Inversion). s .ewt) e, ap weightsOutcome e)
 
 abbrev going : List Float → Inversion
 going ewt = record { ewt = ewt; refused = false; index = 0 }

@@ -7,7 +7,7 @@ use borrow.Author.Needs.{needs}
 use lib.ListN.{length}
 use lib.Ieee.{Float}
 use Rattle.loops.specs.For.{for, again, ended}
-use Rattle.vectors.specs.Norm.{normAt, vmnormOf}
+use Rattle.vectors.specs.Norm.{normTurn, vmnormOf}
 use Rattle.vectors.specs.Maxima.{topOf}
 use Rattle.vectors.proofs.Order.{Number}
 use Rattle.vectors.proofs.Largest.{max-larger}
@@ -18,14 +18,14 @@ use Rattle.vectors.proofs.vmnorm.Tie as tie
 abbrev Inv-loop : tie.InvT-loop
 Inv-loop v w n m₀ k₀ k-end m k =
     (n ≡ length v) × (k-end ≡ length v / 4) × (k ≤ length v / 4) × AllClean m
-    × (for (4 * k) (length v) (normAt v w) (topOf m) ≡ vmnormOf v w .value)
+    × (for (4 * k) (length v) (normTurn v w) (topOf m) ≡ vmnormOf v w .value)
 
 abbrev μ-loop : tie.MeasureT-loop
 μ-loop v w n m₀ k₀ k-end m k = k-end - k
 
 abbrev Inv-loop2 : tie.InvT-loop2
 Inv-loop2 v w n norm₀ i₀ norm i =
-    (n ≡ length v) × Number norm × (for i (length v) (normAt v w) norm ≡ vmnormOf v w .value)
+    (n ≡ length v) × Number norm × (for i (length v) (normTurn v w) norm ≡ vmnormOf v w .value)
 
 abbrev μ-loop2 : tie.MeasureT-loop2
 μ-loop2 v w n norm₀ i₀ norm i = n - i
