@@ -3,16 +3,17 @@
 ghost use mathlib.Core.Path.{_≡_};
 ghost use Prim.Native.Nat.{_+_, _*_, _≤_};
 ghost use lib.ListN.{length, getD};
-ghost use Rattle.replay_leaves.specs.Leaf.{After, normsOf, firstStepOf, listsOf, recordsOf, leafOf};
-ghost use Rattle.replay_leaves.specs.Leaf.{weightsOf, snapshotAt, floatsOf, countsOf, areFloats, areCounts};
-ghost use Rattle.replay_leaves.specs.Leaf.{calledOf, isLeft, isAgain, callOf, lengthOf, isSame};
-ghost use Rattle.replay_leaves.specs.Leaf.{countedOf, differOf};
+ghost use Rattle.replay_leaves.specs.Leaf.{LeafAfter, leafNorms, leafFirstStep, leafLists, leafRecords, leafOf};
+ghost use Rattle.replay_leaves.specs.Leaf.{leafWeights, leafSnapshot, storedFloats, storedCounts};
+ghost use Rattle.replay_leaves.specs.Leaf.{areFloats, areCounts, calledOf, isLeft, isAgain, callOf, lengthOf};
+ghost use Rattle.replay_leaves.specs.Leaf.{isSame, callsDiffer};
+ghost use Rattle.loops.specs.Count.{countedAt};
 ghost use Rattle.probe.specs.Leaves.{WorkLeft};
 ghost use Rattle.probe.specs.Left.{Columns};
 
 // The lists behind the first stand one behind the other in b: f0, the weights, rtol and atol.
 fn first_step(t: f64, tout: f64, y: &[f64], b: &[f64], n: usize, nrtol: usize) -> u64
-    ensures { λ r. ⌜ r ≡ firstStepOf t tout (now (y .entry)) (now (b .entry)) n nrtol ⌝ }
+    ensures { λ r. ⌜ r ≡ leafFirstStep t tout (now (y .entry)) (now (b .entry)) n nrtol ⌝ }
 {
     if 64 < n {
         return 2;
@@ -39,7 +40,7 @@ fn first_step(t: f64, tout: f64, y: &[f64], b: &[f64], n: usize, nrtol: usize) -
 // rtol and atol stand one behind the other in b.
 fn weights(b: &[f64], nrtol: usize, a: &mut [f64], n: usize, at: usize) -> usize
     ensures { λ r. ⌜ _≡_ {A = WorkLeft} (record { number = r; work = now (a .exit) })
-        (weightsOf (now (b .entry)) nrtol n at (now (a .entry))) ⌝ }
+        (leafWeights (now (b .entry)) nrtol n at (now (a .entry))) ⌝ }
 {
     if b.len() < nrtol {
         return 2;
@@ -50,7 +51,7 @@ fn weights(b: &[f64], nrtol: usize, a: &mut [f64], n: usize, at: usize) -> usize
 // The record's floats and the work stand one behind the other in b.
 fn snapshot(b: &[f64], m: &[usize], a: &mut [f64]) -> usize
     ensures { λ r. ⌜ _≡_ {A = Columns} (record { number = r; yh = now (a .exit) })
-        (snapshotAt (now (b .entry)) (now (m .entry)) (now (a .entry))) ⌝ }
+        (leafSnapshot (now (b .entry)) (now (m .entry)) (now (a .entry))) ⌝ }
 {
     if b.len() < 11 {
         return 2;
@@ -59,7 +60,7 @@ fn snapshot(b: &[f64], m: &[usize], a: &mut [f64]) -> usize
 }
 
 fn of_norms(kind: u64, p: usize, q: usize, x: f64, y: f64, a: &[f64], b: &[f64]) -> u64
-    ensures { λ r. ⌜ r ≡ normsOf kind p q x y (now (a .entry)) (now (b .entry)) ⌝ }
+    ensures { λ r. ⌜ r ≡ leafNorms kind p q x y (now (a .entry)) (now (b .entry)) ⌝ }
 {
     if kind == 0 {
         return numbers::to_bits(probe::probe_vmnorm(a, b));
@@ -79,9 +80,9 @@ fn of_lists(
     b: &[f64],
     m: &mut [usize],
 ) -> usize
-    ensures { λ k. ⌜ _≡_ {A = After}
+    ensures { λ k. ⌜ _≡_ {A = LeafAfter}
         (record { number = k; a = now (a .exit); b = now (b .entry); m = now (m .exit) })
-        (listsOf kind p q r (now (a .entry)) (now (b .entry)) (now (m .entry))) ⌝ }
+        (leafLists kind p q r (now (a .entry)) (now (b .entry)) (now (m .entry))) ⌝ }
 {
     if kind == 3 {
         return weights(b, r, a, p, q);
@@ -105,9 +106,9 @@ fn of_lists(
 }
 
 fn of_records(kind: u64, x: f64, a: &mut [f64], b: &mut [f64], m: &mut [usize]) -> usize
-    ensures { λ k. ⌜ _≡_ {A = After}
+    ensures { λ k. ⌜ _≡_ {A = LeafAfter}
         (record { number = k; a = now (a .exit); b = now (b .exit); m = now (m .exit) })
-        (recordsOf kind x (now (a .entry)) (now (b .entry)) (now (m .entry))) ⌝ }
+        (leafRecords kind x (now (a .entry)) (now (b .entry)) (now (m .entry))) ⌝ }
 {
     if kind == 10 {
         return probe::steps::probe_correct_columns(b, m, a);
@@ -135,7 +136,7 @@ fn of_records(kind: u64, x: f64, a: &mut [f64], b: &mut [f64], m: &mut [usize]) 
 // 8 predict_columns, 9 retract_columns, 10 correct_columns, 11 stoda_adjust_step_size, 12 stoda_get_predicted_values,
 // 13 stoda_first_call_init, 14 stoda_reset, 15 snapshot_step, and any other interpolate.
 fn leaf(h: Call, a: &mut [f64], b: &mut [f64], m: &mut [usize]) -> u64
-    ensures { λ k. ⌜ _≡_ {A = After}
+    ensures { λ k. ⌜ _≡_ {A = LeafAfter}
         (record { number = k; a = now (a .exit); b = now (b .exit); m = now (m .exit) })
         (leafOf h (now (a .entry)) (now (b .entry)) (now (m .entry))) ⌝ }
 {
@@ -201,7 +202,7 @@ fn length_of(heads: &[u64], k: usize, limit: usize) -> usize
 
 fn get_floats(stored: &[u64], at: usize, list: &mut [f64])
     requires { ⌜ at + length (now list) ≤ 1000000 ⌝ }
-    ensures { λ _. ⌜ now (list .exit) ≡ floatsOf (now (stored .entry)) at (now (list .entry)) ⌝ }
+    ensures { λ _. ⌜ now (list .exit) ≡ storedFloats (now (stored .entry)) at (now (list .entry)) ⌝ }
 {
     for i in 0..list.len() {
         list[i] = numbers::from_bits(word(stored, at + i));
@@ -210,7 +211,7 @@ fn get_floats(stored: &[u64], at: usize, list: &mut [f64])
 
 fn get_counts(stored: &[u64], at: usize, list: &mut [usize])
     requires { ⌜ at + length (now list) ≤ 1000000 ⌝ }
-    ensures { λ _. ⌜ now (list .exit) ≡ countsOf (now (stored .entry)) at (now (list .entry)) ⌝ }
+    ensures { λ _. ⌜ now (list .exit) ≡ storedCounts (now (stored .entry)) at (now (list .entry)) ⌝ }
 {
     for i in 0..list.len() {
         list[i] = word(stored, at + i) as usize;
@@ -245,7 +246,7 @@ fn are_counts(list: &[usize], stored: &[u64], at: usize) -> bool
 // The call's lists, taken from the numbers stored from `at` on, and the answer.
 fn called(h: Call, stored: &[u64], a: &mut [f64], b: &mut [f64], m: &mut [usize]) -> u64
     requires { ⌜ (h .at ≤ 900000) × (length (now a) ≤ 64) × (length (now b) ≤ 80) × (length (now m) ≤ 16) ⌝ }
-    ensures { λ k. ⌜ _≡_ {A = After}
+    ensures { λ k. ⌜ _≡_ {A = LeafAfter}
         (record { number = k; a = now (a .exit); b = now (b .exit); m = now (m .exit) })
         (calledOf h (now (stored .entry)) (now (a .entry)) (now (b .entry)) (now (m .entry))) ⌝ }
 {
@@ -289,7 +290,7 @@ fn is_again(h: Call, stored: &[u64], a: &mut [f64], b: &mut [f64], m: &mut [usiz
 // The same for call i.
 fn is_same(heads: &[u64], i: usize, stored: &[u64]) -> bool
     requires { ⌜ i ≤ 1000000 ⌝ }
-    ensures { λ r. ⌜ r ≡ isSame (now (heads .entry)) i (now (stored .entry)) ⌝ }
+    ensures { λ r. ⌜ r ≡ isSame (now (heads .entry)) (now (stored .entry)) i ⌝ }
 {
     let h = head(heads, i);
     if 900000 < h.at {
@@ -307,7 +308,7 @@ fn is_same(heads: &[u64], i: usize, stored: &[u64]) -> bool
 // The count with call i added, if it is not the same.
 fn counted(heads: &[u64], i: usize, stored: &[u64], differ: usize) -> usize
     requires { ⌜ (i ≤ 1000000) × (differ ≤ i) ⌝ }
-    ensures { λ r. ⌜ (r ≡ countedOf (now (heads .entry)) (now (stored .entry)) i differ) × (r ≤ i + 1) ⌝ }
+    ensures { λ r. ⌜ (r ≡ countedAt (isSame (now (heads .entry)) (now (stored .entry))) i differ) × (r ≤ i + 1) ⌝ }
 {
     if is_same(heads, i, stored) {
         return differ;
@@ -318,7 +319,7 @@ fn counted(heads: &[u64], i: usize, stored: &[u64], differ: usize) -> usize
 // How many of the calls are not the same.
 pub fn differ(heads: &[u64], stored: &[u64]) -> usize
     requires { ⌜ length (now heads) ≤ 1000000 ⌝ }
-    ensures { λ r. ⌜ r ≡ differOf (now (heads .entry)) (now (stored .entry)) ⌝ }
+    ensures { λ r. ⌜ r ≡ callsDiffer (now (heads .entry)) (now (stored .entry)) ⌝ }
 {
     let n = heads.len() / 11;
     let mut found = 0;

@@ -1,9 +1,8 @@
--- `counted` meets its contract: each way returns what `countedOf` picks under the test of the two patterns.
+-- `counted` meets its contract: each way returns what `countedAt` picks under the test of the two patterns.
 -- Assumes nothing.
 use native.Mathlib.Omega.{arith}
 use borrow.Author.Needs.{needs}
 use borrow.Author.Tests.{eq-eqb, ne-eqb}
-use Rattle.replay.specs.Replay.{countedOf}
 use Rattle.replay.proofs.counted.Statement.{statement}
 use Rattle.replay.proofs.counted.Tie as tie
 
@@ -59,7 +58,6 @@ shared-slice-read-if1 : tie.Need-shared-slice-read-if1
 shared-slice-read-if1 c = search needs
 
 returns : tie.Need-returns
-unfolding countedOf
 returns c =
     let w = c .before .before in
     (rw (← w .before .number .ensures, ← w .to-bits .ensures, eq-eqb _ _ (c .if1 .taken)), omega arith)
@@ -68,7 +66,6 @@ add-result : tie.Need-add-result
 add-result c = search needs
 
 returns-2 : tie.Need-returns-2
-unfolding countedOf
 returns-2 c =
     let w = c .before .before in
     (rw (← w .before .number .ensures, ← w .to-bits .ensures, ne-eqb _ _ (c .if1 .left)), omega arith)

@@ -5,19 +5,20 @@ use mathlib.Core.Path.{_≡_, refl, sym}
 use native.Mathlib.Omega.{arith}
 use lib.ListN.{length}
 use Rattle.loops.specs.For.{for, onward, ended}
-use Rattle.replay.specs.Replay.{countedOf, differOf}
+use Rattle.loops.specs.Count.{countedAt, differing}
+use Rattle.replay.specs.Replay.{isStored, casesDiffer}
 use Rattle.replay.proofs.differ.Statement.{statement}
 use Rattle.replay.proofs.differ.Tie as tie
 
 abbrev Inv-loop : tie.InvT-loop
 Inv-loop cases n found₀ i₀ found i =
-    (found ≤ i) × (for i (length cases / 5) (countedOf cases) found ≡ differOf cases)
+    (found ≤ i) × (for i (length cases / 5) (countedAt (isStored cases)) found ≡ casesDiffer cases)
 
 abbrev μ-loop : tie.MeasureT-loop
 μ-loop cases n found₀ i₀ found i = n - i
 
 loop-holds : tie.Need-loop-holds Inv-loop μ-loop
-unfolding differOf
+unfolding differing
 loop-holds c = (omega arith, refl)
 
 counted-requires : tie.Need-counted-requires Inv-loop μ-loop

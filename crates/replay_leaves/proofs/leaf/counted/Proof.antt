@@ -1,4 +1,4 @@
--- `counted` meets its contract: each way returns what `countedOf` picks under the test.
+-- `counted` meets its contract: each way returns what `countedAt` picks under the test.
 -- Assumes nothing.
 use native.Mathlib.Omega.{arith}
 use borrow.Author.Needs.{needs}

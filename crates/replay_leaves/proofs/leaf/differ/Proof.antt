@@ -5,19 +5,20 @@ use mathlib.Core.Path.{_≡_, refl, sym}
 use native.Mathlib.Omega.{arith}
 use lib.ListN.{length}
 use Rattle.loops.specs.For.{for, onward, ended}
-use Rattle.replay_leaves.specs.Leaf.{countedOf, differOf}
+use Rattle.loops.specs.Count.{countedAt, differing}
+use Rattle.replay_leaves.specs.Leaf.{isSame, callsDiffer}
 use Rattle.replay_leaves.proofs.leaf.differ.Statement.{statement}
 use Rattle.replay_leaves.proofs.leaf.differ.Tie as tie
 
 abbrev Inv-loop : tie.InvT-loop
 Inv-loop heads stored n found₀ i₀ found i =
-    (found ≤ i) × (for i (length heads / 11) (countedOf heads stored) found ≡ differOf heads stored)
+    (found ≤ i) × (for i (length heads / 11) (countedAt (isSame heads stored)) found ≡ callsDiffer heads stored)
 
 abbrev μ-loop : tie.MeasureT-loop
 μ-loop heads stored n found₀ i₀ found i = n - i
 
 loop-holds : tie.Need-loop-holds Inv-loop μ-loop
-unfolding differOf
+unfolding differing
 loop-holds c = (omega arith, refl)
 
 counted-requires : tie.Need-counted-requires Inv-loop μ-loop

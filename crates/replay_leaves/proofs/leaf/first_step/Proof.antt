@@ -1,17 +1,17 @@
--- `first_step` meets its contract: each way returns what `firstStepOf` says under the tests that led there.
+-- `first_step` meets its contract: each way returns what `leafFirstStep` says under the tests that led there.
 -- Assumes nothing.
 use borrow.Author.Needs.{needs}
 use borrow.Author.Tests.{le-leb, lt-leb}
-use Rattle.replay_leaves.specs.Leaf.{firstStepOf}
+use Rattle.replay_leaves.specs.Leaf.{leafFirstStep}
 use Rattle.replay_leaves.proofs.leaf.first_step.Statement.{statement}
 use Rattle.replay_leaves.proofs.leaf.first_step.Tie as tie
 
 returns : tie.Need-returns
-unfolding firstStepOf
+unfolding leafFirstStep
 returns c = rw (lt-leb _ 64 (c .if1 .taken))
 
 returns-2 : tie.Need-returns-2
-unfolding firstStepOf
+unfolding leafFirstStep
 returns-2 c = rw (le-leb _ 64 (c .before .if1 .left), lt-leb _ 64 (c .if2 .taken))
 
 mul-rtol : tie.Need-mul-rtol
@@ -21,7 +21,7 @@ add-atol : tie.Need-add-atol
 add-atol c = search needs
 
 returns-3 : tie.Need-returns-3
-unfolding firstStepOf
+unfolding leafFirstStep
 returns-3 c =
     rw (le-leb _ 64 (c .before .before .if1 .left), le-leb _ 64 (c .before .if2 .left), lt-leb _ _ (c .if3 .taken))
 
@@ -77,7 +77,7 @@ to-bits-requires : tie.Need-to-bits-requires
 to-bits-requires c κs = search needs
 
 returns-4 : tie.Need-returns-4
-unfolding firstStepOf
+unfolding leafFirstStep
 returns-4 c =
     let i = c .before .before .before .before .before .before in
     rw (

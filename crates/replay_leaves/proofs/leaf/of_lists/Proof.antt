@@ -1,8 +1,8 @@
--- `of_lists` meets its contract: each way leaves what `listsOf` picks at the kind that led there.
+-- `of_lists` meets its contract: each way leaves what `leafLists` picks at the kind that led there.
 -- Assumes nothing.
 use borrow.Author.Needs.{needs}
 use borrow.Author.Tests.{ne-eqb}
-use Rattle.replay_leaves.specs.Leaf.{listsOf}
+use Rattle.replay_leaves.specs.Leaf.{leafLists}
 use Rattle.replay_leaves.proofs.After.{of-left, of-factored, of-columns}
 use Rattle.replay_leaves.proofs.leaf.of_lists.Statement.{statement}
 use Rattle.replay_leaves.proofs.leaf.of_lists.Tie as tie
@@ -14,7 +14,7 @@ same-length : tie.Need-same-length
 same-length c = search needs
 
 returns : tie.Need-returns
-unfolding listsOf
+unfolding leafLists
 returns c = rw (c .before .before .before .before .if1 .taken) (of-left _ _ (c .before .before .weights .ensures))
 
 probe-ewset-scalar-like-requires : tie.Need-probe-ewset-scalar-like-requires
@@ -24,7 +24,7 @@ same-length-2 : tie.Need-same-length-2
 same-length-2 c = search needs
 
 returns-2 : tie.Need-returns-2
-unfolding listsOf
+unfolding leafLists
 returns-2 c =
     let k = c .before .before in
     let l = k .before .before in
@@ -37,7 +37,7 @@ same-length-3 : tie.Need-same-length-3
 same-length-3 c = search needs
 
 returns-3 : tie.Need-returns-3
-unfolding listsOf
+unfolding leafLists
 returns-3 c =
     let e = c .before .before .probe-invert-weights .ensures in
     rw (c .before .before .before .before .if3 .taken, e .0, e .1)
@@ -52,7 +52,7 @@ same-length-5 : tie.Need-same-length-5
 same-length-5 c = search needs
 
 returns-4 : tie.Need-returns-4
-unfolding listsOf
+unfolding leafLists
 returns-4 c =
     let k = c .before .before .before .before in
     let l = k .before .before .before in
@@ -68,7 +68,7 @@ same-length-7 : tie.Need-same-length-7
 same-length-7 c = search needs
 
 returns-5 : tie.Need-returns-5
-unfolding listsOf
+unfolding leafLists
 returns-5 c =
     let k = c .before .before in
     let l = k .before .before .before in
@@ -81,7 +81,7 @@ same-length-8 : tie.Need-same-length-8
 same-length-8 c = search needs
 
 returns-6 : tie.Need-returns-6
-unfolding listsOf
+unfolding leafLists
 returns-6 c =
     let k = c .before .before in
     let l = k .before .before in
@@ -94,7 +94,7 @@ same-length-9 : tie.Need-same-length-9
 same-length-9 c = search needs
 
 returns-7 : tie.Need-returns-7
-unfolding listsOf
+unfolding leafLists
 returns-7 c =
     let six = c .before .before .before .before in
     let five = six .before in

@@ -1,8 +1,8 @@
--- `of_records` meets its contract: each way leaves what `recordsOf` picks at the kind that led there.
+-- `of_records` meets its contract: each way leaves what `leafRecords` picks at the kind that led there.
 -- Assumes nothing.
 use borrow.Author.Needs.{needs}
 use borrow.Author.Tests.{ne-eqb}
-use Rattle.replay_leaves.specs.Leaf.{recordsOf}
+use Rattle.replay_leaves.specs.Leaf.{leafRecords}
 use Rattle.replay_leaves.proofs.After.{of-columns, of-interpolated, of-worked, of-record}
 use Rattle.replay_leaves.proofs.leaf.of_records.Statement.{statement}
 use Rattle.replay_leaves.proofs.leaf.of_records.Tie as tie
@@ -20,7 +20,7 @@ same-length-3 : tie.Need-same-length-3
 same-length-3 c = search needs
 
 returns : tie.Need-returns
-unfolding recordsOf
+unfolding leafRecords
 returns c =
     let k = c .before .before in
     let l = k .before .before .before .before in
@@ -39,7 +39,7 @@ same-length-6 : tie.Need-same-length-6
 same-length-6 c = search needs
 
 returns-2 : tie.Need-returns-2
-unfolding recordsOf
+unfolding leafRecords
 returns-2 c =
     let k = c .before .before .before .before .before .before in
     let l = k .before .before .before .before in
@@ -58,7 +58,7 @@ same-length-9 : tie.Need-same-length-9
 same-length-9 c = search needs
 
 returns-3 : tie.Need-returns-3
-unfolding recordsOf
+unfolding leafRecords
 returns-3 c =
     let k = c .before .before .before .before .before .before in
     let l = k .before .before .before .before in
@@ -74,7 +74,7 @@ same-length-11 : tie.Need-same-length-11
 same-length-11 c = search needs
 
 returns-4 : tie.Need-returns-4
-unfolding recordsOf
+unfolding leafRecords
 returns-4 c =
     let k = c .before .before .before .before in
     let l = k .before .before .before in
@@ -90,7 +90,7 @@ same-length-13 : tie.Need-same-length-13
 same-length-13 c = search needs
 
 returns-5 : tie.Need-returns-5
-unfolding recordsOf
+unfolding leafRecords
 returns-5 c =
     let k = c .before .before .before .before in
     let l = k .before .before .before in
@@ -109,7 +109,7 @@ same-length-16 : tie.Need-same-length-16
 same-length-16 c = search needs
 
 returns-6 : tie.Need-returns-6
-unfolding recordsOf
+unfolding leafRecords
 returns-6 c =
     let k = c .before .before in
     let l = k .before .before .before .before in
@@ -125,7 +125,7 @@ same-length-18 : tie.Need-same-length-18
 same-length-18 c = search needs
 
 returns-7 : tie.Need-returns-7
-unfolding recordsOf
+unfolding leafRecords
 returns-7 c =
     let six = c .before .before .before .before .before in
     let five = six .before in

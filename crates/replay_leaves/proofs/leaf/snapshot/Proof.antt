@@ -1,13 +1,13 @@
--- `snapshot` meets its contract: each way returns what `snapshotAt` says under the test that led there.
+-- `snapshot` meets its contract: each way returns what `leafSnapshot` says under the test that led there.
 -- Assumes nothing.
 use borrow.Author.Needs.{needs}
 use borrow.Author.Tests.{le-leb, lt-leb}
-use Rattle.replay_leaves.specs.Leaf.{snapshotAt}
+use Rattle.replay_leaves.specs.Leaf.{leafSnapshot}
 use Rattle.replay_leaves.proofs.leaf.snapshot.Statement.{statement}
 use Rattle.replay_leaves.proofs.leaf.snapshot.Tie as tie
 
 returns : tie.Need-returns
-unfolding snapshotAt
+unfolding leafSnapshot
 returns c = rw (lt-leb _ _ (c .if1 .taken))
 
 sub-probe-snapshot-step : tie.Need-sub-probe-snapshot-step
@@ -35,7 +35,7 @@ same-length : tie.Need-same-length
 same-length c = search needs
 
 returns-2 : tie.Need-returns-2
-unfolding snapshotAt
+unfolding leafSnapshot
 returns-2 c =
     let k = c .before .before in
     let l = k .before .before .before .before in

@@ -1,13 +1,13 @@
--- `weights` meets its contract: each way returns what `weightsOf` says under the test that led there.
+-- `weights` meets its contract: each way returns what `leafWeights` says under the test that led there.
 -- Assumes nothing.
 use borrow.Author.Needs.{needs}
 use borrow.Author.Tests.{le-leb, lt-leb}
-use Rattle.replay_leaves.specs.Leaf.{weightsOf}
+use Rattle.replay_leaves.specs.Leaf.{leafWeights}
 use Rattle.replay_leaves.proofs.leaf.weights.Statement.{statement}
 use Rattle.replay_leaves.proofs.leaf.weights.Tie as tie
 
 returns : tie.Need-returns
-unfolding weightsOf
+unfolding leafWeights
 returns c = rw (lt-leb _ _ (c .if1 .taken))
 
 sub-probe-ewset : tie.Need-sub-probe-ewset
@@ -38,7 +38,7 @@ same-length : tie.Need-same-length
 same-length c = search needs
 
 returns-2 : tie.Need-returns-2
-unfolding weightsOf
+unfolding leafWeights
 returns-2 c =
     let k = c .before .before in
     let l = k .before .before .before .before in
