@@ -9,7 +9,7 @@ use Rattle.loops.specs.Part.{putPart}
 use Rattle.numbers.specs.Float.{_⊘_, oneF}
 use Rattle.coefficients.specs.Table.{tescoOf}
 use Rattle.vectors.specs.declared.Weights.{Weights}
-use Rattle.vectors.specs.Weights.{ewsetOf, Inversion, invertOf, outcomeOf}
+use Rattle.vectors.specs.Weights.{ewsetOf, Inversion, invertOf, weightsOutcome}
 use Rattle.common.specs.declared.Settings.{Settings}
 use Rattle.common.specs.declared.Common.{Common}
 use Rattle.common.specs.Layout.{ewt, ewtAt, acorAt}
@@ -60,7 +60,7 @@ pub record Closed : Type 0 where
   pub work : List Float
 
 abbrev pub closedWith : ℕ → List Float → Inversion → Closed
-closedWith n work inv = record { weights = outcomeOf inv; work = putPart (ewtAt n) n work (inv .ewt) }
+closedWith n work inv = record { weights = weightsOutcome inv; work = putPart (ewtAt n) n work (inv .ewt) }
 
 -- acor over the test constant of the order that the step used; then the weights of the new state, inverted
 unfoldable pub closedOf : Settings → Common → ℕ → List Float → List Float → List Float → Closed

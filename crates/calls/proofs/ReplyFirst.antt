@@ -17,7 +17,7 @@ use Rattle.loops.specs.Test.{differs}
 use Rattle.numbers.specs.Float.{_⊘_, zeroF, oneF}
 use Rattle.vectors.specs.declared.Weights.{Weights}
 use Rattle.vectors.specs.declared.Weights.the-variants.{Inverted, Refused}
-use Rattle.vectors.specs.Weights.{Inversion, invertOne, invertAt, invertOf, outcomeOf}
+use Rattle.vectors.specs.Weights.{Inversion, invertOne, invertAt, invertOf, weightsOutcome}
 use Rattle.interpolation.proofs.Laws.{reaches}
 use Rattle.turns.specs.declared.Phase.the-variants as Phase
 use Rattle.turns.specs.declared.Session.{Session}
@@ -71,7 +71,7 @@ module _ (l : List Float) where
       (record { ewt = l; refused = false; index = 0 }) (omega arith) (below-none Good, λ j h. refl)
 
   abbrev outcome : Weights
-  outcome = outcomeOf (invertOf l)
+  outcome = weightsOutcome (invertOf l)
 
   -- refused at an index, or all inverted
   pub data Found (o : Weights) : Type 0 where
@@ -176,12 +176,12 @@ module _ (kind : ℕ) (numbers : List Float) (time : Float) (b : Buffers) where
   report-then s (reported g f r) = r
 
   module _ (h : NoneHolds (replyRows kind numbers b)) (e : phaseIn b ≡ Phase.FirstDerivative) where
-    reply-is : reply ≡ said (outcomeOf (invertOf weights))
+    reply-is : reply ≡ said (weightsOutcome (invertOf weights))
     unfolding takenOf firstDerivativeOf
     reply-is = answer-at kind numbers time b Phase.FirstDerivative (kindOf kind) h e refl
 
     says : Says
-    says = says-at (outcomeOf (invertOf weights)) reply-is (found weights)
+    says = says-at (weightsOutcome (invertOf weights)) reply-is (found weights)
 
   pub first-derivative : FirstDerivative kind numbers time b
   first-derivative = record {

@@ -10,7 +10,7 @@ use lib.Ieee.{Float}
 use Rattle.numbers.specs.Sign.{refused}
 use Rattle.vectors.specs.declared.Weights.{Weights}
 use Rattle.vectors.specs.declared.Weights.the-variants.{Inverted, Refused}
-use Rattle.vectors.specs.Weights.{invertOf, outcomeOf}
+use Rattle.vectors.specs.Weights.{invertOf, weightsOutcome}
 use Rattle.common.specs.Layout.{ewt}
 use Rattle.common.specs.State.{Given, State}
 use Rattle.between_steps.specs.declared.Answer.{Answer}
@@ -74,7 +74,7 @@ module _ (g : Given) (some : 1 ≤ g .s .n) where
   unfolding started firstDerivativeOf
   started-stands f x a =
       let w = firstWeights g f x in
-      weighted-stands (outcomeOf (invertOf (ewt (g .s .n) w))) (put-w (inverted (g .s .n) w) x) a
+      weighted-stands (weightsOutcome (invertOf (ewt (g .s .n) w))) (put-w (inverted (g .s .n) w) x) a
 
   -- the machine's state after an accepted start stands at the tree of its run
   pub begins : (a : Start) → Alive (g .s .n) (start g a) → Stands g (start g a) (startedAt g a)

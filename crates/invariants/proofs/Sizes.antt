@@ -14,7 +14,7 @@ use Rattle.numbers.specs.Sign.{absOf}
 use Rattle.numbers.specs.Order.{maxOf}
 use Rattle.coefficients.specs.Cfode.{cfodeOf}
 use Rattle.coefficients.specs.Table.{elcoOf}
-use Rattle.vectors.specs.Norm.{normAt, vmnormOf}
+use Rattle.vectors.specs.Norm.{normTurn, vmnormOf}
 use Rattle.vectors.specs.FirstStep.{initialStepOf}
 use Rattle.common.specs.declared.Settings.{Settings}
 use Rattle.common.specs.declared.Common.{Common}
@@ -27,7 +27,7 @@ use Rattle.invariants.proofs.Floats.{minimum}
 pub norm : (v w : List Float) → Fit (vmnormOf v w .value)
 unfolding vmnormOf
 norm v w =
-    keeps Fit (normAt v w) (length v) (λ k n h p. maximum n _ p (product _ _)) 0 zeroF zero-le (literal 0)
+    keeps Fit (normTurn v w) (length v) (λ k n h p. maximum n _ p (product _ _)) 0 zeroF zero-le (literal 0)
 
 -- ---- the table of coefficients, by computation
 

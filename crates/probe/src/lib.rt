@@ -10,7 +10,7 @@ ghost use lib.Ieee.{binary64};
 ghost use Rattle.numbers.specs.Sign.{absOf, signumOf, copysignOf, refused};
 ghost use Rattle.numbers.specs.Order.{maxOf, minOf, clampOf};
 ghost use Rattle.sqrt.specs.Sqrt.{sqrtOf};
-ghost use Rattle.vectors.specs.Weights.{invertOf, outcomeOf};
+ghost use Rattle.vectors.specs.Weights.{invertOf, weightsOutcome};
 ghost use Rattle.probe.specs.Probe.{isOrder, elcoOrNan, tescoOrNan, cm1OrNan, cm2OrNan, sm1OrNan};
 ghost use Rattle.probe.specs.Leaves.{isMatrix, isToleranceList, isBehind, isWeighed, isSystem, arePivots};
 ghost use Rattle.probe.specs.Leaves.{WorkLeft, vmnormOrNan, fnormOrNan, ewsetLeft, ewsetLikeLeft, indexOf};
@@ -308,7 +308,7 @@ pub extern "C" fn probe_ewset_scalar_like(work: &mut [f64], n: usize, at: usize)
 #[no_mangle]
 pub extern "C" fn probe_invert_weights(ewt: &mut [f64]) -> usize
     ensures { λ r. ⌜ (now (ewt .exit) ≡ invertOf (now (ewt .entry)) .ewt)
-        × (r ≡ indexOf (length (now (ewt .entry))) (outcomeOf (invertOf (now (ewt .entry))))) ⌝ }
+        × (r ≡ indexOf (length (now (ewt .entry))) (weightsOutcome (invertOf (now (ewt .entry))))) ⌝ }
 {
     let n = ewt.len();
     match vectors::invert_weights(ewt) {

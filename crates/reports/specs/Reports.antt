@@ -8,7 +8,7 @@ use Rattle.numbers.specs.Float.{_⊕_, zeroF, oneF, d0·7}
 use Rattle.numbers.specs.Sign.{refused}
 use Rattle.vectors.specs.declared.Weights.{Weights}
 use Rattle.vectors.specs.declared.Weights.the-variants.{Inverted, Refused}
-use Rattle.vectors.specs.Weights.{ewsetOf, ewsetLikeOf, invertOf, outcomeOf}
+use Rattle.vectors.specs.Weights.{ewsetOf, ewsetLikeOf, invertOf, weightsOutcome}
 use Rattle.common.specs.declared.Settings.{Settings}
 use Rattle.common.specs.declared.Common.{Common}
 use Rattle.common.specs.declared.MethodFamily.the-variants.{Adams}
@@ -66,7 +66,7 @@ unfoldable pub firstDerivativeOf : Settings → Common → List Float → List F
 firstDerivativeOf s c rtol atol f work =
     let n = s .n in
     let w = ewsetOf rtol atol n (ewtAt n) (copyOf n 0 (yAt n) (withDerivative n f work)) in
-    weightedAt s c rtol atol (outcomeOf (invertOf (ewt n w))) (inverted n w)
+    weightedAt s c rtol atol (weightsOutcome (invertOf (ewt n w))) (inverted n w)
 
 -- ---- reports
 

@@ -14,7 +14,7 @@ use Rattle.numbers.specs.Float.{_⊕_, whole, zeroF, oneF, uround}
 use Rattle.numbers.specs.Sign.{refused}
 use Rattle.vectors.specs.declared.Weights.{Weights}
 use Rattle.vectors.specs.declared.Weights.the-variants.{Inverted, Refused}
-use Rattle.vectors.specs.Weights.{ewsetOf, ewsetLikeOf, invertOf, outcomeOf}
+use Rattle.vectors.specs.Weights.{ewsetOf, ewsetLikeOf, invertOf, weightsOutcome}
 use Rattle.common.specs.declared.Settings.{Settings}
 use Rattle.common.specs.Layout.{ewtAt, yAt, workLength, y, ewt}
 use Rattle.common.specs.Limits.{mxncfOf}
@@ -279,7 +279,7 @@ unfoldable pub started : Given → List Float → State → Play
 started g f x =
     let n = g .s .n in
     let w = firstWeights g f x in
-    weighted g (outcomeOf (invertOf (ewt n w))) (put-w (inverted n w) x)
+    weighted g (weightsOutcome (invertOf (ewt n w))) (put-w (inverted n w) x)
 
 -- the run of an accepted start
 unfoldable pub start : Given → Start → Play
