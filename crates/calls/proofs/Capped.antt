@@ -1,27 +1,26 @@
 -- Demand 3 for every list of calls of a run: from the rules' own theorem, along the calls.
 --     calls-capped
 -- Assumes nothing.
-use mathlib.Core.Bool.{Bool, true, false, cond, _||_, true≢false}
+use mathlib.Core.Bool.{Bool, true, false, cond, not}
 use mathlib.Core.List.{List, [], _∷_}
 use mathlib.Core.Logic.{_⊎_, inl, inr}
 use mathlib.Core.Option.{Option, none, some}
 use mathlib.Core.Path.{_≡_, refl, sym, ap, _∙_}
 use Prim.Native.Nat.{ℕ, _≤_}
 use native.Mathlib.Omega.{arith}
-use lib.Dec.{eqb}
+use lib.Dec.{eqb, lit<}
 use lib.Ieee.{Float}
-use Rattle.loops.specs.Test.{both}
+use Rattle.loops.specs.Test.{differs, both}
+use Rattle.numbers.specs.Float.{zeroF}
 use Rattle.common.specs.declared.Common.{Common}
 use Rattle.between_steps.specs.declared.Answer.{Answer}
 use Rattle.turns.specs.declared.Question.{Question}
 use Rattle.turns.specs.declared.Question.the-variants as Question
-use Rattle.between_steps.specs.declared.Status.{Status}
-use Rattle.between_steps.specs.declared.Status.the-variants as Status
 use Rattle.turns.specs.declared.Session.{Session}
 use Rattle.turns.specs.Turns.{Left}
 use Rattle.session.specs.Session.{decodeOf}
-use Rattle.common.specs.State.{Given}
 use Rattle.rules.specs.Play.{derivativeAt, jacobianAt, Ending, Play, ret, ask, tell, say}
+use Rattle.common.specs.State.{Given}
 use Rattle.rules.specs.Play.{finished, stepRefused, weightRefused, exhausted}
 use Rattle.rules.specs.Rules.{Start}
 use Rattle.rules.specs.Steps.{Step, Tally, requested, put-tally, noted, marked}
@@ -31,21 +30,22 @@ use Rattle.rules.proofs.Demands.{demand-3-tree}
 use Rattle.follows.specs.Seen.{next, asks, step}
 use Rattle.follows.specs.Stands.{startedAt}
 use Rattle.follows.specs.Follows.{stateAt}
+use Rattle.sqrt.specs.Rounded.{fits}
 use Rattle.answers.specs.declared.Reply.{Reply}
-use Rattle.answers.specs.Answers.{statusNumber, answerOf}
+use Rattle.answers.specs.Answers.{plainOf, answerOf}
 use Rattle.answers.specs.Called.{Buffers, Called}
 use Rattle.replies.specs.Replies.{isKind}
 use Rattle.raimsklo.specs.Calls.{Problem, startOf}
-use Rattle.calls.specs.Run.{Begins, ReplyCall, TimesFit, lastBy, ours, answered, lastOf}
-use Rattle.calls.specs.Follow.{treeOf, isStep, saidAt, fedAs}
+use Rattle.calls.specs.Run.{Begins, ReplyCall, TimesF64, lastBy, ours, replied, lastOf, isRefusal}
+use Rattle.calls.specs.Follow.{givenOf, fromOf, treeOf, isStep, saidAt, fedAs, isSized}
 use Rattle.calls.specs.Demands.{marks, countedBy, stepsBy, isReport, CappedAt, CallsCapped}
-use Rattle.calls.proofs.Said.{fits}
+use Rattle.calls.proofs.Agrees.{status-not}
 use Rattle.calls.proofs.Keeps.{Runs}
-use Rattle.calls.proofs.Start.{given, from, begun-run}
-use Rattle.calls.proofs.Walk.{At, leaves, Outcome, unsized, refused, taken, call, at-leaves, begun-at}
-use Rattle.calls.proofs.Follow.{went}
+use Rattle.calls.proofs.Start.{begun-run}
+use Rattle.calls.proofs.Walk.{At, isFitting, Went, Outcome, refused, taken, call, is-refusal, Moves, moves}
+use Rattle.calls.proofs.Walk.{begun-at}
 use Rattle.calls.proofs.Spoken.{Spoken, reply-of}
-use Rattle.calls.proofs.Ends.{begun-spoken}
+use Rattle.calls.proofs.Ends.{spoken, begun-spoken}
 
 -- ---- a question counts alike, whatever its time and state
 
@@ -80,21 +80,13 @@ module _ (P : Play → List Step → Type 0) where
   abbrev counts : Reply → List Step → List Step
   counts a xs = countedBy a xs
 
-  status-counts : (s : Status) → eqb (statusNumber s) 100 ≡ false
-  status-counts Status.Success = refl
-  status-counts Status.Interrupted = refl
-  status-counts Status.NeedsMoreSteps = refl
-  status-counts Status.StepTooSmall = refl
-  status-counts Status.PoorConvergence = refl
-  status-counts Status.CoefficientGap = refl
-
   report-counts : (b : Bool) → eqb (cond b 103 102) 100 ≡ false
   report-counts true = refl
   report-counts false = refl
 
   arrives-at : (n : ℕ) (t : Play) (q : List Float) (xs : List Step) → Throughout P t xs
       → Waits t (countedBy (saidAt n t q .reply) (marks t xs))
-  arrives-at n (ret (finished status x)) q xs h = rw (status-counts status) h
+  arrives-at n (ret (finished status x)) q xs h = rw (status-not status 100 (lit< tt)) h
   arrives-at n (ret (stepRefused v x)) q xs h = h
   arrives-at n (ret (weightRefused i x)) q xs h = h
   arrives-at n (ret (exhausted x)) q xs h = h
@@ -108,7 +100,7 @@ module _ (P : Play → List Step → Type 0) where
   arrives n t x xs k h = rw (reply-of n t x k) (arrives-at n t (k .question) xs h)
 
   leads : (n : ℕ) (t : Play) (r : Fed) (zs : List Step) → asks n t r ≡ true → Waits t zs → Throughout P (step t r) zs
-  leads n (ret e) r zs h w = absurd (true≢false (sym h))
+  leads n (ret e) r zs h w = differs h
   leads n (ask q x k) r zs h w = w .1 (r .numbers)
   leads n (tell p x k) r zs h w = w .1 _ (r .numbers) (r .time)
   leads n (say e p) r zs h w = leads n p r zs h w
@@ -127,20 +119,13 @@ module _ (g : Given) where
 
   count-at : (n : ℕ) (t : Play) (q : List Float) (zs : List Step) → Here t zs
       → isReport (saidAt n t q .reply) ≡ true → saidAt n t q .reply .count ≡ latest zs
-  count-at n (ret (finished status x)) q zs h i = absurd (by status i)
-    where
-      by : (s : Status) → eqb (statusNumber s) 102 || eqb (statusNumber s) 103 ≡ true → ⊥
-      by Status.Success e = true≢false (sym e)
-      by Status.Interrupted e = true≢false (sym e)
-      by Status.NeedsMoreSteps e = true≢false (sym e)
-      by Status.StepTooSmall e = true≢false (sym e)
-      by Status.PoorConvergence e = true≢false (sym e)
-      by Status.CoefficientGap e = true≢false (sym e)
-  count-at n (ret (stepRefused v x)) q zs h i = absurd (true≢false (sym i))
-  count-at n (ret (weightRefused v x)) q zs h i = absurd (true≢false (sym i))
-  count-at n (ret (exhausted x)) q zs h i = absurd (true≢false (sym i))
-  count-at n (ask (derivativeAt t v) x k) q zs h i = absurd (true≢false (sym i))
-  count-at n (ask (jacobianAt t v) x k) q zs h i = absurd (true≢false (sym i))
+  count-at n (ret (finished status x)) q zs h i =
+      differs (rw (status-not status 102 (lit< tt), status-not status 103 (lit< tt)) at i)
+  count-at n (ret (stepRefused v x)) q zs h i = differs i
+  count-at n (ret (weightRefused v x)) q zs h i = differs i
+  count-at n (ret (exhausted x)) q zs h i = differs i
+  count-at n (ask (derivativeAt t v) x k) q zs h i = differs i
+  count-at n (ask (jacobianAt t v) x k) q zs h i = differs i
   count-at n (tell r x k) q zs h i = h .0 .1
   count-at n (say e p) q zs h i = count-at n p q zs h i
 
@@ -177,7 +162,7 @@ module _ (g : Given) (a : Start) (run : Runs g a) where
 
   -- the last call is spoken at the node, or it was refused
   abbrev Last : Play → Called → Type 0
-  Last t x = Spoken n t x ⊎ ((x .reply .number ≡ 3) ⊎ (x .reply .number ≡ 14))
+  Last t x = Spoken n t x ⊎ ((q : Bool) × (x .reply ≡ plainOf (cond q 14 3) 0 zeroF zeroF))
 
   record Stood (x : Called) (zs : List Step) : Type 0 where
     node : Play
@@ -190,29 +175,42 @@ module _ (g : Given) (a : Start) (run : Runs g a) where
   Stands rs = (t : Play) (l : Left) (x : Called) (zs : List Step) → At g a run t l x → Last t x → Here g t zs
       → Stood (lastOf x rs) (stepsBy ours t zs x rs)
 
-  stands-by : (r : ReplyCall) (rs : List ReplyCall) → Stands rs → (t : Play) (l : Left) (x : Called) (zs : List Step)
-      → At g a run t l x → Here g t zs → Outcome g a run t l x r
+  -- a refused reply leaves the node and the steps, one that is taken goes on
+  stands-left : (r : ReplyCall) (rs : List ReplyCall) → Stands rs → (t : Play) (l : Left) (x : Called) (zs : List Step)
+      → At g a run t l (replied x r) → Last t (replied x r) → Here g t zs → isRefusal (replied x r .reply) ≡ true
       → Stood (lastOf x (r ∷ rs)) (stepsBy ours t zs x (r ∷ rs))
   unfolding lastBy stepsBy
-  stands-by r rs ih t l x zs at h (unsized s e) =
-      rw e (ih t l (leaves g a run x r 3) zs (at-leaves g a run r 3 at) (inr (inl refl)) h)
-  stands-by r rs ih t l x zs at h (refused s e q) =
-      rw q (ih t l (leaves g a run x r 14) zs (at-leaves g a run r 14 at) (inr (inr refl)) h)
-  stands-by r rs ih t l x zs at h (taken s e on q w k) =
-      let y = answered x r in
-      let u = step t (fedAs r) in
-      let m = next g l (fedAs r) in
-      let spoken : Spoken n u y = record { question = r .question; said = k; asked = m .turn .question; answer = q } in
-      let asked = both (isKind (r .kind)) (asks n t (fedAs r)) e .1 in
-      rw (went g a run m y w q)
-      (ih u m y (countedBy (y .reply) (marks u zs)) on (inl spoken)
-      (arrives (Demand3At g) n u y zs spoken (leads (Demand3At g) n t (fedAs r) zs asked h)))
+  stands-left r rs ih t l x zs at k h i = rw i (ih t l (replied x r) zs at k h)
 
-  stands-all : (rs : List ReplyCall) → TimesFit rs → Stands rs
+  stands-on : (r : ReplyCall) (rs : List ReplyCall) → Stands rs → (t : Play) (l : Left) (x : Called) (zs : List Step)
+      → asks n t (fedAs r) ≡ true → Went g a run t l x r → Here g t zs → isRefusal (replied x r .reply) ≡ false
+      → Stood (lastOf x (r ∷ rs)) (stepsBy ours t zs x (r ∷ rs))
+  unfolding lastBy stepsBy
+  stands-on r rs ih t l x zs asked w h i =
+      let y = replied x r in
+      let u = step t (fedAs r) in
+      let k = spoken g a run t l x r w in
+      rw i
+      (ih u (next g l (fedAs r)) y (countedBy (y .reply) (marks u zs)) (w .at) (inl k)
+      (arrives (Demand3At g) n u y zs k (leads (Demand3At g) n t (fedAs r) zs asked h)))
+
+  stands-by : (r : ReplyCall) (rs : List ReplyCall) → Stands rs → (t : Play) (l : Left) (x : Called) (zs : List Step)
+      → Moves g a run t x r → Here g t zs → isRefusal (replied x r .reply) ≡ not (isFitting g a run t r)
+      → Outcome g a run t l x r → Stood (lastOf x (r ∷ rs)) (stepsBy ours t zs x (r ∷ rs))
+  stands-by r rs ih t l x zs m h i (refused e q) =
+      stands-left r rs ih t (m .left) x zs (rw e at (m .at)) (inr (isSized n r, ap (λ (y : Called). y .reply) q)) h
+      (i ∙ ap not e)
+  stands-by r rs ih t l x zs m h i (taken e w) =
+      stands-on r rs ih t l x zs (both (isKind (r .kind)) (asks n t (fedAs r)) (both (isSized n r) _ e .1) .1) w h
+      (i ∙ ap not e)
+
+  stands-all : (rs : List ReplyCall) → TimesF64 rs → Stands rs
   unfolding lastBy stepsBy
   stands-all [] f t l x zs at k h = record { node = t; left = l; at = at; last = k; here = h }
   stands-all (r ∷ rs) f t l x zs at k h =
-      stands-by r rs (stands-all rs (f .1)) t l x zs at h (call g a run t l x r (f .0) at)
+      let o = call g a run t l x r (f .0) at in
+      stands-by r rs (stands-all rs (f .1)) t l x zs (moves g a run t l x r (f .0) at) h
+      (is-refusal g a run t l x r o) o
 
   -- ---- the claim at the last call
 
@@ -230,23 +228,22 @@ module _ (g : Given) (a : Start) (run : Runs g a) where
     count-is (inl k) i =
         let e = reply-of n (z .node) x k in
         ap (λ (y : Reply). y .count) e ∙ count-at g n (z .node) (k .question) zs (z .here) (ap isReport (sym e) ∙ i)
-    count-is (inr (inl e)) i = absurd (true≢false (sym (rw e at i)))
-    count-is (inr (inr e)) i = absurd (true≢false (sym (rw e at i)))
+    count-is (inr (true, e)) i = differs (rw e at i)
+    count-is (inr (false, e)) i = differs (rw e at i)
 
     first-is : Last (z .node) x → x .reply .number ≡ 102 → x .reply .count ≡ 0
     first-is (inl k) i =
         ap (λ (y : Reply). y .count) (k .answer)
         ∙ first-count (k .asked) (ap (λ (y : Reply). y .number) (sym (k .answer)) ∙ i)
-    first-is (inr (inl e)) i = absurd (omega arith)
-    first-is (inr (inr e)) i = absurd (omega arith)
+    first-is (inr (q, e)) i = ap (λ (y : Reply). y .count) e
 
     returned-is : Last (z .node) x → 110 ≤ x .reply .number
         → x .reply .accepted ≡ decodeOf (x .lent .session) .common .nst
     returned-is (inl k) h =
         let e = reply-of n (z .node) x k in
         ap (λ (y : Reply). y .accepted) e ∙ returned-at g n (z .node) (k .question) (rw e at h) ∙ sym accepted-is
-    returned-is (inr (inl e)) h = absurd (omega arith)
-    returned-is (inr (inr e)) h = absurd (omega arith)
+    returned-is (inr (true, e)) h = absurd (omega (arith, rw e at h))
+    returned-is (inr (false, e)) h = absurd (omega (arith, rw e at h))
 
     capped-at : CappedAt x zs
     capped-at = record {
@@ -259,8 +256,8 @@ module _ (g : Given) (a : Start) (run : Runs g a) where
 
 pub calls-capped : (p : Problem) (b : Buffers) → Begins p b → CallsCapped p b
 calls-capped p b begins rs f =
-    let g = given p b begins in
-    let a = from p b begins in
+    let g = givenOf p b in
+    let a = fromOf p in
     let run = begun-run p b begins in
     let k = begun-spoken p b begins in
     capped-at g a run _ _

@@ -10,13 +10,12 @@ use native.Mathlib.Omega.{arith}
 use lib.Dec.{eqb}
 use lib.ListN.{length}
 use borrow.Author.Tests.{eqb-true, eqb-false, ne-eqb}
-use Rattle.numbers.specs.Float.{zeroF}
 use Rattle.refusals.specs.declared.Refusal.{Refusal}
 use Rattle.refusals.specs.Rows.{Row, ExactlyFirst}
 use Rattle.refusals.specs.Table.{startRows}
 use Rattle.refusals.proofs.Rows.{Each}
 use Rattle.refusals.proofs.Table.{each-row, exactly-first}
-use Rattle.answers.specs.Answers.{plainOf, refusedOf}
+use Rattle.answers.specs.Answers.{refusedOf}
 use Rattle.answers.specs.Called.{Buffers, Called}
 use Rattle.starts.specs.Starts.{beganOf}
 use Rattle.raimsklo.specs.Calls.{Problem, lengthsOf, startAt, startOf}

@@ -3,7 +3,7 @@
 --     ours-meets                our calls meet demand 2
 --     fakes-fail                a solver that meets demand 2 is none of the six
 -- Assumes nothing.
-use mathlib.Core.Bool.{Bool, true, false, cond, true≢false}
+use mathlib.Core.Bool.{true, false, true≢false}
 use mathlib.Core.List.{List, [], _∷_, map}
 use mathlib.Core.Logic.{_⊎_, inl, inr}
 use mathlib.Core.Path.{_≡_, refl, sym, ap, _∙_}
@@ -27,8 +27,7 @@ use Rattle.common.specs.Rules.{firstCallInitOf, resetOf}
 use Rattle.history.specs.Columns.{predictColumnsOf, retractColumnsOf, scaleColumnOf, rescaleColumnsOf, addScaledOf}
 use Rattle.history.specs.Columns.{correctColumnsOf, copyOf, slopeOf, fillOf, scalePartOf}
 use Rattle.history.specs.Steps.{limitedOf, adjustOf, staleOf, predictedOf}
-use Rattle.corrector.specs.Verdict.{judgeOf, ratedOf, dconOf, estimatedOf, judgedConverged, giveUpOf, judgedFurther}
-use Rattle.corrector.specs.Verdict.{judgedTested}
+use Rattle.corrector.specs.Verdict.{judgeOf, ratedOf, dconOf, estimatedOf, judgedConverged, giveUpOf, judgedFurther, judgedTested}
 use Rattle.corrector.specs.Iterate.{openOf, adamsResidualOf, adamsUpdateOf, adamsOf, correctOf}
 use Rattle.attempt.specs.Attempt as Attempt
 use Rattle.acceptance.specs.Size.{sizeOf}
@@ -39,8 +38,6 @@ use Rattle.turns.specs.declared.Phase.the-variants as Phase
 use Rattle.between_steps.specs.Begin as Begin
 use Rattle.between_steps.specs.Start as Start
 use Rattle.reports.specs.Reports as Reports
-use Rattle.machine.specs.Resume.{isAsked}
-use Rattle.between_steps.specs.declared.Kind.the-variants as Kind
 use Rattle.refusals.specs.Refusal.{alsoOf, inOrder, orElse}
 use Rattle.refusals.specs.Start as Refusals
 use Rattle.refusals.specs.Start.{startRefusalOf, settingsOf, firstStepOf}
@@ -57,13 +54,12 @@ use Rattle.answers.specs.declared.Reply.{Reply}
 use Rattle.answers.specs.Called.{Buffers, Called}
 use Rattle.replies.specs.Replies.{kindOf}
 use Rattle.raimsklo.specs.Calls.{Problem, startOf}
-use Rattle.calls.specs.Run.{FloatsGiven, Begins, ReplyCall, TimesFit, Solver, answeredBy, callsBy, lastBy, ours}
-use Rattle.calls.specs.Run.{isRefusal}
+use Rattle.calls.specs.Run.{Begins, ReplyCall, TimesF64, Solver, answeredBy, callsBy, lastBy, ours}
 use Rattle.calls.specs.Follow.{Said, saidBy, saidAt, fedAs, toldBy, standsAt, treeOf, TakesDerivative, PhaseAt}
 use Rattle.calls.specs.Follow.{Demand2}
-use Rattle.calls.specs.Demands.{marks, countedBy, stepsBy, stepsSeen, stepsIn, isReport}
+use Rattle.calls.specs.Demands.{marks, countedBy, stepsBy, stepsSeen, stepsIn}
 use Rattle.calls.specs.Sums.{Single, problemOf, problem8, problem10}
-use Rattle.calls.specs.Fakes.{Meets, after, InventsCount, NoFake}
+use Rattle.calls.specs.Fakes.{Meets, lastAfter, InventsCount, NoFake}
 use Rattle.calls.proofs.Follow.{calls-follow}
 use Rattle.calls.proofs.Capped.{calls-capped}
 use Rattle.calls.proofs.Sums.{Accepted, begins-single, given-floats, floats-8, floats-10, accepted}
@@ -89,8 +85,8 @@ abbrev saidAfter : Problem → Buffers → List ReplyCall → Said
 saidAfter p b rs =
     lastIn (toldBy (length (p .y0)) (treeOf p b) rs) (saidAt (length (p .y0)) (treeOf p b) (b .question))
 
-says-last : (f : Solver) (p : Problem) (b : Buffers) → Demand2 f p b → (rs : List ReplyCall) → TimesFit rs
-    → saidBy (after f p b rs) ≡ saidAfter p b rs
+says-last : (f : Solver) (p : Problem) (b : Buffers) → Demand2 f p b → (rs : List ReplyCall) → TimesF64 rs
+    → saidBy (lastAfter f p b rs) ≡ saidAfter p b rs
 says-last f p b d rs t = last-said f rs (f .start p b) ∙ rw (d .answers rs t, d .first)
 
 -- ---- the runs, on slices of zeros
@@ -147,7 +143,7 @@ anotherStep = gives ∷ continues zeroF ∷ gives ∷ continues oneF ∷ gives �
 is-f64 : (b : ℕ) → IsF64 (lit b)
 is-f64 b = fits-is-f64 (lit b) (literal b)
 
-times-fit : TimesFit anotherStep × TimesFit oneStep × TimesFit toReport × TimesFit (gives ∷ continues zeroF ∷ [])
+times-fit : TimesF64 anotherStep × TimesF64 oneStep × TimesF64 toReport × TimesF64 (gives ∷ continues zeroF ∷ [])
 times-fit = (
   (is-f64 _, (is-f64 _, (is-f64 _, (is-f64 _, (is-f64 _, tt))))),
   (is-f64 _, (is-f64 _, (is-f64 _, (is-f64 _, tt)))),
@@ -184,11 +180,11 @@ unfolding toldBy standsAt kindOf settingsOf firstStepOf Refusals.smallestOf Refu
     Attempt.retractedOf Attempt.repredictOf Attempt.errorOf Attempt.shrunkOf Attempt.missedAt
     Attempt.missedOf Attempt.overshotOf Attempt.failedOf Attempt.unconvergedOf Attempt.quarteredOf
     Attempt.noConvergenceAt Attempt.noConvergenceOf Accept.correctedOf Accept.keepFamilyOf Accept.testFamilyOf
-    Accept.acceptOf Accept.closedOf judgeOf ratedOf dconOf estimatedOf judgedConverged giveUpOf judgedFurther
-    judgedTested openOf adamsResidualOf adamsUpdateOf adamsOf correctOf limitedOf adjustOf staleOf predictedOf
-    predictColumnsOf retractColumnsOf scaleColumnOf rescaleColumnsOf addScaledOf correctColumnsOf copyOf slopeOf fillOf
-    scalePartOf firstCallInitOf resetOf ewsetOf invertOf toleranceOf vmnormOf elcoOf tescoOf sm1Of cfodeOf rootOf absOf
-    negative signumOf refused maxOf minOf times add sub mul div neg lt eq le ne ofInt ofBits
+    Accept.acceptOf Accept.closedOf judgeOf ratedOf dconOf estimatedOf judgedConverged giveUpOf judgedFurther judgedTested openOf
+    adamsResidualOf adamsUpdateOf adamsOf correctOf limitedOf adjustOf staleOf predictedOf predictColumnsOf
+    retractColumnsOf scaleColumnOf rescaleColumnsOf addScaledOf correctColumnsOf copyOf slopeOf fillOf scalePartOf
+    firstCallInitOf resetOf ewsetOf invertOf toleranceOf vmnormOf elcoOf tescoOf sm1Of cfodeOf rootOf absOf negative
+    signumOf refused maxOf minOf times add sub mul div neg lt eq le ne ofInt ofBits
     Order.raisedWorkOf Order.raisedLeftOf Order.raisedSizeOf Order.loweredSizeOf Order.limitedFactorsOf Order.settleOf
     Order.raiseColumnOf Order.raiseOf Order.lowerOf Order.chooseOf Order.chooseOrderOf sizeOf
 computed =
@@ -234,18 +230,18 @@ steps-same f (r ∷ rs) t xs x y e =
     )
 
 module _ (f : Solver) (meets : Meets f) where
-  says : {c : Single} → Begins (problemOf c) slices → (rs : List ReplyCall) → TimesFit rs
-      → after f (problemOf c) slices rs .reply ≡ told c rs
+  says : {c : Single} → Begins (problemOf c) slices → (rs : List ReplyCall) → TimesF64 rs
+      → lastAfter f (problemOf c) slices rs .reply ≡ told c rs
   says begins rs t =
       ap (λ (s : Said). s .reply) (says-last f _ slices (meets _ slices begins) rs t)
 
-  number : {c : Single} {k : ℕ} → Begins (problemOf c) slices → (rs : List ReplyCall) → TimesFit rs
-      → told c rs .number ≡ k → after f (problemOf c) slices rs .reply .number ≡ k
+  number : {c : Single} {k : ℕ} → Begins (problemOf c) slices → (rs : List ReplyCall) → TimesF64 rs
+      → told c rs .number ≡ k → lastAfter f (problemOf c) slices rs .reply .number ≡ k
   number begins rs t e = ap (λ (a : Reply). a .number) (says begins rs t) ∙ e
 
-  poor : (after f (problemOf problem8) slices [] .reply .number ≡ 114)
-      ⊎ ((after f (problemOf problem8) slices (gives ∷ []) .reply .number ≡ 114)
-      ⊎ (after f (problemOf problem8) slices (gives ∷ continues zeroF ∷ []) .reply .number ≡ 114)) → ⊥
+  poor : (lastAfter f (problemOf problem8) slices [] .reply .number ≡ 114)
+      ⊎ ((lastAfter f (problemOf problem8) slices (gives ∷ []) .reply .number ≡ 114)
+      ⊎ (lastAfter f (problemOf problem8) slices (gives ∷ continues zeroF ∷ []) .reply .number ≡ 114)) → ⊥
   poor (inl e) = let z = number begins-8 [] tt (computed .starts) in omega (arith, z, e)
   poor (inr (inl e)) =
       let z = number begins-8 (gives ∷ []) (is-f64 _, tt) (computed .first) in omega (arith, z, e)
@@ -268,7 +264,7 @@ module _ (f : Solver) (meets : Meets f) where
       let b = h .b in
       let d = meets p b (h .begins) in
       let own = ours-meets p b (h .begins) in
-      let same : after f p b (h .rs) .reply ≡ after ours p b (h .rs) .reply =
+      let same : lastAfter f p b (h .rs) .reply ≡ lastAfter ours p b (h .rs) .reply =
       ap (λ (s : Said). s .reply)
       (says-last f p b d (h .rs) (h .times) ∙ sym (says-last ours p b own (h .rs) (h .times))) in
       let begun : f .start p b .reply ≡ startOf p b .reply =
@@ -297,7 +293,7 @@ module _ (f : Solver) (meets : Meets f) where
         untouched = λ h.
             let e = number begins-8 (gives ∷ []) (is-f64 _, tt) (computed .first) in
             let d = meets _ slices begins-8 in
-            touched (after f (problemOf problem8) slices (gives ∷ []))
+            touched (lastAfter f (problemOf problem8) slices (gives ∷ []))
             (h _ slices begins-8 [] gives tt (is-f64 _) (rw e refl))
             (d .session (gives ∷ []) (is-f64 _, tt) .phase);
         repeating = λ h.

@@ -1,54 +1,58 @@
--- The reply to the first derivative is answered 12 with the first weight at most 0, then 11 where the step is refused,
--- and else by the first report.
+-- The reply to the first derivative of an accepted start, from the law of any session that waits for one
+-- (`first-derivative`): what the start left is such a session, and its weights are those of the rows.
 --     first-exactly
 -- Assumes nothing.
-use mathlib.Core.Bool.{Bool, true, false, cond}
+use mathlib.Core.Bool.{Bool, true, false, cond, not}
 use mathlib.Core.List.{List, [], _∷_, _++_}
-use mathlib.Core.Logic.{_⊎_, inl, inr, _≢_, _↔_}
+use mathlib.Core.Logic.{_⊎_, inl, inr, _↔_}
 use mathlib.Core.Path.{_≡_, refl, sym, ap, _∙_}
-use Prim.Native.Nat.{ℕ, zero, suc, _+_, _-_, _*_, _≤_, _<_}
+use Prim.Native.Nat.{ℕ, zero, suc, _+_, _*_, _≤_, _<_}
 use native.Mathlib.Omega.{arith}
-use lib.Dec.{eqb, ltb, lit≤}
+use lib.Dec.{eqb, lit≤}
 use lib.Ieee as Ieee
 use lib.Ieee.{Float, nan}
-use lib.ListN.{length, getD, set, take, drop, replicate, length-set, length-replicate}
-use lib.Seq.{getD-set-same, getD-set-other, getD-append-add, getD-drop, length-take-le}
+use lib.ListN.{length, getD, take, drop, replicate, length-replicate}
+use lib.Seq.{getD-append-add, getD-drop, length-take-le}
 use borrow.Author.Tests.{eqb-true, eqb-false, eq-eqb}
-use Rattle.loops.specs.For.{times}
-use Rattle.loops.specs.Part.{part, putPart, getD-part, length-part, length-putPart}
+use Rattle.loops.specs.Part.{putPart, getD-part, length-part, length-putPart}
+use Rattle.loops.specs.Stores.{stores}
 use Rattle.loops.specs.Test.{differs}
 use Rattle.numbers.specs.Float.{_⊖_, zeroF}
 use Rattle.numbers.specs.Sign.{signumOf, refused}
-use Rattle.vectors.specs.Weights.{invertOf}
-use Rattle.vectors.proofs.Laws.{length-ewset, ewset-written, inverted, stopped}
+use Rattle.vectors.proofs.Laws.{length-ewset, ewset-written}
 use Rattle.common.specs.Layout.{ewt}
-use Rattle.history.specs.Columns.{copyAt, copyOf}
+use Rattle.history.specs.Columns.{copyOf}
 use Rattle.history.proofs.Laws.{length-copy}
+use Rattle.turns.specs.declared.Phase.the-variants as Phase
+use Rattle.turns.specs.declared.Session.{Session}
 use Rattle.between_steps.specs.Start.{withDerivative}
 use Rattle.refusals.specs.declared.Refusal.{Refusal}
 use Rattle.refusals.specs.Refusal.{none}
 use Rattle.refusals.specs.Start.{settingsOf}
-use Rattle.refusals.specs.FirstStep.{StepRefused}
-use Rattle.refusals.specs.Rows.{Row}
-use Rattle.refusals.proofs.Decides.{Decides}
+use Rattle.refusals.specs.Rows.{Row, NoneHolds}
 use Rattle.refusals.proofs.FirstStep.{step-decides}
 use Rattle.refusals.proofs.Rows.{IsFirst, After, exactly, Each, numbered}
 use Rattle.common.specs.State.{Given, State}
-use Rattle.rules.specs.Play.{Play}
-use Rattle.rules.specs.Rules.{Start, start, beginning, firstStep, firstWeights, weighted, sized, started}
+use Rattle.rules.specs.Rules.{start, beginning, firstWeights}
+use Rattle.follows.specs.Stands.{startedAt}
 use Rattle.invariants.specs.Host.{IsF64}
 use Rattle.answers.specs.declared.Reply.{Reply}
 use Rattle.answers.specs.Answers.{plainOf, refusedOf}
-use Rattle.answers.specs.Called.{Buffers, Called}
-use Rattle.replies.specs.Replies.{isKind, kindOf}
+use Rattle.answers.specs.Called.{Buffers}
+use Rattle.replies.specs.Replies.{kindOf}
 use Rattle.raimsklo.specs.Calls.{Problem, startOf}
-use Rattle.calls.specs.Run.{Begins, ReplyCall, answered, callsBy}
-use Rattle.calls.specs.Follow.{Said, says, saidBy, saidAt, saidTo, toldBy, givenOf, fromOf, treeOf}
-use Rattle.calls.specs.Follow.{isAnswer, isSized}
-use Rattle.calls.specs.First.{weightOf, weightRows, weightedAt, stepAt, sizeRow, firstRows, FirstExactly}
-use Rattle.calls.proofs.Walk.{part-put}
-use Rattle.calls.proofs.Follow.{calls-follow}
+use Rattle.calls.specs.Run.{Begins, ReplyCall, lentFor, replied}
+use Rattle.calls.specs.Follow.{givenOf, fromOf, treeOf, isAwaited, isSized}
+use Rattle.calls.specs.First.{weightOf, weightRows, firstStepSize, sizeRow, firstRows, FirstExactly}
+use Rattle.calls.specs.ReplyRefused.{phaseIn, replyRows}
+use Rattle.calls.specs.ReplyFirst.{FirstBad, AllGood, storedWeights, storedStep, isRefused}
+use Rattle.calls.proofs.Start.{begun-run}
+use Rattle.calls.proofs.Walk.{At, isFitting, call, is-refusal, part-put, begun-at}
 use Rattle.calls.proofs.Exactly.{exactly-as}
+use Rattle.calls.proofs.ReplyRefused.{stored-phase, reply-refused}
+use Rattle.calls.proofs.ReplyFirst.{Says, weighty, says}
+use Rattle.rules.specs.Rules.{stepped}
+use Rattle.calls.specs.Fakes.{reported}
 
 -- ---- lists
 
@@ -60,46 +64,6 @@ put-beyond a n k l s h e =
     let first = getD-append-add (take a l) (s ++ drop n (drop a l)) (n + k) nan in
     let second = getD-append-add s (drop n (drop a l)) k nan in
     (rw m at first) ∙ (rw e at second) ∙ getD-drop n (drop a l) k nan ∙ getD-drop a l (n + k) nan
-
-module _ (from : ℕ) where
-  copy-other : (k i j : ℕ) (l : List Float) → (j < i) ⊎ (i + k ≤ j)
-      → getD (times (copyAt 0 from) k i l) j nan ≡ getD l j nan
-  unfolding times
-  copy-other zero i j l h = refl
-  copy-other (suc k) i j l h =
-      copy-other k (i + 1) j (set l (0 + i) (getD l (from + i) nan)) (on h)
-      ∙ getD-set-other l (0 + i) j (getD l (from + i) nan) nan (off h)
-    where
-      on : (j < i) ⊎ (i + suc k ≤ j) → (j < i + 1) ⊎ (i + 1 + k ≤ j)
-      on (inl a) = inl (omega arith)
-      on (inr a) = inr (omega arith)
-
-      off : (j < i) ⊎ (i + suc k ≤ j) → j ≢ 0 + i
-      off (inl a) e = omega arith
-      off (inr a) e = omega arith
-
-  copy-at : (k i j : ℕ) (l : List Float) → i ≤ j → j < i + k → i + k ≤ from → i + k ≤ length l
-      → getD (times (copyAt 0 from) k i l) j nan ≡ getD l (from + j) nan
-  unfolding times
-  copy-at zero i j l a b f h = absurd (omega arith)
-  copy-at (suc k) i j l a b f h =
-      by (eqb j i) refl
-      (λ m. copy-at k (i + 1) j (set l (0 + i) (getD l (from + i) nan)) m (omega arith) (omega arith)
-      (rw length-set (omega arith)))
-    where
-      by : (t : Bool) → eqb j i ≡ t
-          → (i + 1 ≤ j → getD (times (copyAt 0 from) k (i + 1) (set l (0 + i) (getD l (from + i) nan))) j nan
-          ≡ getD (set l (0 + i) (getD l (from + i) nan)) (from + j) nan)
-          → getD (times (copyAt 0 from) k (i + 1) (set l (0 + i) (getD l (from + i) nan))) j nan ≡ getD l (from + j) nan
-      by true e on =
-          let q : j ≡ i = eqb-true j i e in
-          let z : 0 + i ≡ i = omega arith in
-          rw (q, z)
-          (copy-other k (i + 1) i (set l i (getD l (from + i) nan)) (inl (omega arith))
-          ∙ getD-set-same l i (getD l (from + i) nan) nan (omega arith))
-      by false e on =
-          let q : j ≡ i → ⊥ = eqb-false j i e in
-          on (omega arith) ∙ getD-set-other l (0 + i) (from + j) (getD l (from + i) nan) nan (λ z. omega arith)
 
 -- ---- the rows of the weights
 
@@ -173,10 +137,6 @@ same-end x a (inr (e, k)) = (λ z. k, λ z. ap (λ (y : Refusal). y .number) e)
 
 -- ---- the call
 
-headOf : List Said → Said
-headOf [] = says (plainOf 0 0 zeroF zeroF) []
-headOf (x ∷ l) = x
-
 module _ (p : Problem) (b : Buffers) (begins : Begins p b) (r : ReplyCall) (time : IsF64 (r .time))
     (kind : r .kind ≡ 1) (long : length (r .numbers) ≡ length (p .y0)) (room : isSized (length (p .y0)) r ≡ true) where
   abbrev n : ℕ
@@ -191,20 +151,11 @@ module _ (p : Problem) (b : Buffers) (begins : Begins p b) (r : ReplyCall) (time
   abbrev x : State
   x = beginning g (fromOf p)
 
-  abbrev st : State
-  st = weightedAt p b f
-
   abbrev h : Float
-  h = stepAt p b f
+  h = firstStepSize p b f
 
   abbrev w : List Float
   w = firstWeights g f x
-
-  said : saidBy (answered (startOf p b) r) ≡ saidAt n (started g f x) (r .question)
-  unfolding callsBy toldBy start kindOf settingsOf headOf
-  said =
-      let asked : isAnswer n (treeOf p b) r ≡ true = rw (kind, eq-eqb (length f) n long) in
-      ap headOf (calls-follow p b begins .demand .answers (r ∷ []) (time, tt)) ∙ rw (room, asked)
 
   -- the weights
   long-work : length w ≡ n * n + 19 * n
@@ -232,8 +183,10 @@ module _ (p : Problem) (b : Buffers) (begins : Begins p b) (r : ReplyCall) (time
       let made = ewset-written (p .rtol) (p .atol) n (13 * n) u (omega arith) (omega arith) in
       let l4 : length w ≡ n * n + 19 * n = long-work in
       let at17 : 14 * n + (length f + (2 * n + i)) ≡ 17 * n + i = omega (arith, long) in
-      let first : getD u i nan ≡ getD v (17 * n + i) nan =
-          copy-at (17 * n) (n - 0) 0 i v (omega arith) (omega arith) (omega arith) (omega arith) in
+      let copied = stores nan (λ j. 0 + j) (λ j. 17 * n + j) (λ j c. c) n v
+      (λ j k l q. (λ e. omega arith, λ e. omega arith)) (λ j l. omega arith) in
+      let here : 0 + i ≡ i = omega arith in
+      let first : getD u i nan ≡ getD v (17 * n + i) nan = rw here at (copied .made i m) in
       let second : getD v (17 * n + i) nan ≡ getD y (17 * n + i) nan =
           rw at17 at (put-beyond (14 * n) (length f) (2 * n + i) y f (omega arith) refl) in
       let third : getD y (17 * n + i) nan ≡ getD (p .y0) i nan =
@@ -245,7 +198,7 @@ module _ (p : Problem) (b : Buffers) (begins : Begins p b) (r : ReplyCall) (time
   long-weights = length-part (13 * n) n w (omega (arith, long-work))
 
   abbrev a : Reply
-  a = answered (startOf p b) r .reply
+  a = replied (startOf p b) r .reply
 
   exactly-so : (y : Refusal) → Answers y a → IsFirst (firstRows p b f) y → FirstExactly p b r
   exactly-so y like is =
@@ -257,34 +210,59 @@ module _ (p : Problem) (b : Buffers) (begins : Begins p b) (r : ReplyCall) (time
       (numbered (firstRows p b f) (each-weight (λ q. 1 ≤ q .number) p rest refl (λ q low small. low) n 0))
       (after-weights p n rest refl n 0 0 (omega arith) (omega arith)) is)
 
-  -- the step, where no weight is refused
-  sized-so : (t : Bool) → refused h (signumOf (p .xend ⊖ p .x0)) ≡ t
-      → ((i : ℕ) → i < n → Ieee.le (getD (ewt n w) i nan) zeroF ≡ false)
-      → a ≡ saidAt n (sized g t h st) (r .question) .reply → FirstExactly p b r
-  unfolding sized
-  sized-so true e all is =
-      exactly-so (sizeRow p b f .refusal) (inl (lit≤ tt, lit≤ tt, is))
-      (no-weight p (ewt n w) weights-are (sizeRow p b f ∷ []) _
-      (inl (step-decides h (p .xend ⊖ p .x0) .0 e, refl)) all n 0 (omega arith))
-  sized-so false e all is =
-      exactly-so none (inr (refl, ap (λ (y : Reply). y .number) is))
-      (no-weight p (ewt n w) weights-are (sizeRow p b f ∷ []) _
-      (inr (step-decides h (p .xend ⊖ p .x0) .1 e, refl)) all n 0 (omega arith))
+  -- ---- what the start left is a session that waits for its first derivative
 
-  weighted-so : (t : Bool) → invertOf (ewt n w) .refused ≡ t → FirstExactly p b r
-  unfolding started weighted settingsOf
-  weighted-so true e =
-      let s = stopped (ewt n w) e in
-      let is = ap (λ (z : Said). z .reply) said in
-      exactly-so (record { number = 12; index = invertOf (ewt n w) .index; value = zeroF })
-      (inl (lit≤ tt, lit≤ tt, (rw e at is)))
-      (first-weight p (ewt n w) weights-are (sizeRow p b f ∷ []) (invertOf (ewt n w) .index) (s .refused)
-      (s .done .passed) n 0 (omega arith) (omega (arith, s .within, long-weights)) (omega arith))
-  weighted-so false e =
-      let s = inverted (ewt n w) e in
-      let is = ap (λ (z : Said). z .reply) said in
-      sized-so (refused h (signumOf (p .xend ⊖ p .x0))) refl
-      (λ i m. s .passed i (omega (arith, long-weights, m))) (rw e at is)
+  abbrev lent : Buffers
+  lent = lentFor (startOf p b) r
+
+  abbrev at : At g (fromOf p) (begun-run p b begins) (treeOf p b) (startedAt g (fromOf p)) (startOf p b)
+  at = begun-at p b begins
+
+  taken : NoneHolds (replyRows (r .kind) f lent)
+  unfolding start kindOf settingsOf
+  taken =
+      let run = begun-run p b begins in
+      let t = treeOf p b in
+      let l = startedAt g (fromOf p) in
+      let asked : isAwaited n t r ≡ true = rw (kind, eq-eqb (length f) n long) in
+      let fits : isFitting g (fromOf p) run t r ≡ true = rw (room, asked) in
+      let o = call g (fromOf p) run t l (startOf p b) r time at in
+      reply-refused (r .kind) f (r .time) lent .taken .0
+      (is-refusal g (fromOf p) run t l (startOf p b) r o ∙ ap not fits)
+
+  waits : phaseIn lent ≡ Phase.FirstDerivative
+  waits = sym (stored-phase (lent .session)) ∙ ap (λ (y : Session). y .phase) (at .keeps .decoded)
+
+  same-weights : storedWeights f lent ≡ ewt n w
+  unfolding settingsOf
+  same-weights = rw (at .keeps .decoded, at .keeps .rtol, at .keeps .atol, at .work)
+
+  same-step : storedStep f lent ≡ h
+  unfolding settingsOf
+  same-step = rw (at .keeps .decoded, at .keeps .rtol, at .keeps .atol, at .work)
+
+  same-refused : isRefused f lent ≡ refused h (signumOf (p .xend ⊖ p .x0))
+  unfolding settingsOf
+  same-refused = rw (same-step, at .keeps .decoded)
+
+  good : AllGood (storedWeights f lent) → (i : ℕ) → i < n → Ieee.le (getD (ewt n w) i nan) zeroF ≡ false
+  good all i m = (rw same-weights at all) i (omega (arith, long-weights, m))
+
+  by : Says (r .kind) f (r .time) lent → FirstExactly p b r
+  by (weighty i bad q) =
+      let first : FirstBad (ewt n w) i = rw same-weights at bad in
+      exactly-so (record { number = 12; index = i; value = zeroF }) (inl (lit≤ tt, lit≤ tt, q))
+      (first-weight p (ewt n w) weights-are (sizeRow p b f ∷ []) i (first .here .1) (first .before) n 0
+      (omega arith) (omega (arith, first .here .0, long-weights)) (omega arith))
+  by (stepped all e q) =
+      exactly-so (sizeRow p b f .refusal)
+      (inl (lit≤ tt, lit≤ tt, q ∙ ap (λ (v : Float). plainOf 11 0 v zeroF) same-step))
+      (no-weight p (ewt n w) weights-are (sizeRow p b f ∷ []) _
+      (inl (step-decides h (p .xend ⊖ p .x0) .0 (sym same-refused ∙ e), refl)) (good all) n 0 (omega arith))
+  by (reported all e q) =
+      exactly-so none (inr (refl, q))
+      (no-weight p (ewt n w) weights-are (sizeRow p b f ∷ []) _
+      (inr (step-decides h (p .xend ⊖ p .x0) .1 (sym same-refused ∙ e), refl)) (good all) n 0 (omega arith))
 
   pub first-exactly : FirstExactly p b r
-  first-exactly = weighted-so (invertOf (ewt n w) .refused) refl
+  first-exactly = by (says (r .kind) f (r .time) lent taken waits)

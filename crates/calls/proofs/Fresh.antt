@@ -11,30 +11,26 @@ use native.Mathlib.Omega.{arith}
 use native.Mathlib.Nat.{zero-add}
 use lib.Dec.{eqb, lit≤}
 use lib.Ieee.{Float}
-use lib.ListN.{length, getD, set, replicate, length-set}
+use lib.ListN.{length, getD, set, length-set}
 use lib.Seq.{getD-set-same, getD-set-other, ext-getD}
-use borrow.Author.Tests.{eqb-true, eqb-false, eq-eqb}
+use borrow.Author.Tests.{eqb-true, eqb-false}
 use Rattle.loops.specs.For.{times}
-use Rattle.loops.specs.Part.{putPart}
-use Rattle.numbers.specs.Float.{zeroF}
-use Rattle.common.specs.declared.Settings.{Settings}
-use Rattle.common.specs.declared.Common.{Common}
-use Rattle.turns.specs.declared.Phase.the-variants as Phase
 use Rattle.turns.specs.declared.Session.{Session}
-use Rattle.reports.specs.Reports.{initialOf}
+use Rattle.turns.specs.Turns.{Left}
 use Rattle.words.specs.Words.{putWord, putCountAt, putCountsOf, slotOf, putFloatAt, putFloatsOf}
 use Rattle.fields.specs.Fields.{countsOf, floatsOf}
 use Rattle.session.specs.Session.{encodeOf, putTolerancesOf}
 use Rattle.session.proofs.Back.{length-encode, length-put-tolerances}
-use Rattle.refusals.specs.Start.{settingsOf, firstStepOf, smallestOf, inverseLargestOf}
-use Rattle.answers.specs.Answers.{plainOf}
+use Rattle.refusals.specs.Start.{settingsOf}
+use Rattle.common.specs.State.{Given}
+use Rattle.follows.specs.Seen.{sessionOf}
+use Rattle.follows.specs.Stands.{startedAt}
 use Rattle.answers.specs.Called.{Buffers, Called}
-use Rattle.starts.specs.Starts.{keptOf, beganOf}
-use Rattle.raimsklo.specs.Calls.{Problem, lengthsOf, startAt, startOf}
+use Rattle.raimsklo.specs.Calls.{Problem}
 use Rattle.calls.specs.WellFormed.{WellFormed}
+use Rattle.calls.specs.Follow.{givenOf, fromOf}
 use Rattle.calls.specs.Start.{StartsFresh}
-use Rattle.calls.proofs.WellFormed.{refusalOf, some-start, start-number-is, well-formed}
-use Rattle.calls.proofs.Start.{clear-all}
+use Rattle.calls.proofs.Start.{begunBytes, begun-is}
 
 -- ---- bytes that agree below k, of at least m each
 
@@ -91,18 +87,10 @@ module _ (m : ℕ) where
 
 -- ---- the session
 
-kept-long : (s : Settings) (c : Common) (rtol atol : List Float) (b : List ℕ)
-    → length (keptOf s c rtol atol b) ≡ length b
-unfolding keptOf
-kept-long s c rtol atol b =
-    let x : Session = record { settings = s; common = c; phase = Phase.FirstDerivative } in
-    length-put-tolerances rtol atol (encodeOf x b) ∙ length-encode x b
-
-kept-fresh : (s : Settings) (c : Common) (rtol atol : List Float) (a b : List ℕ) → length a ≡ 1448 → length b ≡ 1448
-    → keptOf s c rtol atol a ≡ keptOf s c rtol atol b
-unfolding keptOf putTolerancesOf encodeOf putCountsOf putFloatsOf
-kept-fresh s c rtol atol a b p q =
-    let x : Session = record { settings = s; common = c; phase = Phase.FirstDerivative } in
+kept-fresh : (x : Session) (rtol atol : List Float) (a b : List ℕ) → length a ≡ 1448 → length b ≡ 1448
+    → putTolerancesOf rtol atol (encodeOf x a) ≡ putTolerancesOf rtol atol (encodeOf x b)
+unfolding putTolerancesOf encodeOf putCountsOf putFloatsOf
+kept-fresh x rtol atol a b p q =
     let none : Agree 1448 (8 * (0 + 0)) a b =
     record { room = omega arith; long = p ∙ sym q; same = λ i l. absurd (omega arith) } in
     let u = countsOf x in
@@ -111,60 +99,38 @@ kept-fresh s c rtol atol a b p q =
     let floats = agree-row 1448 34 (slotOf f) (putFloatAt 34 f) (λ i b. refl) 19 0 (lit≤ tt) counts in
     let rtols = agree-row 1448 53 (slotOf rtol) (putFloatAt 53 rtol) (λ i b. refl) 64 0 (lit≤ tt) floats in
     let all = agree-row 1448 117 (slotOf atol) (putFloatAt 117 atol) (λ i b. refl) 64 0 (lit≤ tt) rtols in
-    ext-getD 0 (keptOf s c rtol atol a) (keptOf s c rtol atol b) (all .long)
-    (λ i l. all .same i (omega (arith, kept-long s c rtol atol a, l)))
+    let long = length-put-tolerances rtol atol (encodeOf x a) ∙ length-encode x a in
+    ext-getD 0 (putTolerancesOf rtol atol (encodeOf x a)) (putTolerancesOf rtol atol (encodeOf x b)) (all .long)
+    (λ i l. all .same i (omega (arith, long, l)))
 
 -- ---- the call
 
-module _ (p : Problem) where
-  abbrev n : ℕ
-  n = length (p .y0)
+module _ (p : Problem) (b c : Buffers) (v : WellFormed p b) (w : WellFormed p c) where
+  -- what the start makes of its arguments, whatever is lent
+  abbrev left : Given → Left
+  left g = startedAt g (fromOf p)
 
-  module _ (b : Buffers) (w : WellFormed p b) where
-    not-refused : refusalOf p b .number ≡ 0
-    not-refused = start-number-is p b .0 (well-formed p b .0 w) .1
-
-    began : startOf p b ≡ beganOf (settingsOf (p .x0) (p .xend) (p .options) (lengthsOf p b)) (p .x0)
-        (firstStepOf (p .options)) (smallestOf (p .options)) (inverseLargestOf (p .x0) (p .xend) (p .options))
-        (p .y0) (p .rtol) (p .atol) b
-    unfolding startAt
-    began = some-start p b (w .states .0) ∙ rw (eq-eqb (refusalOf p b .number) 0 not-refused)
-
-    work-is : startOf p b .lent .work ≡ putPart (17 * n) n (replicate (n * n + 19 * n) zeroF) (p .y0)
-    unfolding beganOf settingsOf
-    work-is = ap (λ (x : Called). x .lent .work) began ∙ rw (w .work)
-
-    pivots-are : startOf p b .lent .pivots ≡ replicate n 0
-    unfolding beganOf
-    pivots-are = ap (λ (x : Called). x .lent .pivots) began ∙ rw (clear-all (b .pivots), w .pivots)
-
-    reply-is : startOf p b .reply ≡ plainOf 100 0 zeroF (p .x0)
-    unfolding beganOf
-    reply-is = ap (λ (x : Called). x .reply) began
-
-    question-is : startOf p b .lent .question ≡ putPart 0 n (b .question) (p .y0)
-    unfolding beganOf
-    question-is = ap (λ (x : Called). x .lent .question) began
-
-    session-is : startOf p b .lent .session
-        ≡ let s = settingsOf (p .x0) (p .xend) (p .options) (lengthsOf p b) in
-        keptOf s
-        (initialOf s (p .x0) (firstStepOf (p .options)) (smallestOf (p .options))
-        (inverseLargestOf (p .x0) (p .xend) (p .options))) (p .rtol) (p .atol) (b .session)
-    unfolding beganOf
-    session-is = ap (λ (x : Called). x .lent .session) began
-
-  same-settings : (b c : Buffers) → settingsOf (p .x0) (p .xend) (p .options) (lengthsOf p b)
-      ≡ settingsOf (p .x0) (p .xend) (p .options) (lengthsOf p c)
+  same-left : left (givenOf p b) ≡ left (givenOf p c)
   unfolding settingsOf
-  same-settings b c = refl
+  same-left = refl
 
-  pub starts-fresh : (b c : Buffers) → WellFormed p b → WellFormed p c → StartsFresh p b c
-  starts-fresh b c v w = record {
-    reply = reply-is b v ∙ sym (reply-is c w);
-    work = work-is b v ∙ sym (work-is c w);
-    pivots = pivots-are b v ∙ sym (pivots-are c w);
-    session = session-is b v ∙ kept-fresh _ _ (p .rtol) (p .atol) (b .session) (c .session) (v .session) (w .session)
-        ∙ rw (same-settings b c) (sym (session-is c w));
-    question = question-is b v;
-  }
+  same-bytes : begunBytes p b ≡ begunBytes p c
+  unfolding settingsOf
+  same-bytes =
+      kept-fresh (sessionOf (givenOf p b) (left (givenOf p b))) (p .rtol) (p .atol) (b .session) (c .session)
+      (v .session) (w .session)
+
+  pub starts-fresh : StartsFresh p b c
+  starts-fresh =
+      let is = begun-is p b v in
+      let is' = begun-is p c w in
+      record {
+        reply = ap (λ (x : Called). x .reply) is ∙ sym (ap (λ (x : Called). x .reply) is');
+        work = ap (λ (x : Called). x .lent .work) is ∙ ap (λ (l : Left). l .work) same-left
+            ∙ sym (ap (λ (x : Called). x .lent .work) is');
+        pivots = ap (λ (x : Called). x .lent .pivots) is ∙ ap (λ (l : Left). l .ipiv) same-left
+            ∙ sym (ap (λ (x : Called). x .lent .pivots) is');
+        session = ap (λ (x : Called). x .lent .session) is ∙ same-bytes
+            ∙ sym (ap (λ (x : Called). x .lent .session) is');
+        question = ap (λ (x : Called). x .lent .question) is;
+      }

@@ -3,7 +3,7 @@
 --     allowed         each reply is asked for, and `continues` comes at a report
 --     Host, hosts     where the calls stand, and after a list of acts
 -- Assumes nothing.
-use mathlib.Core.Bool.{Bool, true, false, _&&_, true≢false}
+use mathlib.Core.Bool.{Bool, true, false, _&&_}
 use mathlib.Core.List.{List, [], _∷_, _++_}
 use mathlib.Core.Path.{_≡_, refl, sym, ap, _∙_}
 use Prim.Native.Nat.{ℕ, _+_, _*_, _≤_}
@@ -11,7 +11,7 @@ use native.Mathlib.Omega.{arith}
 use lib.Ieee.{Float}
 use lib.ListN.{length, take, drop, length-append}
 use lib.Seq.{take-at, length-take-le}
-use Rattle.loops.specs.Test.{both}
+use Rattle.loops.specs.Test.{differs, both}
 use Rattle.loops.specs.Part.{part, putPart, length-part}
 use Rattle.numbers.specs.Float.{zeroF}
 use Rattle.common.specs.declared.Common.{Common}
@@ -21,12 +21,13 @@ use Rattle.turns.specs.declared.Phase.{Phase}
 use Rattle.turns.specs.declared.Question.{Question}
 use Rattle.turns.specs.declared.Question.the-variants as Question
 use Rattle.turns.specs.Turns.{Left}
-use Rattle.common.specs.State.{Given}
 use Rattle.rules.specs.Play.{Play}
+use Rattle.common.specs.State.{Given}
 use Rattle.rules.specs.Rules.{Start}
 use Rattle.follows.specs.Seen.{Shown, snapshotOf, shownAs, isTaken, next, step}
 use Rattle.follows.specs.Stands.{derivative, answer}
 use Rattle.follows.specs.Follows.{stateAt}
+use Rattle.sqrt.specs.Rounded.{fits}
 use Rattle.answers.specs.declared.Reply.{Reply}
 use Rattle.answers.specs.Answers.{answerOf}
 use Rattle.answers.specs.Called.{Called}
@@ -34,13 +35,12 @@ use Rattle.replies.specs.Replies.{isKind, kindOf}
 use Rattle.invariants.specs.Host.{IsF64}
 use Rattle.invariants.proofs.Floats.{literal}
 use Rattle.invariants.proofs.Host.{fits-is-f64}
-use Rattle.calls.specs.Run.{ReplyCall, answered}
+use Rattle.calls.specs.Run.{ReplyCall, replied}
 use Rattle.calls.specs.Follow.{Said, saidBy, saidOf, saidAt, fedAs, isSized}
 use Rattle.calls.specs.Sums.{Act, gives, continues, replyWith, actedBy, hostedBy}
-use Rattle.calls.proofs.Turns.{Agrees}
-use Rattle.calls.proofs.Said.{fits}
+use Rattle.calls.proofs.Agrees.{Agrees}
 use Rattle.calls.proofs.Keeps.{Runs}
-use Rattle.calls.proofs.Walk.{At, Outcome, unsized, refused, taken, call}
+use Rattle.calls.proofs.Walk.{At, Outcome, refused, taken, call}
 
 -- ---- the acts
 
@@ -88,23 +88,23 @@ module _ (n order : ℕ) (c : Common) (work q : List Float) (room : 19 * n ≤ l
   reads-state (Question.Report r) phase h =
       let s = snapshotOf n (r .order) c work in
       put-first n (length s) q (y n work) s (length-part (17 * n) n work (omega arith))
-  reads-state (Question.Derivative a) phase h = absurd (true≢false (sym h))
-  reads-state (Question.Jacobian a) phase h = absurd (true≢false (sym h))
-  reads-state (Question.Finished e) phase h = absurd (true≢false (sym h))
-  reads-state (Question.StepRefused v) phase h = absurd (true≢false (sym h))
-  reads-state (Question.WeightRefused i) phase h = absurd (true≢false (sym h))
-  reads-state Question.Unasked phase h = absurd (true≢false (sym h))
+  reads-state (Question.Derivative a) phase h = differs h
+  reads-state (Question.Jacobian a) phase h = differs h
+  reads-state (Question.Finished e) phase h = differs h
+  reads-state (Question.StepRefused v) phase h = differs h
+  reads-state (Question.WeightRefused i) phase h = differs h
+  reads-state Question.Unasked phase h = differs h
 
 reads-time : (v : Question) (phase : Phase) (c : Common) → isReported v ≡ true → Agrees v phase c
     → answerOf v .time ≡ c .tn
 reads-time (Question.FirstReport a) phase c h g = g .1
 reads-time (Question.Report r) phase c h g = g .2
-reads-time (Question.Derivative a) phase c h g = absurd (true≢false (sym h))
-reads-time (Question.Jacobian a) phase c h g = absurd (true≢false (sym h))
-reads-time (Question.Finished e) phase c h g = absurd (true≢false (sym h))
-reads-time (Question.StepRefused v) phase c h g = absurd (true≢false (sym h))
-reads-time (Question.WeightRefused i) phase c h g = absurd (true≢false (sym h))
-reads-time Question.Unasked phase c h g = absurd (true≢false (sym h))
+reads-time (Question.Derivative a) phase c h g = differs h
+reads-time (Question.Jacobian a) phase c h g = differs h
+reads-time (Question.Finished e) phase c h g = differs h
+reads-time (Question.StepRefused v) phase c h g = differs h
+reads-time (Question.WeightRefused i) phase c h g = differs h
+reads-time Question.Unasked phase c h g = differs h
 
 -- ---- along the acts
 
@@ -132,22 +132,22 @@ module _ (g : Given) (a : Start) (run : Runs g a) (one : g .s .n ≡ 1) where
 
   goes-by : (l : Left) (x : Called) (r : ReplyCall) (h : Host l x) → isSized (g .s .n) r ≡ true
       → isKind (r .kind) ≡ true → isTaken g l (fedAs r) ≡ true → Outcome g a run (h .node) l x r
-      → Host (next g l (fedAs r)) (answered x r)
-  goes-by l x r h s k t (unsized e q) = absurd (true≢false (sym s ∙ e))
-  goes-by l x r h s k t (refused e f q) =
+      → Host (next g l (fedAs r)) (replied x r)
+  goes-by l x r h s k t (refused e q) =
       let i = fits g (h .node) l (h .at .stands) .holds .takes (fedAs r) in
-      absurd (true≢false (sym (rw k (sym i ∙ t)) ∙ f))
-  goes-by l x r h s k t (taken e f on q w m) = record {
+      let asked = sym i ∙ t in
+      differs (sym e ∙ rw (s, k, asked))
+  goes-by l x r h s k t (taken e w) = record {
     node = step (h .node) (fedAs r);
-    at = on;
+    at = w .at;
     question = r .question;
-    said = m;
-    answer = q;
+    said = w .said;
+    answer = w .answer;
     agrees = w .agrees;
   }
 
   goes : (l : Left) (x : Called) (r : ReplyCall) → IsF64 (r .time) → Host l x → isSized (g .s .n) r ≡ true
-      → isKind (r .kind) ≡ true → isTaken g l (fedAs r) ≡ true → Host (next g l (fedAs r)) (answered x r)
+      → isKind (r .kind) ≡ true → isTaken g l (fedAs r) ≡ true → Host (next g l (fedAs r)) (replied x r)
   goes l x r f h s k t = goes-by l x r h s k t (call g a run (h .node) l x r f (h .at))
 
   acts : (l : Left) (x : Called) (v : Act) (q : List Float) → length q ≡ 20 → Host l x → isFine g l v ≡ true

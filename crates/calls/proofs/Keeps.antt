@@ -5,19 +5,19 @@
 --     counts-fit-of   the bytes can keep the counts of any session of a run
 --     keeps-next      what a reply leaves keeps where it leads
 -- Assumes nothing.
-use mathlib.Core.Bool.{true, false, true≢false}
+use mathlib.Core.Bool.{true, false}
 use mathlib.Core.List.{List}
-use mathlib.Core.Logic.{_⊎_, inl, inr, ⊎-elim}
-use mathlib.Core.Path.{_≡_, refl, _∙_}
+use mathlib.Core.Logic.{_⊎_, inl, inr, ⊎-elim, ⊎-map}
+use mathlib.Core.Path.{_≡_, refl, sym, ap, _∙_}
 use Prim.Native.Nat.{ℕ, _+_, _-_, _^_, _≤_, _<_}
 use native.Mathlib.Omega.{arith}
 use lib.Dec.{lit<}
 use lib.Ieee.{Float}
 use lib.ListN.{length, getD}
 use Rattle.loops.specs.Part.{part}
+use Rattle.loops.specs.Test.{differs}
 use Rattle.turns.specs.declared.Phase.{Phase}
 use Rattle.turns.specs.declared.Phase.the-variants as Phase
-use Rattle.turns.specs.declared.Session.{Session}
 use Rattle.between_steps.specs.Ranges.{Counts, Lent}
 use Rattle.turns.specs.Requires.{Resumes, UnlessFinished}
 use Rattle.turns.specs.Turns.{Left}
@@ -36,36 +36,30 @@ use Rattle.between_steps.proofs.Within.{coreOf}
 use Rattle.invariants.proofs.Ranges.{Closing}
 use Rattle.invariants.proofs.Fits.{floats-kept}
 use Rattle.calls.specs.Follow.{slotsOf}
+use Rattle.calls.proofs.Agrees.{isOver}
 use Rattle.calls.proofs.Low.{Low}
-use Rattle.calls.proofs.Turns.{isOver}
 
 -- ---- phases
 
+going-or-over : (X : Type 0) (phase : Phase)
+    → ((isOver phase ≡ false) × (UnlessFinished phase X → X)) ⊎ (phase ≡ Phase.Finished)
+going-or-over X Phase.FirstDerivative = inl (refl, λ x. x)
+going-or-over X Phase.FirstReport = inl (refl, λ x. x)
+going-or-over X Phase.FirstModified = inl (refl, λ x. x)
+going-or-over X Phase.Opened = inl (refl, λ x. x)
+going-or-over X Phase.JacobianAsked = inl (refl, λ x. x)
+going-or-over X Phase.DifferenceColumn = inl (refl, λ x. x)
+going-or-over X Phase.FurtherDerivative = inl (refl, λ x. x)
+going-or-over X Phase.Restep = inl (refl, λ x. x)
+going-or-over X Phase.Report = inl (refl, λ x. x)
+going-or-over X Phase.Modified = inl (refl, λ x. x)
+going-or-over X Phase.Finished = inr refl
+
 pub over-or-not : (phase : Phase) → (isOver phase ≡ false) ⊎ (phase ≡ Phase.Finished)
-over-or-not Phase.FirstDerivative = inl refl
-over-or-not Phase.FirstReport = inl refl
-over-or-not Phase.FirstModified = inl refl
-over-or-not Phase.Opened = inl refl
-over-or-not Phase.JacobianAsked = inl refl
-over-or-not Phase.DifferenceColumn = inl refl
-over-or-not Phase.FurtherDerivative = inl refl
-over-or-not Phase.Restep = inl refl
-over-or-not Phase.Report = inl refl
-over-or-not Phase.Modified = inl refl
-over-or-not Phase.Finished = inr refl
+over-or-not phase = ⊎-map (λ p. p .0) (λ e. e) (going-or-over (Unit {0}) phase)
 
 pub unless : {X : Type 0} (phase : Phase) → isOver phase ≡ false → UnlessFinished phase X → X
-unless Phase.FirstDerivative e x = x
-unless Phase.FirstReport e x = x
-unless Phase.FirstModified e x = x
-unless Phase.Opened e x = x
-unless Phase.JacobianAsked e x = x
-unless Phase.DifferenceColumn e x = x
-unless Phase.FurtherDerivative e x = x
-unless Phase.Restep e x = x
-unless Phase.Report e x = x
-unless Phase.Modified e x = x
-unless Phase.Finished e x = absurd (true≢false e)
+unless {X} phase e x = ⊎-elim (λ p. p .1 x) (λ q. differs (sym e ∙ ap isOver q)) (going-or-over X phase)
 
 -- ---- what is kept
 

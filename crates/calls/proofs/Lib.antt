@@ -1,4 +1,6 @@
+pub mod Agrees
 pub mod Low
+pub mod ReplyGap
 pub mod Turns
 pub mod Said
 pub mod Phases
@@ -12,15 +14,13 @@ pub mod Walk
 pub mod Follow
 pub mod Refused
 pub mod Exactly
-pub mod First
 pub mod Spoken
 pub mod Ends
 pub mod Capped
 pub mod Host
 pub mod Sums
 pub mod ReplyRefused
-pub mod ReplyGap
-pub mod ReplyTurns
 pub mod ReplyMeans
 pub mod ReplyFirst
+pub mod First
 pub mod Fakes

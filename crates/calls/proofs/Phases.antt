@@ -2,10 +2,9 @@
 --     phase-node
 -- Assumes nothing.
 use mathlib.Core.Bool.{cond}
-use mathlib.Core.List.{List, []}
-use mathlib.Core.Path.{_≡_, refl, sym, ap, _∙_}
+use mathlib.Core.List.{List}
+use mathlib.Core.Path.{_≡_, refl, subst}
 use Prim.Native.Nat.{ℕ}
-use native.Mathlib.Omega.{arith}
 use lib.Ieee.{Float}
 use Rattle.common.specs.declared.Common.{Common}
 use Rattle.turns.specs.declared.Phase.{Phase}
@@ -13,49 +12,14 @@ use Rattle.turns.specs.declared.Phase.the-variants as Phase
 use Rattle.turns.specs.declared.Question.{Question}
 use Rattle.turns.specs.declared.Question.the-variants as Question
 use Rattle.turns.specs.Turns.{Left}
+use Rattle.rules.specs.Play.{derivativeAt, jacobianAt}
 use Rattle.common.specs.State.{Given}
-use Rattle.rules.specs.Play.{Report, derivativeAt, jacobianAt}
 use Rattle.rules.specs.Play.{finished, stepRefused, weightRefused, exhausted, Play, ret, ask, tell, say}
 use Rattle.follows.specs.Seen.{Shown, wantsDerivative, wantsJacobian, reports, ends, refusesStep, refusesWeight}
 use Rattle.follows.specs.Seen.{refuses, stuck, wantedAt, shownAs}
 use Rattle.follows.specs.Stands.{Stands}
 use Rattle.calls.specs.Follow.{isStep, TakesDerivative, PhaseAt}
-use Rattle.calls.proofs.Turns.{WantsDerivative, Agrees}
-use Rattle.calls.proofs.Said.{fits}
-
--- ---- what is shown
-
-abbrev tagOf : Shown → ℕ
-tagOf (wantsDerivative t v) = 0
-tagOf (wantsJacobian t v) = 1
-tagOf (reports r) = 2
-tagOf (ends e) = 3
-tagOf (refusesStep h) = 3
-tagOf (refusesWeight i) = 3
-tagOf refuses = 4
-tagOf stuck = 5
-
--- the state of a derivative wanted
-abbrev stateOf : Shown → List Float
-stateOf (wantsDerivative t v) = v
-stateOf (wantsJacobian t v) = []
-stateOf (reports r) = []
-stateOf (ends e) = []
-stateOf (refusesStep h) = []
-stateOf (refusesWeight i) = []
-stateOf refuses = []
-stateOf stuck = []
-
--- the snapshot of a report
-abbrev shotOf : Shown → List Float
-shotOf (wantsDerivative t v) = []
-shotOf (wantsJacobian t v) = []
-shotOf (reports r) = r .snapshot
-shotOf (ends e) = []
-shotOf (refusesStep h) = []
-shotOf (refusesWeight i) = []
-shotOf refuses = []
-shotOf stuck = []
+use Rattle.calls.proofs.Agrees.{WantsDerivative, Agrees}
 
 takes-derivative : (phase : Phase) → WantsDerivative phase → TakesDerivative phase
 takes-derivative Phase.FirstDerivative h = λ len n. refl
@@ -70,81 +34,45 @@ takes-derivative Phase.Report h = absurd h
 takes-derivative Phase.Modified h = λ len n. refl
 takes-derivative Phase.Finished h = absurd h
 
--- ---- the phase of each
+-- the phase of what is shown, w being the work
+abbrev ShownIn : ℕ → Phase → List Float → Shown → Type 0
+ShownIn n phase w (wantsDerivative t v) = TakesDerivative phase × (v ≡ wantedAt n phase w)
+ShownIn n phase w (wantsJacobian t v) = phase ≡ Phase.JacobianAsked
+ShownIn n phase w (reports r) = phase ≡ cond (isStep (r .snapshot)) Phase.Report Phase.FirstReport
+ShownIn n phase w (ends e) = phase ≡ Phase.Finished
+ShownIn n phase w (refusesStep h) = phase ≡ Phase.Finished
+ShownIn n phase w (refusesWeight i) = phase ≡ Phase.Finished
+ShownIn n phase w refuses = ⊥
+ShownIn n phase w stuck = ⊥
 
-module _ (n : ℕ) (phase : Phase) (c : Common) (w : List Float) where
-  abbrev shown : Question → Shown
-  shown v = shownAs n v phase c w
-
-  derivative-phase : (t : Float) (u : List Float) (v : Question) → Agrees v phase c → shown v ≡ wantsDerivative t u
-      → TakesDerivative phase × (u ≡ wantedAt n phase w)
-  unfolding shownAs
-  derivative-phase t u (Question.Derivative a) g e = (takes-derivative phase g, ap stateOf (sym e))
-  derivative-phase t u (Question.Jacobian a) g e = let z = ap tagOf e in absurd (omega arith)
-  derivative-phase t u (Question.FirstReport a) g e = let z = ap tagOf e in absurd (omega arith)
-  derivative-phase t u (Question.Report r) g e = let z = ap tagOf e in absurd (omega arith)
-  derivative-phase t u (Question.Finished x) g e = let z = ap tagOf e in absurd (omega arith)
-  derivative-phase t u (Question.StepRefused h) g e = let z = ap tagOf e in absurd (omega arith)
-  derivative-phase t u (Question.WeightRefused i) g e = let z = ap tagOf e in absurd (omega arith)
-  derivative-phase t u Question.Unasked g e = absurd g
-
-  jacobian-phase : (t : Float) (u : List Float) (v : Question) → Agrees v phase c → shown v ≡ wantsJacobian t u
-      → phase ≡ Phase.JacobianAsked
-  unfolding shownAs
-  jacobian-phase t u (Question.Derivative a) g e = let z = ap tagOf e in absurd (omega arith)
-  jacobian-phase t u (Question.Jacobian a) g e = g
-  jacobian-phase t u (Question.FirstReport a) g e = let z = ap tagOf e in absurd (omega arith)
-  jacobian-phase t u (Question.Report r) g e = let z = ap tagOf e in absurd (omega arith)
-  jacobian-phase t u (Question.Finished x) g e = let z = ap tagOf e in absurd (omega arith)
-  jacobian-phase t u (Question.StepRefused h) g e = let z = ap tagOf e in absurd (omega arith)
-  jacobian-phase t u (Question.WeightRefused i) g e = let z = ap tagOf e in absurd (omega arith)
-  jacobian-phase t u Question.Unasked g e = absurd g
-
-  abbrev reported : List Float → Phase
-  reported shot = cond (isStep shot) Phase.Report Phase.FirstReport
-
-  report-phase : (p : Report) (v : Question) → Agrees v phase c → shown v ≡ reports p
-      → phase ≡ reported (p .snapshot)
-  unfolding shownAs
-  report-phase p (Question.Derivative a) g e = let z = ap tagOf e in absurd (omega arith)
-  report-phase p (Question.Jacobian a) g e = let z = ap tagOf e in absurd (omega arith)
-  report-phase p (Question.FirstReport a) g e = g .0 ∙ ap (λ (x : Shown). reported (shotOf x)) e
-  report-phase p (Question.Report r) g e = g .0 ∙ ap (λ (x : Shown). reported (shotOf x)) e
-  report-phase p (Question.Finished x) g e = let z = ap tagOf e in absurd (omega arith)
-  report-phase p (Question.StepRefused h) g e = let z = ap tagOf e in absurd (omega arith)
-  report-phase p (Question.WeightRefused i) g e = let z = ap tagOf e in absurd (omega arith)
-  report-phase p Question.Unasked g e = absurd g
-
-  end-phase : (v : Question) → Agrees v phase c → tagOf (shown v) ≡ 3 → phase ≡ Phase.Finished
-  unfolding shownAs
-  end-phase (Question.Derivative a) g e = absurd (omega arith)
-  end-phase (Question.Jacobian a) g e = absurd (omega arith)
-  end-phase (Question.FirstReport a) g e = absurd (omega arith)
-  end-phase (Question.Report r) g e = absurd (omega arith)
-  end-phase (Question.Finished x) g e = g
-  end-phase (Question.StepRefused h) g e = g
-  end-phase (Question.WeightRefused i) g e = g
-  end-phase Question.Unasked g e = absurd g
-
--- ---- at a node
+shown-in : (n : ℕ) (phase : Phase) (c : Common) (w : List Float) (v : Question) → Agrees v phase c
+    → ShownIn n phase w (shownAs n v phase c w)
+unfolding shownAs
+shown-in n phase c w (Question.Derivative a) g = (takes-derivative phase g, refl)
+shown-in n phase c w (Question.Jacobian a) g = g
+shown-in n phase c w (Question.FirstReport a) g = g .0
+shown-in n phase c w (Question.Report r) g = g .0
+shown-in n phase c w (Question.Finished e) g = g
+shown-in n phase c w (Question.StepRefused h) g = g
+shown-in n phase c w (Question.WeightRefused i) g = g
+shown-in n phase c w Question.Unasked g = absurd g
 
 module _ (g : Given) (l : Left) (a : Agrees (l .turn .question) (l .turn .phase) (l .turn .common)) where
   abbrev n : ℕ
   n = g .s .n
 
+  shows : (v : Shown) → shownAs n (l .turn .question) (l .turn .phase) (l .turn .common) (l .work) ≡ v
+      → ShownIn n (l .turn .phase) (l .work) v
+  shows v e =
+      subst (ShownIn n (l .turn .phase) (l .work)) e
+      (shown-in n (l .turn .phase) (l .turn .common) (l .work) (l .turn .question) a)
+
   pub phase-node : (t : Play) → Stands g t l → PhaseAt n t (l .turn .phase)
-  phase-node (ret (finished status x)) s =
-      end-phase n (l .turn .phase) (l .turn .common) (l .work) (l .turn .question) a (ap tagOf (s .shows))
-  phase-node (ret (stepRefused h x)) s =
-      end-phase n (l .turn .phase) (l .turn .common) (l .work) (l .turn .question) a (ap tagOf (s .shows))
-  phase-node (ret (weightRefused i x)) s =
-      end-phase n (l .turn .phase) (l .turn .common) (l .work) (l .turn .question) a (ap tagOf (s .shows))
+  phase-node (ret (finished status x)) s = shows _ (s .shows)
+  phase-node (ret (stepRefused h x)) s = shows _ (s .shows)
+  phase-node (ret (weightRefused i x)) s = shows _ (s .shows)
   phase-node (ret (exhausted x)) s = absurd s
-  phase-node (ask (derivativeAt t v) x k) s =
-      rw (← s .0 .holds .work)
-      (derivative-phase n (l .turn .phase) (l .turn .common) (l .work) t v (l .turn .question) a (s .0 .shows))
-  phase-node (ask (jacobianAt t v) x k) s =
-      jacobian-phase n (l .turn .phase) (l .turn .common) (l .work) t v (l .turn .question) a (s .0 .shows)
-  phase-node (tell r x k) s =
-      report-phase n (l .turn .phase) (l .turn .common) (l .work) r (l .turn .question) a (s .0 .shows)
+  phase-node (ask (derivativeAt t v) x k) s = rw (← s .0 .holds .work) (shows _ (s .0 .shows))
+  phase-node (ask (jacobianAt t v) x k) s = shows _ (s .0 .shows)
+  phase-node (tell r x k) s = shows _ (s .0 .shows)
   phase-node (say e p) s = phase-node p s

@@ -1,38 +1,38 @@
 -- After the first derivative: 12, then 11, then the first report, each exactly under its condition.
 --     first-derivative
+--     Says, says     the same as one of three cases
 -- Assumes nothing.
 use mathlib.Core.Bool.{Bool, true, false, cond}
 use mathlib.Core.List.{List}
 use mathlib.Core.Path.{_≡_, refl, sym, ap, _∙_, subst}
-use Prim.Native.Nat.{ℕ, _+_, _≤_, _<_}
+use Prim.Native.Nat.{ℕ, _≤_}
 use native.Mathlib.Omega.{arith}
-use lib.Dec.{eqb, ltb}
-use lib.ListN.{length, getD, set}
-use lib.Seq.{getD-set-other}
+use lib.Dec.{ltb}
+use lib.ListN.{getD}
 use lib.Ieee as Ieee
 use lib.Ieee.{Float, nan}
-use borrow.Author.Count.{below-none, below-more}
 use borrow.Author.Tests.{eqb-false, ltb-true, ltb-false}
 use Rattle.loops.specs.Test.{differs}
-use Rattle.numbers.specs.Float.{_⊘_, zeroF, oneF}
+use Rattle.numbers.specs.Float.{zeroF}
 use Rattle.vectors.specs.declared.Weights.{Weights}
 use Rattle.vectors.specs.declared.Weights.the-variants.{Inverted, Refused}
-use Rattle.vectors.specs.Weights.{Inversion, invertOne, invertAt, invertOf, weightsOutcome}
-use Rattle.interpolation.proofs.Laws.{reaches}
+use Rattle.vectors.specs.Weights.{invertOf, weightsOutcome}
+use Rattle.vectors.proofs.Laws.{inverted as inverts, stopped}
 use Rattle.turns.specs.declared.Phase.the-variants as Phase
 use Rattle.turns.specs.declared.Session.{Session}
-use Rattle.between_steps.specs.Start.{inverted}
 use Rattle.reports.specs.Reports.{sizedAt, sizedOf, weightedAt, firstDerivativeOf}
-use Rattle.machine.specs.Resume.{With, takenOf}
+use Rattle.between_steps.specs.Start.{inverted}
+use Rattle.machine.specs.Resume.{takenOf}
 use Rattle.session.specs.Session.{decodeOf, rtolOf, atolOf}
 use Rattle.answers.specs.declared.Reply.{Reply}
 use Rattle.answers.specs.Answers.{plainOf, answerOf}
-use Rattle.answers.specs.Called.{Buffers, Called}
+use Rattle.answers.specs.Called.{Buffers}
 use Rattle.replies.specs.Replies.{kindOf}
 use Rattle.raimsklo.specs.Calls.{replyOf}
-use Rattle.refusals.specs.Rows.{Row, NoneHolds}
+use Rattle.refusals.specs.Rows.{NoneHolds}
 use Rattle.calls.specs.ReplyRefused.{phaseIn, replyRows}
-use Rattle.calls.specs.ReplyFirst.{FirstBad, AllGood, weighed, weightsOf, stepOf, isRefused, FirstDerivative}
+use Rattle.calls.specs.ReplyFirst.{FirstBad, AllGood, weighed, storedWeights, storedStep, isRefused}
+use Rattle.calls.specs.ReplyFirst.{FirstDerivative}
 use Rattle.calls.proofs.ReplyMeans.{answer-at}
 
 -- ---- the inversion stops at the first weight that is at most 0
@@ -41,50 +41,19 @@ module _ (l : List Float) where
   abbrev Good : ℕ → Type 0
   Good j = Ieee.le (getD l j nan) zeroF ≡ false
 
-  -- the weights below k were tried
-  abbrev TriedIf : ℕ → Bool → Inversion → Type 0
-  TriedIf k true s = (s .index < k) × (Ieee.le (getD l (s .index) nan) zeroF ≡ true) × ((j : ℕ) → j < s .index → Good j)
-  TriedIf k false s = ((j : ℕ) → j < k → Good j) × ((j : ℕ) → k ≤ j → getD (s .ewt) j nan ≡ getD l j nan)
-
-  abbrev Tried : ℕ → Inversion → Type 0
-  Tried k s = TriedIf k (s .refused) s
-
-  tried-one : (k : ℕ) (s : Inversion) (t : Bool) → Ieee.le (getD (s .ewt) k nan) zeroF ≡ t → TriedIf k false s
-      → Tried (k + 1) (cond t (record { ewt = s .ewt; refused = true; index = k })
-      (record { ewt = set (s .ewt) k (oneF ⊘ getD (s .ewt) k nan); refused = false; index = 0 }))
-  tried-one k s true e p =
-      (omega arith, ap (λ (v : Float). Ieee.le v zeroF) (sym (p .1 k (omega arith))) ∙ e, λ j h. p .0 j h)
-  tried-one k s false e p = (
-    below-more Good k (p .0) (ap (λ (v : Float). Ieee.le v zeroF) (sym (p .1 k (omega arith))) ∙ e),
-    λ j h. getD-set-other (s .ewt) k j _ nan (λ q. omega arith) ∙ p .1 j (omega arith),
-  )
-
-  tried-at : (k : ℕ) (s : Inversion) (r : Bool) → s .refused ≡ r → TriedIf k r s
-      → Tried (k + 1) (cond r s (invertOne k s))
-  tried-at k s true e p = rw e (omega (arith, p .0), p .1, p .2)
-  tried-at k s false e p = tried-one k s (Ieee.le (getD (s .ewt) k nan) zeroF) refl p
-
-  tried : Tried (length l) (invertOf l)
-  unfolding invertOf
-  tried =
-      reaches Tried invertAt (length l) (λ k s h p. tried-at k s (s .refused) refl p) 0
-      (record { ewt = l; refused = false; index = 0 }) (omega arith) (below-none Good, λ j h. refl)
-
-  abbrev outcome : Weights
-  outcome = weightsOutcome (invertOf l)
-
   -- refused at an index, or all inverted
-  pub data Found (o : Weights) : Type 0 where
+  data Found (o : Weights) : Type 0 where
     bad : (i : ℕ) → FirstBad l i → o ≡ Refused i → Found o
     good : AllGood l → o ≡ Inverted → Found o
 
-  found-at : (r : Bool) → invertOf l .refused ≡ r → TriedIf (length l) r (invertOf l)
-      → Found (cond r (Refused (invertOf l .index)) Inverted)
-  found-at true e p = bad (invertOf l .index) (record { here = (p .0, p .1); before = p .2 }) refl
-  found-at false e p = good (p .0) refl
+  found-at : (r : Bool) → invertOf l .refused ≡ r → Found (cond r (Refused (invertOf l .index)) Inverted)
+  found-at true e =
+      let s = stopped l e in
+      bad (invertOf l .index) (record { here = (s .within, s .refused); before = s .done .passed }) refl
+  found-at false e = good (inverts l e .passed) refl
 
-  pub found : Found outcome
-  found = found-at (invertOf l .refused) refl tried
+  found : Found (weightsOutcome (invertOf l))
+  found = found-at (invertOf l .refused) refl
 
   -- there is one such index, and then not all are good
   bad-index : (i j : ℕ) → FirstBad l i → FirstBad l j → i ≡ j
@@ -114,7 +83,7 @@ module _ (kind : ℕ) (numbers : List Float) (time : Float) (b : Buffers) where
   reply = replyOf kind numbers time b .reply
 
   abbrev weights : List Float
-  weights = weightsOf numbers b
+  weights = storedWeights numbers b
 
   abbrev unfit : Bool
   unfit = isRefused numbers b
@@ -125,9 +94,9 @@ module _ (kind : ℕ) (numbers : List Float) (time : Float) (b : Buffers) where
       (inverted (x .settings .n) (weighed numbers b)) .turn .question)
 
   -- what is answered, and why
-  data Says : Type 0 where
+  pub data Says : Type 0 where
     weighty : (i : ℕ) → FirstBad weights i → reply ≡ plainOf 12 i zeroF zeroF → Says
-    stepped : AllGood weights → unfit ≡ true → reply ≡ plainOf 11 0 (stepOf numbers b) zeroF → Says
+    stepped : AllGood weights → unfit ≡ true → reply ≡ plainOf 11 0 (storedStep numbers b) zeroF → Says
     reported : AllGood weights → unfit ≡ false → reply .number ≡ 102 → Says
 
   sized : (t : Bool) → unfit ≡ t → AllGood weights → reply ≡ said Inverted → Says
@@ -160,7 +129,7 @@ module _ (kind : ℕ) (numbers : List Float) (time : Float) (b : Buffers) where
   step-only q (stepped g f r) = (g, f)
   step-only q (reported g f r) = absurd (eqb-false 11 102 refl (sym q ∙ r))
 
-  step-then : AllGood weights × (unfit ≡ true) → Says → reply ≡ plainOf 11 0 (stepOf numbers b) zeroF
+  step-then : AllGood weights × (unfit ≡ true) → Says → reply ≡ plainOf 11 0 (storedStep numbers b) zeroF
   step-then s (weighty j p r) = absurd (not-both weights j p (s .0))
   step-then s (stepped g f r) = r
   step-then s (reported g f r) = differs (sym f ∙ s .1)
@@ -180,7 +149,7 @@ module _ (kind : ℕ) (numbers : List Float) (time : Float) (b : Buffers) where
     unfolding takenOf firstDerivativeOf
     reply-is = answer-at kind numbers time b Phase.FirstDerivative (kindOf kind) h e refl
 
-    says : Says
+    pub says : Says
     says = says-at (weightsOutcome (invertOf weights)) reply-is (found weights)
 
   pub first-derivative : FirstDerivative kind numbers time b

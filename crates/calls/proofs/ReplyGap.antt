@@ -4,7 +4,7 @@
 -- Assumes nothing.
 use mathlib.Core.List.{List}
 use mathlib.Core.Path.{_≡_}
-use Prim.Native.Nat.{ℕ, _-_, _≤_, _<_}
+use Prim.Native.Nat.{_-_, _≤_, _<_}
 use lib.Ieee.{Float}
 use borrow.Author.Tests.{lt-ltb}
 use Rattle.common.specs.declared.MethodFamily.the-variants.{Bdf}

@@ -1,4 +1,5 @@
 -- What each number that a reply answers means, of any reply and any contents.
+--     kinds, numbers     the literal numbers of kinds, questions and ends
 --     reply-means
 -- Assumes nothing.
 use mathlib.Core.Bool.{Bool, true, false, cond, _||_}
@@ -6,17 +7,14 @@ use mathlib.Core.List.{List}
 use mathlib.Core.Logic.{_⊎_, inl, inr}
 use mathlib.Core.Path.{_≡_, refl, sym, ap, _∙_, subst}
 use Prim.Native.Nat.{ℕ, _≤_, _<_}
-use native.Mathlib.Omega.{arith}
-use lib.Dec.{eqb, leb, lit≤}
+use lib.Dec.{eqb, lit≤}
 use lib.Ieee.{Float}
-use lib.ListN.{length}
 use borrow.Author.Tests.{eqb-true, le-leb, lt-leb}
-use Rattle.loops.specs.Test.{differs}
+use Rattle.loops.specs.Test.{differs, one-of}
 use Rattle.numbers.specs.Float.{_⊕_, zeroF}
 use Rattle.common.specs.declared.Settings.{Settings}
 use Rattle.common.specs.declared.Common.{Common}
 use Rattle.common.specs.Record.{with-tn}
-use Rattle.between_steps.specs.declared.Answer.{Answer}
 use Rattle.between_steps.specs.declared.Answer.the-variants.{Continue, Interrupt, Modified}
 use Rattle.between_steps.specs.declared.Kind.{Kind}
 use Rattle.between_steps.specs.declared.Kind.the-variants as Kind
@@ -28,23 +26,45 @@ use Rattle.turns.specs.declared.Session.{Session}
 use Rattle.between_steps.specs.declared.Status.{Status}
 use Rattle.between_steps.specs.declared.Status.the-variants as Status
 use Rattle.turns.specs.declared.Turn.{Turn}
-use Rattle.turns.specs.Turns.{Left, askedOf, askedInStepOf, finishedOf}
-use Rattle.between_steps.specs.Begin.{isGoing}
+use Rattle.turns.specs.Turns.{askedOf, askedInStepOf, finishedOf}
 use Rattle.turns.specs.Begin.{openPassOf, beganOf, goOnAt, goOnOf}
+use Rattle.between_steps.specs.Begin.{isGoing}
 use Rattle.reports.specs.Reports.{firstReportOf, afterReportOf}
-use Rattle.machine.specs.Resume.{With, isAsked, takenOf, resumeOf}
-use Rattle.session.specs.Session.{decodeOf, encodeOf, rtolOf, atolOf}
+use Rattle.machine.specs.Resume.{takenOf, resumeOf}
+use Rattle.session.specs.Session.{decodeOf, encodeOf}
 use Rattle.answers.specs.declared.Reply.{Reply}
 use Rattle.answers.specs.Answers.{plainOf, statusNumber, answerOf}
 use Rattle.answers.specs.Called.{Buffers, Called}
-use Rattle.replies.specs.Replies.{kindOf, isUnasked, settledOf, turned, goOf}
+use Rattle.replies.specs.Replies.{kindOf, settledOf, turned, goOf}
 use Rattle.raimsklo.specs.Calls.{replyOf}
 use Rattle.calls.specs.Run.{isRefusal}
 use Rattle.refusals.specs.Rows.{Row, NoneHolds}
 use Rattle.calls.specs.ReplyRefused.{phaseIn, replyRows}
-use Rattle.calls.specs.ReplyMeans.{Listed, endedBy, AtReport, Ended, Meant, ReplyMeans}
-use Rattle.calls.proofs.ReplyRefused.{isRefusing, stored-phase, gone, is-now, went, reply-refused}
-use Rattle.calls.proofs.ReplyTurns.{kinds, one-of, resume-means}
+use Rattle.calls.specs.ReplyMeans.{Kinds, Numbers, Listed, endedBy, AtReport, HeldAtEnd, Meant, ReplyMeans}
+use Rattle.calls.proofs.Agrees.{status-number, asking}
+use Rattle.calls.proofs.Turns.{resume-means}
+use Rattle.calls.proofs.ReplyRefused.{isRefusing, withIn, stored-phase, gone, is-now, agreed, went}
+use Rattle.calls.proofs.ReplyRefused.{reply-refused}
+
+pub kinds : Kinds
+unfolding kindOf
+kinds = record { derivative = refl; jacobian = refl; continues = refl; interrupts = refl; modifies = refl }
+
+pub numbers : Numbers
+numbers = record {
+  derivative = λ a. refl;
+  jacobian = λ a. refl;
+  first = λ a. refl;
+  report = λ r. refl;
+  success = λ c. refl;
+  interrupted = λ c. refl;
+  more = λ c. refl;
+  small = λ c. refl;
+  poor = λ c. refl;
+  gap = λ c. refl;
+  step = λ h. refl;
+  weight = λ i. refl;
+}
 
 -- ---- of a question
 
@@ -55,28 +75,10 @@ module _ (s : Settings) (before : Phase) (kind : Kind) where
   question-listed (Question.Jacobian a) after c m = inr (inr (inl (lit≤ tt, lit≤ tt)))
   question-listed (Question.FirstReport a) after c m = inr (inr (inl (lit≤ tt, lit≤ tt)))
   question-listed (Question.Report r) after c m = inr (inr (inl (lit≤ tt, lit≤ tt)))
-  question-listed (Question.Finished e) after c m = inr (inr (inr (by (e .status))))
-    where
-      by : (status : Status) → (110 ≤ statusNumber status) × (statusNumber status ≤ 115)
-      by Status.Success = (lit≤ tt, lit≤ tt)
-      by Status.Interrupted = (lit≤ tt, lit≤ tt)
-      by Status.NeedsMoreSteps = (lit≤ tt, lit≤ tt)
-      by Status.StepTooSmall = (lit≤ tt, lit≤ tt)
-      by Status.PoorConvergence = (lit≤ tt, lit≤ tt)
-      by Status.CoefficientGap = (lit≤ tt, lit≤ tt)
+  question-listed (Question.Finished e) after c m = inr (inr (inr (status-number (e .status))))
   question-listed (Question.StepRefused h) after c m = inr (inl (lit≤ tt, lit≤ tt))
   question-listed (Question.WeightRefused i) after c m = inr (inl (lit≤ tt, lit≤ tt))
   question-listed Question.Unasked after c m = absurd m
-
-  asks : (q : Question) (after : Phase) (c : Common) → Meant s before kind q after c → isUnasked q ≡ false
-  asks (Question.Derivative a) after c m = refl
-  asks (Question.Jacobian a) after c m = refl
-  asks (Question.FirstReport a) after c m = refl
-  asks (Question.Report r) after c m = refl
-  asks (Question.Finished e) after c m = refl
-  asks (Question.StepRefused h) after c m = refl
-  asks (Question.WeightRefused i) after c m = refl
-  asks Question.Unasked after c m = absurd m
 
   -- 111 is an interrupt at a report
   only-interrupt : (q : Question) (after : Phase) (c : Common) → Meant s before kind q after c
@@ -87,7 +89,7 @@ module _ (s : Settings) (before : Phase) (kind : Kind) where
   only-interrupt (Question.Report r) after c m e = differs e
   only-interrupt (Question.Finished e) after c m i = by (e .status) (m .2) i
     where
-      by : (status : Status) → Ended s before kind status c → eqb (statusNumber status) 111 ≡ true
+      by : (status : Status) → HeldAtEnd s before kind status c → eqb (statusNumber status) 111 ≡ true
           → AtReport before × (kind ≡ Kind.Report Interrupt)
       by Status.Success h i = differs i
       by Status.Interrupted h i = h
@@ -145,14 +147,6 @@ module _ (kind : ℕ) (numbers : List Float) (time : Float) (b : Buffers) where
   abbrev x : Session
   x = decodeOf (b .session)
 
-  abbrev with-it : With
-  with-it = record {
-    rtol = rtolOf (b .session);
-    atol = atolOf (b .session);
-    work = b .work;
-    ipiv = b .pivots;
-  }
-
   abbrev rows : List Row
   rows = replyRows kind numbers b
 
@@ -166,7 +160,7 @@ module _ (kind : ℕ) (numbers : List Float) (time : Float) (b : Buffers) where
   meant h =
       subst (λ (p : Phase). Meant (x .settings) p (kindOf kind) (turn .question) (turn .phase) (turn .common))
       (stored-phase (b .session))
-      (resume-means x numbers time with-it (kindOf kind) (is-now kind numbers time b h))
+      (resume-means x numbers time (withIn b) (kindOf kind) (is-now kind numbers time b h))
 
   kept : NoneHolds rows
       → reply .lent .session
@@ -174,7 +168,7 @@ module _ (kind : ℕ) (numbers : List Float) (time : Float) (b : Buffers) where
   unfolding goOf settledOf
   kept h =
       ap (λ (c : Called). c .lent .session) (gone kind numbers time b h)
-      ∙ rw (asks (x .settings) (phaseIn b) (kindOf kind) (turn .question) (turn .phase) (turn .common) (meant h))
+      ∙ rw (asking (turn .question) (turn .phase) (turn .common) (agreed kind numbers time b h))
 
   listed-at : (r : Bool) → isRefusal (reply .reply) ≡ r → Listed (reply .reply .number)
   listed-at true e = by (one-of _ _ e)
@@ -195,14 +189,14 @@ module _ (kind : ℕ) (numbers : List Float) (time : Float) (b : Buffers) where
 
   -- the answer, of a phase and a kind that are known
   pub answer-at : (p : Phase) (k : Kind) → NoneHolds rows → phaseIn b ≡ p → kindOf kind ≡ k
-      → reply .reply ≡ answerOf (takenOf x p k numbers time with-it .turn .question)
+      → reply .reply ≡ answerOf (takenOf x p k numbers time (withIn b) .turn .question)
   unfolding resumeOf
   answer-at p k h e f =
       went kind numbers time b h
       ∙ rw (is-now kind numbers time b h)
-      (ap (λ (q : Phase). answerOf (takenOf x q (kindOf kind) numbers time with-it .turn .question))
+      (ap (λ (q : Phase). answerOf (takenOf x q (kindOf kind) numbers time (withIn b) .turn .question))
       (stored-phase (b .session) ∙ e)
-      ∙ ap (λ (j : Kind). answerOf (takenOf x p j numbers time with-it .turn .question)) f)
+      ∙ ap (λ (j : Kind). answerOf (takenOf x p j numbers time (withIn b) .turn .question)) f)
 
   kind-is : (k : ℕ) → kind ≡ k → kindOf kind ≡ kindOf k
   kind-is k e = ap kindOf e

@@ -1,30 +1,30 @@
 -- The refusals of a reply, row by row: each test of the code decides the condition of its row.
---     reply-refused
---     gone, is-now, went     a reply that is taken is what was asked, and is answered by the machine
---     stored-phase           the phase as it is decoded
+--     reply-refused, asked-now
+--     a-derivative, a-jacobian, an-answer     what is asked, by the kind's number and the length
+--     gone, is-now, went, agreed     a reply that is taken is what was asked, and is answered by the machine
+--     withIn, stored-phase           what the session is resumed with, and its phase
 -- Assumes nothing.
 use mathlib.Core.Bool.{Bool, true, false, cond, not, _&&_, _||_, true≢false}
 use mathlib.Core.List.{List, [], _∷_}
-use mathlib.Core.Logic.{_⊎_, inl, inr, ⊎-elim, _≢_, _↔_}
+use mathlib.Core.Logic.{inl, inr, ⊎-elim, _↔_}
 use mathlib.Core.Path.{_≡_, refl, sym, ap, _∙_, subst}
-use Prim.Native.Nat.{ℕ, zero, suc, _+_, _*_, _≤_, _<_}
+use Prim.Native.Nat.{ℕ, zero, suc, _+_, _*_}
 use native.Mathlib.Omega.{arith}
-use lib.Dec.{eqb, ltb, leb, lit<}
+use lib.Dec.{eqb, ltb, lit<}
 use lib.Ieee.{Float}
 use lib.ListN.{length}
-use borrow.Author.Tests.{eqb-true, eqb-false, ltb-true, ltb-false, lt-leb}
+use borrow.Author.Tests.{eqb-true, eqb-false, lt-leb}
 use Rattle.loops.specs.Test.{differs, both}
 use Rattle.numbers.specs.Float.{zeroF}
 use Rattle.common.specs.declared.Settings.{Settings}
 use Rattle.turns.specs.declared.Phase.{Phase}
 use Rattle.turns.specs.declared.Phase.the-variants as Phase
 use Rattle.turns.specs.declared.Turn.{Turn}
-use Rattle.between_steps.specs.Replies.{isDerivative, isJacobian, isAnswer}
 use Rattle.machine.specs.Resume.{With, isAsked}
-use Rattle.words.specs.Words.{countsIn}
+use Rattle.between_steps.specs.Replies.{isDerivative, isJacobian, isAnswer}
 use Rattle.words.proofs.Rows.{counts-at}
 use Rattle.fields.specs.States.{phaseOf}
-use Rattle.session.specs.Session.{decodeOf, rtolOf, atolOf, storedN, finishedIn, inRangeOf}
+use Rattle.session.specs.Session.{decodeOf, rtolOf, atolOf, finishedIn, inRangeOf}
 use Rattle.session.specs.Names as Word
 use Rattle.session.specs.InRange.{InRange}
 use Rattle.session.proofs.InRange.{in-range}
@@ -34,6 +34,7 @@ use Rattle.refusals.specs.Refusal.{none, plain, alsoOf, inOrder, orElse}
 use Rattle.refusals.specs.Rows.{Row, row, FirstIs, NoneHolds}
 use Rattle.refusals.proofs.Decides.{Decides, equal, smaller, denied}
 use Rattle.refusals.proofs.Decides.{either as or}
+use Rattle.refusals.proofs.Rows.{Each}
 use Rattle.answers.specs.Answers.{plainOf, answerOf}
 use Rattle.answers.specs.Called.{Buffers, Called}
 use Rattle.replies.specs.Replies.{isKind, kindOf, lengthsRefusal, storedRefusal, replyRefusalOf}
@@ -41,10 +42,10 @@ use Rattle.replies.specs.Replies.{isUnasked, Settled, settledOf, turned, goOf}
 use Rattle.raimsklo.specs.Calls.{replyAt, replyOf}
 use Rattle.invariants.proofs.Floats.{either}
 use Rattle.calls.specs.Run.{isRefusal}
-use Rattle.calls.specs.ReplyRefused.{Awaited, awaits, Asked}
+use Rattle.calls.specs.ReplyRefused.{awaits, Asked}
 use Rattle.calls.specs.ReplyRefused.{derivative, jacobian, answer, phaseIn, replyRows, ReplyRefused}
+use Rattle.calls.proofs.Agrees.{Agrees, not-refusal}
 use Rattle.calls.proofs.Turns.{resume-well, resume-same}
-use Rattle.calls.proofs.Follow.{not-refusal}
 
 -- ---- rows in order
 
@@ -66,11 +67,7 @@ data SaysBy (leaves : ℕ → Called) (go x : Called) (rs : List Row) : Type 0 w
   takes : NoneHolds rs → x ≡ go → SaysBy leaves go x rs
 
 -- what every row's number has, the first one's has
-abbrev Numbered : (ℕ → Type 0) → List Row → Type 0
-Numbered P [] = Unit {0}
-Numbered P (r ∷ rs) = P (r .refusal .number) × Numbered P rs
-
-numbered : (P : ℕ → Type 0) (rs : List Row) (k : ℕ) → Numbered P rs → FirstIs k rs → P k
+numbered : (P : ℕ → Type 0) (rs : List Row) (k : ℕ) → Each (λ q. P (q .number)) rs → FirstIs k rs → P k
 numbered P [] k ns f = absurd f
 numbered P (r ∷ rs) k ns (inl f) = subst P (f .1) (ns .0)
 numbered P (r ∷ rs) k ns (inr f) = numbered P rs k (ns .1) (f .1)
@@ -83,6 +80,10 @@ isRefusing k = eqb k 3 || (eqb k 13 || eqb k 14)
 
 abbrev DecidesKind : (ℕ → Bool) → (ℕ → Type 0) → Type 0
 DecidesKind t P = (kind : ℕ) → Decides (t kind) (P kind)
+
+pub decided-true : {P : Type 0} (t : Bool) → Decides t P → ((P → ⊥) → ⊥) → t ≡ true
+decided-true true d h = refl
+decided-true false d h = absurd (h (d .1 refl))
 
 none-of : {P : Type 0} → (P → ⊥) → Decides false P
 none-of n = (λ e. differs e, λ e. n)
@@ -100,7 +101,7 @@ no-kind k =
     by false e = refl
 
 module _ (n len : ℕ) where
-  a-derivative : DecidesKind (λ k. isKind k && isDerivative (kindOf k) len n) (λ k. Asked derivative n k len)
+  pub a-derivative : DecidesKind (λ k. isKind k && isDerivative (kindOf k) len n) (λ k. Asked derivative n k len)
   unfolding kindOf
   a-derivative zero = none-of (λ q. omega arith)
   a-derivative (suc zero) = with-length len n refl
@@ -110,7 +111,7 @@ module _ (n len : ℕ) where
   a-derivative (suc (suc (suc (suc (suc zero))))) = none-of (λ q. omega arith)
   a-derivative (suc (suc (suc (suc (suc (suc k)))))) = rw (no-kind k) (none-of (λ q. omega arith))
 
-  a-jacobian : DecidesKind (λ k. isKind k && isJacobian (kindOf k) len n) (λ k. Asked jacobian n k len)
+  pub a-jacobian : DecidesKind (λ k. isKind k && isJacobian (kindOf k) len n) (λ k. Asked jacobian n k len)
   unfolding kindOf
   a-jacobian zero = none-of (λ q. omega arith)
   a-jacobian (suc zero) = none-of (λ q. omega arith)
@@ -123,7 +124,7 @@ module _ (n len : ℕ) where
   other : (k : ℕ) → (k ≡ 3 → ⊥) → (k ≡ 4 → ⊥) → (k ≡ 5 → ⊥) → Asked answer n k len → ⊥
   other k a b c q = ⊎-elim a (λ r. ⊎-elim b c r) (q .0)
 
-  an-answer : DecidesKind (λ k. isKind k && isAnswer (kindOf k) len n) (λ k. Asked answer n k len)
+  pub an-answer : DecidesKind (λ k. isKind k && isAnswer (kindOf k) len n) (λ k. Asked answer n k len)
   unfolding kindOf
   an-answer zero = none-of (other 0 (λ q. omega arith) (λ q. omega arith) (λ q. omega arith))
   an-answer (suc zero) = none-of (other 1 (λ q. omega arith) (λ q. omega arith) (λ q. omega arith))
@@ -186,6 +187,10 @@ two : {A : Type 0} (s t : Bool) (a b : A) → cond s a (cond t a b) ≡ cond (s 
 two true t a b = refl
 two false t a b = refl
 
+-- what the stored session is resumed with
+abbrev pub withIn : Buffers → With
+withIn b = record { rtol = rtolOf (b .session); atol = atolOf (b .session); work = b .work; ipiv = b .pivots }
+
 pub stored-phase : (b : List ℕ) → decodeOf b .phase ≡ phaseOf (Word.phase b)
 unfolding decodeOf
 stored-phase b = ap phaseOf (counts-at b 0 (lit< tt))
@@ -236,17 +241,9 @@ module _ (kind : ℕ) (numbers : List Float) (time : Float) (b : Buffers) where
   at-cond true k r e = rw e
   at-cond false k r e = refl
 
-  abbrev with-it : With
-  with-it = record {
-    rtol = rtolOf (b .session);
-    atol = atolOf (b .session);
-    work = b .work;
-    ipiv = b .pivots;
-  }
-
   unasked-leaves : isNow ≡ false → go ≡ leaves 14
   unfolding goOf settledOf
-  unasked-leaves e = rw (resume-same (decodeOf (b .session)) (kindOf kind) numbers time with-it e)
+  unasked-leaves e = rw (resume-same (decodeOf (b .session)) (kindOf kind) numbers time (withIn b) e)
 
   last : (s t : Bool) → isNow ≡ t → cond (not s) (leaves 14) go ≡ cond (not (s && t)) (leaves 14) go
   last false t e = refl
@@ -286,7 +283,7 @@ module _ (kind : ℕ) (numbers : List Float) (time : Float) (b : Buffers) where
   abbrev AskedNow : Type 0
   AskedNow = Asked (awaits (phaseIn b)) n kind (length numbers)
 
-  asked-now : Decides (isKind kind && isNow) AskedNow
+  pub asked-now : Decides (isKind kind && isNow) AskedNow
   asked-now =
       rw (stored-phase (b .session), stored-n (b .session))
       (asked n (length numbers) (phaseIn b) kind)
@@ -310,10 +307,6 @@ module _ (kind : ℕ) (numbers : List Float) (time : Float) (b : Buffers) where
   settled-reply s t work =
       either (λ (y : Settled). y .reply ≡ answerOf (t .question)) (isUnasked (t .question)) _ _ refl refl
 
-  now-asked : (t : Bool) → Decides t AskedNow → ((AskedNow → ⊥) → ⊥) → t ≡ true
-  now-asked true d h = refl
-  now-asked false d h = absurd (h (d .1 refl))
-
   pub gone : NoneHolds (replyRows kind numbers b) → replyOf kind numbers time b ≡ go
   gone h = by outcome
     where
@@ -322,7 +315,7 @@ module _ (kind : ℕ) (numbers : List Float) (time : Float) (b : Buffers) where
       by (takes n e) = e
 
   pub is-now : NoneHolds (replyRows kind numbers b) → isNow ≡ true
-  is-now h = both (isKind kind) isNow (now-asked _ asked-now (h .1 .1 .1 .1 .1 .0)) .1
+  is-now h = both (isKind kind) isNow (decided-true _ asked-now (h .1 .1 .1 .1 .1 .0)) .1
 
   pub went : NoneHolds (replyRows kind numbers b)
       → replyOf kind numbers time b .reply ≡ answerOf (turned (kindOf kind) numbers time b .turn .question)
@@ -331,12 +324,16 @@ module _ (kind : ℕ) (numbers : List Float) (time : Float) (b : Buffers) where
       let m = turned (kindOf kind) numbers time b in
       ap (λ (x : Called). x .reply) (gone h) ∙ settled-reply (decodeOf (b .session) .settings) (m .turn) (m .work)
 
+  pub agreed : NoneHolds (replyRows kind numbers b)
+      → let t = turned (kindOf kind) numbers time b .turn in Agrees (t .question) (t .phase) (t .common)
+  agreed h =
+      let x = decodeOf (b .session) in
+      resume-well (x .common .ialth) x numbers time (withIn b) (omega arith) (kindOf kind) (is-now h) .agrees
+
   taken-not : NoneHolds (replyRows kind numbers b) → isRefusal (replyOf kind numbers time b .reply) ≡ false
   taken-not h =
-      let x = decodeOf (b .session) in
-      let m = turned (kindOf kind) numbers time b in
-      let w = resume-well (x .common .ialth) x numbers time with-it (omega arith) (kindOf kind) (is-now h) in
-      ap isRefusal (went h) ∙ not-refusal (m .turn .question) (m .turn .phase) (m .turn .common) (w .agrees)
+      let t = turned (kindOf kind) numbers time b .turn in
+      ap isRefusal (went h) ∙ not-refusal (t .question) (t .phase) (t .common) (agreed h)
 
   -- ---- the claim
 

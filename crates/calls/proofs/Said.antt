@@ -22,17 +22,17 @@ use Rattle.turns.specs.declared.Phase.the-variants as Phase
 use Rattle.turns.specs.declared.Question.{Question}
 use Rattle.turns.specs.declared.Question.the-variants as Question
 use Rattle.turns.specs.Turns.{Left}
+use Rattle.rules.specs.Play.{Play}
 use Rattle.common.specs.State.{Given}
-use Rattle.rules.specs.Play.{Play, ret, ask, tell, say, derivativeAt, jacobianAt}
-use Rattle.rules.specs.Play.{finished, stepRefused, weightRefused, exhausted}
 use Rattle.follows.specs.Seen.{shownAs}
 use Rattle.follows.specs.Seen as Seen
-use Rattle.follows.specs.Stands.{Fits, Stands}
-use Rattle.follows.specs.Follows.{stateAt}
+use Rattle.follows.specs.Stands.{Stands}
+use Rattle.sqrt.specs.Rounded.{fits}
 use Rattle.answers.specs.Answers.{answerOf}
 use Rattle.replies.specs.Replies.{withY, questionOf}
 use Rattle.calls.specs.Follow.{says, saidOf, saidAt}
-use Rattle.calls.proofs.Turns.{isOver, Agrees, Well}
+use Rattle.calls.proofs.Agrees.{isOver, Agrees}
+use Rattle.calls.proofs.Turns.{Well}
 
 -- ---- the question slice
 
@@ -104,28 +104,12 @@ module _ (s : Settings) (c : Common) (work q : List Float) (history : 19 * s .n 
 -- ---- what the tree says
 
 module _ (g : Given) where
-  pub fits : (t : Play) (l : Left) → Stands g t l → Fits g t (stateAt t) l
-  fits (ret (finished status x)) l s = s
-  fits (ret (stepRefused h x)) l s = s
-  fits (ret (weightRefused i x)) l s = s
-  fits (ret (exhausted x)) l s = absurd s
-  fits (ask (derivativeAt t v) x k) l s = s .0
-  fits (ask (jacobianAt t v) x k) l s = s .0
-  fits (tell r x k) l s = s .0
-  fits (say e p) l s =
-      let f = fits p l s in
-      let h = f .holds in
-      record {
-        shows = f .shows;
-        holds = record { common = h .common; work = h .work; ipiv = h .ipiv; takes = h .takes };
-      }
-
   pub says-node : (t : Play) (l : Left) (q : List Float) → Stands g t l → Well 0 (l .turn)
       → (isOver (l .turn .phase) ≡ false → l .turn .common .nq ≤ 12) → 19 * g .s .n ≤ length (l .work)
       → length q ≡ 14 * g .s .n + 6
       → says (answerOf (l .turn .question)) (questionOf (g .s) (l .turn .phase) (l .turn .common) (l .work) q)
       ≡ saidAt (g .s .n) t q
   says-node t l q s w o history room =
-      let f = fits t l s in
+      let f = fits g t l s in
       says-question (g .s) (l .turn .common) (l .work) q history room (l .turn .question) (l .turn .phase) (w .agrees) o
       ∙ rw (f .shows, f .holds .common)

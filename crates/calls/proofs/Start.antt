@@ -1,19 +1,18 @@
 -- What an accepted start leaves: the machine's state at the root of the tree, kept in the session's bytes.
---     begun-run       what the start was given is what a run asks for
 --     begun-is        the call that began the run
+--     begun-run       what the start was given is what a run asks for
 --     begun-keeps     its session
 -- Assumes nothing.
-use mathlib.Core.Bool.{Bool, true, false}
+use mathlib.Core.Bool.{true}
 use mathlib.Core.List.{List, []}
 use mathlib.Core.Logic.{inl, inr}
-use mathlib.Core.Path.{_≡_, refl, sym, ap, _∙_}
-use Prim.Native.Nat.{ℕ, _-_, _≤_, _<_}
+use mathlib.Core.Path.{_≡_, refl, ap, _∙_}
+use Prim.Native.Nat.{ℕ, _-_, _≤_}
 use native.Mathlib.Omega.{arith}
 use lib.Dec.{eqb, lit<}
-use lib.Ieee as Ieee
-use lib.Ieee.{Float, nan}
-use lib.ListN.{length, getD, replicate}
-use borrow.Author.Tests.{eqb-true, eq-eqb, ne-eqb, lt-ltb}
+use lib.Ieee.{Float}
+use lib.ListN.{length, replicate}
+use borrow.Author.Tests.{eq-eqb}
 use Rattle.loops.specs.Part.{putPart}
 use Rattle.numbers.specs.Float.{zeroF}
 use Rattle.vectors.specs.Tolerance.{List1OrN}
@@ -21,7 +20,6 @@ use Rattle.history.proofs.Filled.{filled}
 use Rattle.turns.specs.declared.Session.{Session}
 use Rattle.turns.specs.Requires.{Resumes}
 use Rattle.reports.specs.Reports.{initialOf}
-use Rattle.refusals.specs.declared.Refusal.{Refusal}
 use Rattle.refusals.specs.Start.{settingsOf}
 use Rattle.fields.specs.Fields.{countsOf, FloatsFit, Fits}
 use Rattle.session.specs.Session.{ListFits, encodeOf, decodeOf, putTolerancesOf, OneOrN}
@@ -38,7 +36,7 @@ use Rattle.follows.proofs.Kept.{session-kept}
 use Rattle.invariants.proofs.Fits.{start-fits}
 use Rattle.invariants.proofs.Host.{is-f64-fits}
 use Rattle.answers.specs.Answers.{plainOf}
-use Rattle.answers.specs.Called.{Buffers, Called}
+use Rattle.answers.specs.Called.{Buffers}
 use Rattle.starts.specs.Starts.{clearedOf, keptOf, beganOf}
 use Rattle.raimsklo.specs.Calls.{Problem, lengthsOf, startAt, startOf}
 use Rattle.calls.specs.WellFormed.{WellFormed}
@@ -53,29 +51,55 @@ pub clear-all : (l : List ℕ) → clearedOf l ≡ replicate (length l) 0
 unfolding clearedOf
 clear-all l = filled 0 l
 
--- ---- an accepted start
+-- ---- the call of an accepted start
 
-module _ (p : Problem) (b : Buffers) (begins : Begins p b) where
-  abbrev pub given : Given
+module _ (p : Problem) (b : Buffers) where
+  abbrev given : Given
   given = givenOf p b
 
-  abbrev pub from : Start
+  abbrev from : Start
   from = fromOf p
 
-  abbrev refusal : Refusal
-  refusal = refusalOf p b
+  abbrev first : Session
+  first = sessionOf given (startedAt given from)
+
+  abbrev pub begunBytes : List ℕ
+  begunBytes = putTolerancesOf (p .rtol) (p .atol) (encodeOf first (b .session))
+
+  pub begun-is : WellFormed p b → startOf p b ≡ record {
+    reply = plainOf 100 0 zeroF (p .x0);
+    lent = lentOf (startedAt given from) begunBytes (putPart 0 (length (p .y0)) (b .question) (p .y0));
+  }
+  unfolding startAt beganOf keptOf settingsOf beginning
+  begun-is formed =
+      let number : refusalOf p b .number ≡ 0 = start-number-is p b .0 (well-formed p b .0 formed) .1 in
+      let e : eqb (refusalOf p b .number) 0 ≡ true = eq-eqb (refusalOf p b .number) 0 number in
+      some-start p b (formed .states .0)
+      ∙ rw (e, clear-all (b .pivots), formed .work, formed .pivots)
+
+-- ---- its run and its session
+
+module _ (p : Problem) (b : Buffers) (begins : Begins p b) where
+  abbrev g : Given
+  g = givenOf p b
+
+  abbrev a : Start
+  a = fromOf p
+
+  abbrev x : Session
+  x = first p b
+
+  abbrev bytes : List ℕ
+  bytes = begunBytes p b
 
   formed : WellFormed p b
   formed = begins .formed
-
-  not-refused : refusal .number ≡ 0
-  not-refused = start-number-is p b .0 (well-formed p b .0 formed) .1
 
   one-or-n : (list : List Float) → OneOrN (length (p .y0)) (length list) → List1OrN list (length (p .y0) - 1)
   one-or-n list (inl e) = inl e
   one-or-n list (inr e) = inr (omega (arith, e, formed .states .0))
 
-  pub begun-run : Runs given from
+  pub begun-run : Runs g a
   unfolding settingsOf
   begun-run =
       record {
@@ -97,30 +121,10 @@ module _ (p : Problem) (b : Buffers) (begins : Begins p b) where
         natol = formed .atol;
       }
 
-  -- ---- the call
-
-  abbrev first : Session
-  first = sessionOf given (startedAt given from)
-
-  abbrev pub begunBytes : List ℕ
-  begunBytes = putTolerancesOf (p .rtol) (p .atol) (encodeOf first (b .session))
-
-  pub begun-is : startOf p b ≡ record {
-    reply = plainOf 100 0 zeroF (p .x0);
-    lent = lentOf (startedAt given from) begunBytes (putPart 0 (length (p .y0)) (b .question) (p .y0));
-  }
-  unfolding startAt beganOf keptOf settingsOf beginning
-  begun-is =
-      let e : eqb (refusal .number) 0 ≡ true = eq-eqb (refusal .number) 0 not-refused in
-      some-start p b (formed .states .0)
-      ∙ rw (e, clear-all (b .pivots), formed .work, formed .pivots)
-
-  -- ---- its session
-
   room : 1448 ≤ length (b .session)
   room = omega (arith, formed .session)
 
-  floats : FloatsFit first
+  floats : FloatsFit x
   unfolding beginning
   floats =
       let f = begins .floats in
@@ -133,14 +137,14 @@ module _ (p : Problem) (b : Buffers) (begins : Begins p b) where
   atol-fits : ListFits (p .atol)
   atol-fits i h = is-f64-fits _ (begins .floats .atol i h)
 
-  resumes : Resumes first (p .rtol) (p .atol) (startedAt given from .work) (startedAt given from .ipiv)
+  resumes : Resumes x (p .rtol) (p .atol) (startedAt g a .work) (startedAt g a .ipiv)
   unfolding after
-  resumes = session-kept given from (begun-run .ok) []
+  resumes = session-kept g a (begun-run .ok) []
 
-  fits : Fits first
+  fits : Fits x
   unfolding beginning initialOf
   fits = record {
-    counts = counts-fit first (resumes .ranges) (begun-run .nrtol) (begun-run .natol) (omega arith);
+    counts = counts-fit x (resumes .ranges) (begun-run .nrtol) (begun-run .natol) (omega arith);
     floats = floats;
   }
 
@@ -148,48 +152,48 @@ module _ (p : Problem) (b : Buffers) (begins : Begins p b) where
   short list (inl e) = omega arith
   short list (inr e) = omega (arith, formed .states .1)
 
-  signs : tolerancesInRange begunBytes (given .s) ≡ true
+  signs : tolerancesInRange bytes (g .s) ≡ true
   unfolding settingsOf
   signs =
-      tolerances-put (p .rtol) (p .atol) (encodeOf first (b .session)) (rw length-encode room) (given .s) refl refl
+      tolerances-put (p .rtol) (p .atol) (encodeOf x (b .session)) (rw length-encode room) (g .s) refl refl
       (short (p .rtol) (formed .rtol)) (short (p .atol) (formed .atol)) rtol-fits atol-fits
       (formed .relative) (formed .absolute)
 
-  decoded : decodeOf begunBytes ≡ first
+  decoded : decodeOf bytes ≡ x
   decoded =
-      decode-put (p .rtol) (p .atol) (encodeOf first (b .session)) ∙ decode-encode first (b .session) room fits
+      decode-put (p .rtol) (p .atol) (encodeOf x (b .session)) ∙ decode-encode x (b .session) room fits
 
-  pub begun-found : Found given (startedAt given from) begunBytes
+  pub begun-found : Found g (startedAt g a) bytes
   unfolding beginning initialOf
   begun-found =
-      let e = encodeOf first (b .session) in
+      let e = encodeOf x (b .session) in
       record {
-        passed = assembled begunBytes (startedAt given from .ipiv) first (countsOf first) decoded
-            (counts-put (p .rtol) (p .atol) e ∙ counts-back first (b .session) room fits)
-            (fields-in-range first fits (resumes .ranges) (begun-run .nrtol) (begun-run .natol)) signs
-            (pivots-in-range (startedAt given from .ipiv) (given .s .n) (pivots-below (resumes .lent)));
+        passed = assembled bytes (startedAt g a .ipiv) x (countsOf x) decoded
+            (counts-put (p .rtol) (p .atol) e ∙ counts-back x (b .session) room fits)
+            (fields-in-range x fits (resumes .ranges) (begun-run .nrtol) (begun-run .natol)) signs
+            (pivots-in-range (startedAt g a .ipiv) (g .s .n) (pivots-below (resumes .lent)));
         ialth = omega arith;
       }
 
-  pub begun-keeps : Keeps given (startedAt given from) begunBytes
+  pub begun-keeps : Keeps g (startedAt g a) bytes
   unfolding settingsOf
   begun-keeps =
-      let e = encodeOf first (b .session) in
+      let e = encodeOf x (b .session) in
       let in-e : 1448 ≤ length e = rw length-encode room in
       record {
-        long = length-put-tolerances (p .rtol) (p .atol) e ∙ length-encode first (b .session)
+        long = length-put-tolerances (p .rtol) (p .atol) e ∙ length-encode x (b .session)
             ∙ formed .session;
         lent = resumes .lent;
         states = put-other (p .rtol) (p .atol) e 1 (lit< tt)
-            ∙ encoded-count first (b .session) room 1 (lit< tt) (omega (arith, begun-run .ok .settings .n .1));
+            ∙ encoded-count x (b .session) room 1 (lit< tt) (omega (arith, begun-run .ok .settings .n .1));
         finished = ap (λ (w : ℕ). eqb w 10) (put-other (p .rtol) (p .atol) e 0 (lit< tt))
-            ∙ finished-encode first (b .session) room;
+            ∙ finished-encode x (b .session) room;
         rtol = rtol-put (p .rtol) (p .atol) e in-e (short (p .rtol) (formed .rtol)) rtol-fits;
         atol = atol-put (p .rtol) (p .atol) e in-e (short (p .atol) (formed .atol)) atol-fits;
         slots = (
-          slots-put begunBytes 53 (p .rtol) (short (p .rtol) (formed .rtol)) rtol-fits
+          slots-put bytes 53 (p .rtol) (short (p .rtol) (formed .rtol)) rtol-fits
               (rtol-slot (p .rtol) (p .atol) e in-e rtol-fits),
-          slots-put begunBytes 117 (p .atol) (short (p .atol) (formed .atol)) atol-fits
+          slots-put bytes 117 (p .atol) (short (p .atol) (formed .atol)) atol-fits
               (atol-slot (p .rtol) (p .atol) e in-e atol-fits),
         );
         signs = signs;

@@ -5,7 +5,7 @@
 use mathlib.Core.Bool.{Bool, true, false, true≢false}
 use mathlib.Core.List.{List, [], _∷_}
 use mathlib.Core.Path.{_≡_, refl, sym, ap, _∙_}
-use Prim.Native.Nat.{ℕ, zero, suc, _≤_}
+use Prim.Native.Nat.{ℕ, zero, suc}
 use native.Mathlib.Nat.{not-suc-le-zero, le-of-suc-le-suc}
 use lib.Ieee.{Float, add, sub, mul, div, neg, lt, eq, le, ne, ofInt, ofBits}
 use borrow.Author.Tests.{eq-eqb}
@@ -29,8 +29,7 @@ use Rattle.history.specs.Columns.{predictColumnsOf, retractColumnsOf, scaleColu
 use Rattle.history.specs.Columns.{correctColumnsOf, copyOf, slopeOf, fillOf, scalePartOf}
 use Rattle.history.specs.Steps.{limitedOf, adjustOf, staleOf, predictedOf}
 use Rattle.interpolation.proofs.Examples.{sum-7}
-use Rattle.corrector.specs.Verdict.{judgeOf, ratedOf, dconOf, estimatedOf, judgedConverged, giveUpOf, judgedFurther}
-use Rattle.corrector.specs.Verdict.{judgedTested}
+use Rattle.corrector.specs.Verdict.{judgeOf, ratedOf, dconOf, estimatedOf, judgedConverged, giveUpOf, judgedFurther, judgedTested}
 use Rattle.corrector.specs.Iterate.{openOf, adamsResidualOf, adamsUpdateOf, adamsOf, correctOf}
 use Rattle.attempt.specs.Attempt as Attempt
 use Rattle.acceptance.specs.Accept as Accept
@@ -62,11 +61,11 @@ use Rattle.starts.specs.Starts.{beganOf}
 use Rattle.raimsklo.specs.Calls.{Problem, lengthsOf, startAt, startOf}
 use Rattle.calls.specs.Run.{FloatsGiven, Begins}
 use Rattle.calls.specs.Follow.{Said, saidOf, givenOf, fromOf, treeOf}
-use Rattle.calls.specs.Sums.{Single, optionsOf, problemOf, problem8, problem10, problem11, problem12, Lent}
-use Rattle.calls.specs.Sums.{hostedBy, Row, resultOf, row8, row9, row10, row11, row12, Sums}
+use Rattle.calls.specs.Sums.{Single, optionsOf, problemOf, problem8, problem10, problem11, problem12, LentOne}
+use Rattle.calls.specs.Sums.{hostedBy, SumRow, resultOf, row8, row9, row10, row11, row12, Sums}
 use Rattle.calls.proofs.Keeps.{Runs}
 use Rattle.calls.proofs.WellFormed.{well-formed}
-use Rattle.calls.proofs.Start.{given, from, begun-run, begun-is}
+use Rattle.calls.proofs.Start.{begun-run, begun-is}
 use Rattle.calls.proofs.Walk.{begun-at, begun-says}
 use Rattle.calls.proofs.Host.{hosted, allowed, Host, said-shown, hosts}
 
@@ -80,18 +79,18 @@ one-fits v f zero h = f
 one-fits v f (suc i) h = absurd (not-suc-le-zero (le-of-suc-le-suc h))
 
 -- what a start makes of a row
-abbrev setOf : Row → Given
+abbrev setOf : SumRow → Given
 setOf r = record {
   s = settingsOf zeroF (r .problem .xend) (optionsOf (r .problem)) sizes;
   rtol = r .problem .rtol ∷ [];
   atol = r .problem .atol ∷ [];
 }
 
-abbrev begunOf : Row → Left
+abbrev begunOf : SumRow → Left
 begunOf r = startedAt (setOf r) (fromOf (problemOf (r .problem)))
 
 -- what the machine leaves after the row's acts
-abbrev leftOf : Row → Left
+abbrev leftOf : SumRow → Left
 leftOf r = hosted (setOf r) (begunOf r) (r .acts)
 
 abbrev isEnded : Shown → Bool
@@ -123,7 +122,7 @@ abbrev pub Accepted : Single → Type 0
 Accepted c =
     startRefusalOf zeroF (c .xend) (optionsOf c) sizes (c .rtol ∷ []) (c .atol ∷ []) .number ≡ 0
 
-record Ends (r : Row) : Type 0 where
+record Ends (r : SumRow) : Type 0 where
   asked : allowed (setOf r) (begunOf r) (r .acts) ≡ true
   over : isEnded (shownBy 1 (leftOf r)) ≡ true
   reply : saidAlone (shownBy 1 (leftOf r)) ≡ r .result .reply
@@ -136,8 +135,8 @@ begins-single c accepted floats b lengths =
     let e = eq-eqb _ 0 accepted in
     record { formed = well-formed (problemOf c) b .1 (rw (lengths, e)); floats = floats }
 
-module _ (r : Row) (accepted : Accepted (r .problem)) (floats : FloatsGiven (problemOf (r .problem))) (x : Ends r)
-    (b : Buffers) (q : ℕ → List Float) (l : Lent b q) where
+module _ (r : SumRow) (accepted : Accepted (r .problem)) (floats : FloatsGiven (problemOf (r .problem))) (x : Ends r)
+    (b : Buffers) (q : ℕ → List Float) (l : LentOne b q) where
   abbrev p : Problem
   p = problemOf (r .problem)
 
@@ -153,10 +152,10 @@ module _ (r : Row) (accepted : Accepted (r .problem)) (floats : FloatsGiven (pro
   -- ---- the run
 
   abbrev g : Given
-  g = given p b begins
+  g = givenOf p b
 
   abbrev a : Start
-  a = from p b begins
+  a = fromOf p
 
   abbrev run : Runs g a
   run = begun-run p b begins
@@ -171,7 +170,7 @@ module _ (r : Row) (accepted : Accepted (r .problem)) (floats : FloatsGiven (pro
     at = begun-at p b begins;
     question = b .question;
     said = begun-says p b begins;
-    answer = ap (λ (y : Called). y .reply) (begun-is p b begins);
+    answer = ap (λ (y : Called). y .reply) (begun-is p b (begins .formed));
     agrees = tt;
   }
 
@@ -249,11 +248,11 @@ unfolding allowed hosted shownAs settingsOf firstStepOf Refusals.smallestOf Refu
     Reports.afterReportOf Attempt.retractedOf Attempt.repredictOf Attempt.errorOf Attempt.shrunkOf Attempt.missedAt
     Attempt.missedOf Attempt.overshotOf Attempt.failedOf Attempt.unconvergedOf Attempt.quarteredOf
     Attempt.noConvergenceAt Attempt.noConvergenceOf Accept.correctedOf Accept.keepFamilyOf Accept.testFamilyOf
-    Accept.acceptOf Accept.closedOf judgeOf ratedOf dconOf estimatedOf judgedConverged giveUpOf judgedFurther
-    judgedTested openOf adamsResidualOf adamsUpdateOf adamsOf correctOf limitedOf adjustOf staleOf predictedOf
-    predictColumnsOf retractColumnsOf scaleColumnOf rescaleColumnsOf addScaledOf correctColumnsOf copyOf slopeOf fillOf
-    scalePartOf firstCallInitOf resetOf ewsetOf invertOf toleranceOf vmnormOf elcoOf tescoOf sm1Of cfodeOf rootOf absOf
-    negative signumOf refused maxOf minOf times add sub mul div neg lt eq le ne ofInt ofBits
+    Accept.acceptOf Accept.closedOf judgeOf ratedOf dconOf estimatedOf judgedConverged giveUpOf judgedFurther judgedTested openOf
+    adamsResidualOf adamsUpdateOf adamsOf correctOf limitedOf adjustOf staleOf predictedOf predictColumnsOf
+    retractColumnsOf scaleColumnOf rescaleColumnsOf addScaledOf correctColumnsOf copyOf slopeOf fillOf scalePartOf
+    firstCallInitOf resetOf ewsetOf invertOf toleranceOf vmnormOf elcoOf tescoOf sm1Of cfodeOf rootOf absOf negative
+    signumOf refused maxOf minOf times add sub mul div neg lt eq le ne ofInt ofBits
 computed = (
   record { asked = refl; over = refl; reply = refl; y = refl },
   record { asked = refl; over = refl; reply = refl; y = refl },

@@ -1,10 +1,10 @@
 -- One call of a run: it is refused with all as it was, or it says what the tree says at the node that follows, and the
 -- run stands there.
 --     At              where a run stands after a call: at a node of the tree, with the session of the machine there
---     Outcome, call   one reply
+--     Outcome, call   one reply; Moves, moves: what both its outcomes have
 --     begun-at        the start
 -- Assumes nothing.
-use mathlib.Core.Bool.{Bool, true, false, _&&_, true≢false}
+use mathlib.Core.Bool.{Bool, true, false, cond, not, _&&_, true≢false}
 use mathlib.Core.List.{List, [], _∷_, _++_}
 use mathlib.Core.Logic.{_⊎_, inl, inr}
 use mathlib.Core.Path.{_≡_, refl, sym, ap, _∙_}
@@ -27,28 +27,31 @@ use Rattle.refusals.specs.Start.{settingsOf}
 use Rattle.invariants.specs.Host.{IsF64}
 use Rattle.invariants.proofs.Host.{is-f64-fits}
 use Rattle.session.specs.Session.{encodeOf}
-use Rattle.common.specs.State.{Given}
 use Rattle.rules.specs.Play.{Play}
+use Rattle.common.specs.State.{Given}
 use Rattle.rules.specs.Rules.{Start, beginning, start}
 use Rattle.rules.specs.Replies.{Reply as Fed}
 use Rattle.follows.specs.Seen.{sessionOf, withOf, next, after, isTaken, asks, step}
 use Rattle.follows.specs.Stands.{Stands, startedAt}
 use Rattle.follows.specs.InRun.{InRun}
 use Rattle.follows.proofs.Follows.{replies, follows}
+use Rattle.sqrt.specs.Rounded.{fits}
 use Rattle.follows.proofs.Kept.{counts-after, closing-after, session-kept}
 use Rattle.answers.specs.Answers.{plainOf, answerOf}
 use Rattle.answers.specs.Called.{Buffers, Called}
 use Rattle.replies.specs.Replies.{isKind, kindOf, questionOf}
 use Rattle.raimsklo.specs.Calls.{Problem, startOf, replyOf}
-use Rattle.calls.specs.Run.{Begins, ReplyCall, lentFor, answered}
-use Rattle.calls.specs.Follow.{treeOf, saidBy, saidAt, fedAs, isAnswer, isSized, PhaseAt}
+use Rattle.calls.specs.Run.{Begins, ReplyCall, lentFor, replied, isRefusal}
+use Rattle.calls.specs.Follow.{givenOf, fromOf, treeOf, Said, says, saidBy, saidAt, fedAs, isAwaited, isSized}
+use Rattle.calls.specs.Follow.{saidTo, nextOf, PhaseAt}
+use Rattle.calls.proofs.Agrees.{isOver, Agrees, not-refusal}
 use Rattle.calls.proofs.Low.{Low}
-use Rattle.calls.proofs.Turns.{isOver, Well, resume-well}
-use Rattle.calls.proofs.Said.{fits, says-node}
+use Rattle.calls.proofs.Turns.{Well, resume-well}
+use Rattle.calls.proofs.Said.{says-node}
 use Rattle.calls.proofs.Phases.{phase-node}
 use Rattle.calls.proofs.Keeps.{over-or-not, unless, Runs, Keeps, Bounded, keeps-next}
-use Rattle.calls.proofs.Answers.{lentOf, reply-sizes, reply-refused, reply-taken}
-use Rattle.calls.proofs.Start.{given, from, begun-run, begun-is, begun-keeps}
+use Rattle.calls.proofs.Answers.{lentOf, reply-sizes, reply-unasked, reply-taken}
+use Rattle.calls.proofs.Start.{begun-run, begun-is, begun-keeps}
 
 -- a phase that takes a reply is not the last
 pub not-over : (phase : Phase) (kind : Kind) (len n : ℕ) → isAsked phase kind len n ≡ true → isOver phase ≡ false
@@ -93,18 +96,29 @@ module _ (g : Given) (a : Start) (run : Runs g a) where
 
   -- ---- a reply
 
+  abbrev n : ℕ
+  n = g .s .n
+
   abbrev pub leaves : Called → ReplyCall → ℕ → Called
   leaves x r number = record { reply = plainOf number 0 zeroF zeroF; lent = lentFor x r }
 
+  -- of the kind and length asked, with a question slice of the right length; what refuses any other
+  abbrev pub isFitting : Play → ReplyCall → Bool
+  isFitting t r = isSized n r && isAwaited n t r
+
+  abbrev pub refusedBy : ReplyCall → ℕ
+  refusedBy r = cond (isSized n r) 14 3
+
+  -- a reply that is taken
+  pub record Went (t : Play) (l : Left) (x : Called) (r : ReplyCall) : Type 0 where
+    pub at : At (step t (fedAs r)) (next g l (fedAs r)) (replied x r)
+    pub answer : replied x r .reply ≡ answerOf (next g l (fedAs r) .turn .question)
+    pub agrees : let u = next g l (fedAs r) .turn in Agrees (u .question) (u .phase) (u .common)
+    pub said : saidBy (replied x r) ≡ saidAt n (step t (fedAs r)) (r .question)
+
   pub data Outcome (t : Play) (l : Left) (x : Called) (r : ReplyCall) : Type 0 where
-    unsized : isSized (g .s .n) r ≡ false → answered x r ≡ leaves x r 3 → Outcome t l x r
-    refused : isSized (g .s .n) r ≡ true → isAnswer (g .s .n) t r ≡ false → answered x r ≡ leaves x r 14
-        → Outcome t l x r
-    taken : isSized (g .s .n) r ≡ true → isAnswer (g .s .n) t r ≡ true
-        → At (step t (fedAs r)) (next g l (fedAs r)) (answered x r)
-        → answered x r .reply ≡ answerOf (next g l (fedAs r) .turn .question)
-        → Well 0 (next g l (fedAs r) .turn)
-        → saidBy (answered x r) ≡ saidAt (g .s .n) (step t (fedAs r)) (r .question) → Outcome t l x r
+    refused : isFitting t r ≡ false → replied x r ≡ leaves x r (refusedBy r) → Outcome t l x r
+    taken : isFitting t r ≡ true → Went t l x r → Outcome t l x r
 
   module _ (t : Play) (l : Left) (x : Called) (r : ReplyCall) (time : IsF64 (r .time)) (at : At t l x) where
     -- what is lent
@@ -114,7 +128,7 @@ module _ (g : Given) (a : Start) (run : Runs g a) where
     abbrev found : Called
     found = replyOf (r .kind) (r .numbers) (r .time) (lentOf l (x .lent .session) (r .question))
 
-    answered-is : answered x r ≡ found
+    answered-is : replied x r ≡ found
     answered-is = rw (at .work, at .pivots)
 
     takes : isTaken g l (fedAs r) ≡ asks (g .s .n) t (fedAs r)
@@ -150,57 +164,98 @@ module _ (g : Given) (a : Start) (run : Runs g a) where
       abbrev put : List Float
       put = questionOf (g .s) (m .turn .phase) (m .turn .common) (m .work) (r .question)
 
-      answered-taken : answered x r ≡ record {
+      answered-taken : replied x r ≡ record {
         reply = answerOf (m .turn .question);
         lent = lentOf m (encodeOf (sessionOf g m) (x .lent .session)) put;
       }
-      answered-taken = answered-is ∙ reply-taken g a run l (x .lent .session) (at .keeps) r sized running known well
+      answered-taken =
+          answered-is
+          ∙ reply-taken g a run l (x .lent .session) (at .keeps) r sized running (rw (known, is-taken)) well
 
-      says-it : saidBy (answered x r) ≡ saidAt (g .s .n) (step t (fedAs r)) (r .question)
+      says-it : saidBy (replied x r) ≡ saidAt (g .s .n) (step t (fedAs r)) (r .question)
       says-it =
           ap (λ (y : Called). saidBy y) answered-taken
           ∙ says-node g (step t (fedAs r)) m (r .question) stands well
           (λ e. unless (m .turn .phase) e (in-run m reached) .ranges .orders .nq .1)
           (omega (arith, keeps .lent .sized)) (eqb-true (length (r .question)) (14 * g .s .n + 6) sized)
 
-      at-next : At (step t (fedAs r)) m (answered x r)
-      at-next =
-          rw answered-taken
-          (record {
-            stands = stands;
-            reached = reached;
-            work = refl;
-            pivots = refl;
-            keeps = keeps;
-            phased = phase-node g m (well .agrees) (step t (fedAs r)) stands;
-          })
+      went : Went t l x r
+      went = record {
+        at = rw answered-taken
+            (record {
+              stands = stands;
+              reached = reached;
+              work = refl;
+              pivots = refl;
+              keeps = keeps;
+              phased = phase-node g m (well .agrees) (step t (fedAs r)) stands;
+            });
+        answer = ap (λ (y : Called). y .reply) answered-taken;
+        agrees = well .agrees;
+        said = says-it;
+      }
 
-    call-at : (b c : Bool) → isSized (g .s .n) r ≡ b → isAnswer (g .s .n) t r ≡ c → Outcome t l x r
+    call-at : (b c : Bool) → isSized n r ≡ b → isAwaited n t r ≡ c → Outcome t l x r
     call-at false c s e =
-        unsized s (answered-is ∙ reply-sizes g a run l (x .lent .session) (at .keeps) r s ∙ rw lent-is)
+        refused (rw s) (answered-is ∙ reply-sizes g a run l (x .lent .session) (at .keeps) r s ∙ rw (lent-is, s))
     call-at true false s e =
         let off : isKind (r .kind) && isTaken g l (fedAs r) ≡ false = rw takes e in
-        refused s e (answered-is ∙ reply-refused g a run l (x .lent .session) (at .keeps) r s off ∙ rw lent-is)
+        refused (rw (s, e))
+        (answered-is ∙ reply-unasked g a run l (x .lent .session) (at .keeps) r s off ∙ rw (lent-is, s))
     call-at true true s e =
-        let h = both (isKind (r .kind)) (asks (g .s .n) t (fedAs r)) e in
-        taken s e (at-next s (h .0) (h .1)) (ap (λ (y : Called). y .reply) (answered-taken s (h .0) (h .1)))
-        (well s (h .0) (h .1)) (says-it s (h .0) (h .1))
+        let h = both (isKind (r .kind)) (asks n t (fedAs r)) e in
+        taken (rw (s, e)) (went s (h .0) (h .1))
 
     pub call : Outcome t l x r
-    call = call-at (isSized (g .s .n) r) (isAnswer (g .s .n) t r) refl refl
+    call = call-at (isSized n r) (isAwaited n t r) refl refl
 
-  -- ---- a refused reply leaves the run where it stands
+  -- ---- what both outcomes have
 
-  pub at-leaves : {t : Play} {l : Left} {x : Called} (r : ReplyCall) (number : ℕ) → At t l x
-      → At t l (leaves x r number)
-  at-leaves r number at = record {
-    stands = at .stands;
-    reached = at .reached;
-    work = at .work;
-    pivots = at .pivots;
-    keeps = at .keeps;
-    phased = at .phased;
+  refused-refusal : (b : Bool) → isRefusal (plainOf (cond b 14 3) 0 zeroF zeroF) ≡ true
+  refused-refusal true = refl
+  refused-refusal false = refl
+
+  pub is-refusal : (t : Play) (l : Left) (x : Called) (r : ReplyCall) → Outcome t l x r
+      → isRefusal (replied x r .reply) ≡ not (isFitting t r)
+  is-refusal t l x r (refused e q) = rw (q, e) (refused-refusal (isSized n r))
+  is-refusal t l x r (taken e w) =
+      let u = next g l (fedAs r) .turn in
+      rw e (ap isRefusal (w .answer) ∙ not-refusal (u .question) (u .phase) (u .common) (w .agrees))
+
+  -- the run stands at the node that follows, which is the same where the reply is refused, and says what the tree says
+  pub record Moves (t : Play) (x : Called) (r : ReplyCall) : Type 0 where
+    pub left : Left
+    pub at : At (nextOf n t r) left (replied x r)
+    pub said : saidBy (replied x r) ≡ saidTo n t r
+
+  said-to : (b c : Bool) (z : Said) (q : List Float)
+      → cond b (cond c z (says (plainOf 14 0 zeroF zeroF) q)) (says (plainOf 3 0 zeroF zeroF) q)
+      ≡ cond (b && c) z (says (plainOf (cond b 14 3) 0 zeroF zeroF) q)
+  said-to true true z q = refl
+  said-to true false z q = refl
+  said-to false c z q = refl
+
+  moves-by : (t : Play) (l : Left) (x : Called) (r : ReplyCall) → At t l x → Outcome t l x r → Moves t x r
+  moves-by t l x r at (refused e q) = record {
+    left = l;
+    at = rw (e, q) (record {
+      stands = at .stands;
+      reached = at .reached;
+      work = at .work;
+      pivots = at .pivots;
+      keeps = at .keeps;
+      phased = at .phased;
+    });
+    said = rw (q, said-to (isSized n r) (isAwaited n t r) _ _, e);
   }
+  moves-by t l x r at (taken e w) = record {
+    left = next g l (fedAs r);
+    at = rw e (w .at);
+    said = rw (said-to (isSized n r) (isAwaited n t r) _ _, e) (w .said);
+  }
+
+  pub moves : (t : Play) (l : Left) (x : Called) (r : ReplyCall) → IsF64 (r .time) → At t l x → Moves t x r
+  moves t l x r f at = moves-by t l x r at (call t l x r f at)
 
 -- ---- the start
 
@@ -211,15 +266,15 @@ part-put at n l s h e =
 
 module _ (p : Problem) (b : Buffers) (begins : Begins p b) where
   abbrev g : Given
-  g = given p b begins
+  g = givenOf p b
 
   abbrev a : Start
-  a = from p b begins
+  a = fromOf p
 
   pub begun-at : At g a (begun-run p b begins) (treeOf p b) (startedAt g a) (startOf p b)
   unfolding after
   begun-at =
-      rw (begun-is p b begins)
+      rw (begun-is p b (begins .formed))
       (let stands = follows g a (begun-run p b begins .ok .settings) .stands in
       record {
         stands = stands;
@@ -237,4 +292,4 @@ module _ (p : Problem) (b : Buffers) (begins : Begins p b) where
       let zeros = replicate (n * n + 19 * n) zeroF in
       let long : length zeros ≡ n * n + 19 * n = length-replicate _ _ in
       let e = part-put (17 * n) n zeros (p .y0) (omega arith) refl in
-      ap (λ (y : Called). saidBy y) (begun-is p b begins) ∙ rw e
+      ap (λ (y : Called). saidBy y) (begun-is p b (begins .formed)) ∙ rw e

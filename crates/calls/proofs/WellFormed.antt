@@ -4,9 +4,9 @@
 -- Assumes nothing.
 use mathlib.Core.Bool.{Bool, true, false}
 use mathlib.Core.List.{List, [], _∷_}
-use mathlib.Core.Logic.{_⊎_, inl, inr, _≢_, _↔_}
+use mathlib.Core.Logic.{_⊎_, inl, inr, _↔_}
 use mathlib.Core.Path.{_≡_, refl, sym, ap, _∙_}
-use Prim.Native.Nat.{ℕ, zero, suc, _+_, _*_, _≤_, _<_}
+use Prim.Native.Nat.{ℕ, _≤_, _<_}
 use native.Mathlib.Omega.{arith}
 use lib.Dec.{eqb}
 use lib.Ieee as Ieee
@@ -16,14 +16,12 @@ use borrow.Author.Tests.{eqb-true, eqb-false, eq-eqb, ne-eqb, lt-ltb}
 use Rattle.loops.specs.Test.{differs}
 use Rattle.numbers.specs.Float.{_⊖_, zeroF}
 use Rattle.numbers.specs.Sign.{signumOf, refused}
-use Rattle.refusals.specs.declared.Lengths.{Lengths}
-use Rattle.refusals.specs.declared.Options.{Options}
 use Rattle.refusals.specs.declared.Refusal.{Refusal}
 use Rattle.refusals.specs.Start.{isNegative, startRefusalOf}
 use Rattle.refusals.specs.Accepted.{Started}
-use Rattle.refusals.specs.FirstStep.{StepRefused, StepTaken}
+use Rattle.refusals.specs.FirstStep.{StepTaken}
 use Rattle.refusals.specs.Rows.{Row, NoneHolds}
-use Rattle.refusals.specs.Table.{NotOneOrN, WrongList, WrongSlice, LargeSetting, BelowZero, toleranceRows}
+use Rattle.refusals.specs.Table.{NotOneOrN, WrongList, WrongSlice, LargeSetting}
 use Rattle.refusals.specs.Table.{stepRow, startRows}
 use Rattle.refusals.proofs.Accepted.{accepted}
 use Rattle.refusals.proofs.FirstStep.{step-taken, taken-not-refused}
@@ -37,14 +35,14 @@ use Rattle.calls.specs.WellFormed.{WellFormed}
 abbrev pub refusalOf : Problem → Buffers → Refusal
 refusalOf p b = startRefusalOf (p .x0) (p .xend) (p .options) (lengthsOf p b) (p .rtol) (p .atol)
 
-abbrev pub rowsOf : Problem → Buffers → List Row
-rowsOf p b = startRows (p .x0) (p .xend) (p .options) (lengthsOf p b) (p .rtol) (p .atol)
+abbrev pub refusalRows : Problem → Buffers → List Row
+refusalRows p b = startRows (p .x0) (p .xend) (p .options) (lengthsOf p b) (p .rtol) (p .atol)
 
 -- ---- the number
 
 module _ (p : Problem) (b : Buffers) where
-  small : refusalOf p b .number ≤ 11
-  small = at-most-eleven (p .x0) (p .xend) (p .options) (lengthsOf p b) (p .rtol) (p .atol)
+  pub at-most-11 : refusalOf p b .number ≤ 11
+  at-most-11 = at-most-eleven (p .x0) (p .xend) (p .options) (lengthsOf p b) (p .rtol) (p .atol)
 
   pub some-start : 1 ≤ length (p .y0) → startOf p b ≡ startAt p b (refusalOf p b)
   unfolding startOf
@@ -56,7 +54,7 @@ module _ (p : Problem) (b : Buffers) where
   at-number true e h = eqb-true _ _ e
   at-number false e h =
       let q : refusalOf p b .number ≡ 100 = rw e at h in
-      absurd (omega (arith, small, q))
+      absurd (omega (arith, at-most-11, q))
 
   start-at : (t : Bool) → eqb (length (p .y0)) 0 ≡ t → startOf p b .reply .number ≡ 100
       → (1 ≤ length (p .y0)) × (refusalOf p b .number ≡ 0)
@@ -149,7 +147,7 @@ module _ (p : Problem) (b : Buffers) where
         by (inl e) = h .0 e
         by (inr t) = taken-not-refused t (h .1)
 
-    fine : NoneHolds (rowsOf p b)
+    fine : NoneHolds (refusalRows p b)
     fine = (
           λ h. omega (arith, h, w .states .1), (lists-fine, (slices-fine, (settings-fine,
           (λ e. omega (arith, e, w .maxsteps .0), (λ e. omega (arith, e, w .maxcor .0), (orders-fine, (λ n. n (w .full),
@@ -161,7 +159,7 @@ module _ (p : Problem) (b : Buffers) where
   pub well-formed : WellFormed p b ↔ (startOf p b .reply .number ≡ 100)
   well-formed = (
         λ w. start-number-is p b .1 (w .states .0,
-        none-holds (rowsOf p b) (refusalOf p b)
+        none-holds (refusalRows p b) (refusalOf p b)
         (first-row (p .x0) (p .xend) (p .options) (lengthsOf p b) (p .rtol) (p .atol))
         (fine w)),
         λ h.

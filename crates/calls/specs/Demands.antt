@@ -1,7 +1,7 @@
 -- Demands 1 and 3 for the calls of a run (`calls-end` in proofs/Ends.antt, `calls-capped` in proofs/Capped.antt).
 -- Demand 3 counts the questions that the calls returned. Steps, families, Jacobians and ends are taken from the tree of
 -- the step rules, fed the start's arguments and the replies not refused: nothing of the session's but its accepted
--- count. A list that ends early covers the step under way.
+-- count. A list that ends early covers the step under way. That a run succeeds is not claimed: its end may be any.
 use mathlib.Core.Bool.{Bool, true, false, cond, _&&_, _||_}
 use mathlib.Core.List.{List, [], _∷_}
 use mathlib.Core.Path.{_≡_}
@@ -18,7 +18,7 @@ use Rattle.follows.specs.Seen.{step}
 use Rattle.answers.specs.declared.Reply.{Reply}
 use Rattle.answers.specs.Called.{Buffers, Called}
 use Rattle.raimsklo.specs.Calls.{Problem, startOf}
-use Rattle.calls.specs.Run.{ReplyCall, TimesFit, Solver, answeredBy, ours, answered, callsOf, lastOf, isRefusal}
+use Rattle.calls.specs.Run.{ReplyCall, TimesF64, Solver, answeredBy, ours, replied, callsOf, lastOf, isRefusal}
 use Rattle.calls.specs.Follow.{givenOf, treeOf, fedAs, isSized, Refused}
 
 -- ---- demand 1
@@ -47,17 +47,17 @@ abbrev pub AllWanted : ℕ → Called → List ReplyCall → Type 0
 AllWanted n x [] = Unit {0}
 AllWanted n x (r ∷ rs) =
     Unless (isEnd (x .reply))
-    ((wants n (x .reply .number) r ≡ true) × (isSized n r ≡ true) × AllWanted n (answered x r) rs)
+    ((wants n (x .reply .number) r ≡ true) × (isSized n r ≡ true) × AllWanted n (replied x r) rs)
 
 pub record CallsEnd (p : Problem) (b : Buffers) : Type 0 where
   -- one of the first `repliesOf` replies is answered by an end
-  pub ends : (rs : List ReplyCall) → TimesFit rs → AllWanted (length (p .y0)) (startOf p b) rs
+  pub ends : (rs : List ReplyCall) → TimesF64 rs → AllWanted (length (p .y0)) (startOf p b) rs
       → length rs ≡ repliesOf (givenOf p b .s) → hasEnd (callsOf (startOf p b) rs) ≡ true
   -- and after an end every reply is refused, by 14 (by 3 where the question's length is wrong), and changes nothing
-  pub after : (rs : List ReplyCall) (r : ReplyCall) → TimesFit rs → IsF64 (r .time)
+  pub after : (rs : List ReplyCall) (r : ReplyCall) → TimesF64 rs → IsF64 (r .time)
       → hasEnd (callsOf (startOf p b) rs) ≡ true
       → Refused (lastOf (startOf p b) rs) r
-      × (isSized (length (p .y0)) r ≡ true → answered (lastOf (startOf p b) rs) r .reply .number ≡ 14)
+      × (isSized (length (p .y0)) r ≡ true → replied (lastOf (startOf p b) rs) r .reply .number ≡ 14)
 
 -- ---- demand 3
 
@@ -105,4 +105,4 @@ pub record CappedAt (x : Called) (xs : List Step) : Type 0 where
 
 abbrev pub CallsCapped : Problem → Buffers → Type 0
 CallsCapped p b =
-    (rs : List ReplyCall) → TimesFit rs → CappedAt (lastOf (startOf p b) rs) (stepsIn p b rs)
+    (rs : List ReplyCall) → TimesF64 rs → CappedAt (lastOf (startOf p b) rs) (stepsIn p b rs)

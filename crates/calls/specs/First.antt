@@ -1,5 +1,6 @@
 -- What the reply to the first derivative is answered (01-scope, 'Limits and refusals'): 12, then 11 for the computed
--- step, and else the first report (102). `first-exactly` in proofs/First.antt.
+-- step, and else the first report (102). `first-exactly` in proofs/First.antt. What is then left in work and session is
+-- not said here (Follow).
 use mathlib.Core.Bool.{true}
 use mathlib.Core.List.{List, [], _∷_}
 use mathlib.Core.Path.{_≡_}
@@ -19,7 +20,7 @@ use Rattle.rules.specs.Rules.{beginning, firstStep, firstWeights}
 use Rattle.answers.specs.Answers.{refusedOf}
 use Rattle.answers.specs.Called.{Buffers}
 use Rattle.raimsklo.specs.Calls.{Problem, startOf}
-use Rattle.calls.specs.Run.{ReplyCall, answered}
+use Rattle.calls.specs.Run.{ReplyCall, replied}
 use Rattle.calls.specs.Follow.{givenOf, fromOf}
 
 -- the weight of state i: rtol·|y| + atol
@@ -34,19 +35,19 @@ weightRows p (suc k) i rest =
     ∷ weightRows p k (i + 1) rest
 
 -- the state with its weights, f being the first derivative, and the first step there: the one given or computed
-abbrev pub weightedAt : Problem → Buffers → List Float → State
-weightedAt p b f =
+abbrev pub weighedState : Problem → Buffers → List Float → State
+weighedState p b f =
     let g = givenOf p b in
     let x = beginning g (fromOf p) in
     put-w (inverted (length (p .y0)) (firstWeights g f x)) x
 
-abbrev pub stepAt : Problem → Buffers → List Float → Float
-stepAt p b f = firstStep (givenOf p b) (weightedAt p b f)
+abbrev pub firstStepSize : Problem → Buffers → List Float → Float
+firstStepSize p b f = firstStep (givenOf p b) (weighedState p b f)
 
 abbrev pub sizeRow : Problem → Buffers → List Float → Row
 sizeRow p b f = record {
-  refusal = record { number = 11; index = 0; value = stepAt p b f };
-  holds = StepRefused (stepAt p b f) (p .xend ⊖ p .x0);
+  refusal = record { number = 11; index = 0; value = firstStepSize p b f };
+  holds = StepRefused (firstStepSize p b f) (p .xend ⊖ p .x0);
 }
 
 abbrev pub firstRows : Problem → Buffers → List Float → List Row
@@ -54,5 +55,5 @@ firstRows p b f = weightRows p (length (p .y0)) 0 (sizeRow p b f ∷ [])
 
 abbrev pub FirstExactly : Problem → Buffers → ReplyCall → Type 0
 FirstExactly p b r =
-    let a = answered (startOf p b) r .reply in
+    let a = replied (startOf p b) r .reply in
     ExactlyFirst (λ q. a ≡ refusedOf q) (a .number ≡ 102) (Unit {0}) (firstRows p b (r .numbers))

@@ -1,7 +1,7 @@
 -- Demand 2 for the calls: what the calls of a run answer and leave in the question is what the tree of the step rules
 -- says, fed the start's arguments and the replies not refused, bit for bit (`calls-follow` in proofs/Follow.antt).
 -- What is left in work, pivots and session is the tree's too. No call of a run returns 13; a refused reply returns 3 or
--- 14 and changes nothing.
+-- 14 and changes nothing. That the tree is the Rust's is believed, not claimed (docs/PROOFS.md).
 use mathlib.Core.Bool.{Bool, true, false, cond, not, _&&_}
 use mathlib.Core.List.{List, [], _∷_, _++_, map}
 use mathlib.Core.Logic.{_⊎_}
@@ -12,6 +12,7 @@ use lib.ListN.{length, replicate}
 use lib.Ieee.{Float}
 use Rattle.loops.specs.Part.{putPart}
 use Rattle.numbers.specs.Float.{zeroF}
+use Rattle.common.specs.Limits.{maxStates}
 use Rattle.between_steps.specs.declared.Kind.the-variants as Kind
 use Rattle.turns.specs.declared.Phase.{Phase}
 use Rattle.turns.specs.declared.Phase.the-variants as Phase
@@ -19,8 +20,8 @@ use Rattle.machine.specs.Resume.{isAsked}
 use Rattle.refusals.specs.Start.{settingsOf, firstStepOf, smallestOf, inverseLargestOf}
 use Rattle.invariants.specs.Host.{IsF64}
 use Rattle.session.specs.Session.{decodeOf, rtolSlots, atolSlots}
-use Rattle.common.specs.State.{Given}
 use Rattle.rules.specs.Play.{derivativeAt, jacobianAt, Report, Play, ret, ask, tell, say}
+use Rattle.common.specs.State.{Given}
 use Rattle.rules.specs.Rules.{Start, start}
 use Rattle.rules.specs.Replies.{Reply as Fed}
 use Rattle.follows.specs.Seen.{Shown, wantsDerivative, wantsJacobian, reports, ends, refusesStep, refusesWeight}
@@ -31,8 +32,8 @@ use Rattle.answers.specs.Answers.{plainOf, endOf}
 use Rattle.answers.specs.Called.{Buffers, Called}
 use Rattle.replies.specs.Replies.{isKind, kindOf}
 use Rattle.raimsklo.specs.Calls.{Problem, lengthsOf, startOf}
-use Rattle.calls.specs.Run.{ReplyCall, TimesFit, Solver, lentFor, callsBy, lastBy, ours, answered, lastOf}
-use Rattle.calls.specs.Run.{isRefusal, takenOf}
+use Rattle.calls.specs.Run.{ReplyCall, TimesF64, Solver, lentFor, callsBy, lastBy, ours, replied, lastOf}
+use Rattle.calls.specs.Run.{isRefusal, takenReplies}
 
 -- ---- the tree of a run, from the start's arguments
 
@@ -103,8 +104,8 @@ abbrev pub fedAs : ReplyCall → Fed
 fedAs r = record { kind = kindOf (r .kind); numbers = r .numbers; time = r .time }
 
 -- of the kind and length asked
-abbrev pub isAnswer : ℕ → Play → ReplyCall → Bool
-isAnswer n t r = isKind (r .kind) && asks n t (fedAs r)
+abbrev pub isAwaited : ℕ → Play → ReplyCall → Bool
+isAwaited n t r = isKind (r .kind) && asks n t (fedAs r)
 
 -- with a question slice of 14·n + 6 numbers
 abbrev pub isSized : ℕ → ReplyCall → Bool
@@ -114,12 +115,12 @@ isSized n r = eqb (length (r .question)) (14 * n + 6)
 abbrev pub saidTo : ℕ → Play → ReplyCall → Said
 saidTo n t r =
     cond (isSized n r)
-    (cond (isAnswer n t r) (saidAt n (step t (fedAs r)) (r .question)) (says (plainOf 14 0 zeroF zeroF) (r .question)))
+    (cond (isAwaited n t r) (saidAt n (step t (fedAs r)) (r .question)) (says (plainOf 14 0 zeroF zeroF) (r .question)))
     (says (plainOf 3 0 zeroF zeroF) (r .question))
 
 -- where the tree stands then; a refused reply is passed over
 abbrev pub nextOf : ℕ → Play → ReplyCall → Play
-nextOf n t r = stepIf (isSized n r && isAnswer n t r) t (fedAs r)
+nextOf n t r = stepIf (isSized n r && isAwaited n t r) t (fedAs r)
 
 -- the answers to any list, refused ones included
 unfoldable pub toldBy : ℕ → Play → List ReplyCall → List Said
@@ -140,7 +141,7 @@ standsAt n t (r ∷ rs) = standsAt n (nextOf n t r) rs
 unfoldable pub heardOf : Called → List ReplyCall → List Said
 heardOf x [] = []
 heardOf x (r ∷ rs) =
-    keepIf (not (isRefusal (answered x r .reply))) (saidBy (answered x r)) (heardOf (answered x r) rs)
+    keepIf (not (isRefusal (replied x r .reply))) (saidBy (replied x r)) (heardOf (replied x r) rs)
 
 -- ---- the session that the tree's node stands for
 
@@ -157,9 +158,9 @@ PhaseAt n (ask (jacobianAt t v) x k) phase = phase ≡ Phase.JacobianAsked
 PhaseAt n (tell r x k) phase = phase ≡ cond (isStep (r .snapshot)) Phase.Report Phase.FirstReport
 PhaseAt n (say e p) phase = PhaseAt n p phase
 
--- a tolerance list in its 64 slots: those beyond it are 0
+-- a tolerance list in its slots, one for each state that there can be: those beyond it are 0
 abbrev pub slotsOf : List Float → List Float
-slotsOf list = list ++ replicate (64 - length list) zeroF
+slotsOf list = list ++ replicate (maxStates - length list) zeroF
 
 pub record SessionAt (p : Problem) (b : Buffers) (t : Play) (bytes : List ℕ) : Type 0 where
   pub sized : length bytes ≡ 1448
@@ -176,34 +177,34 @@ pub record SessionAt (p : Problem) (b : Buffers) (t : Play) (bytes : List ℕ) :
 
 -- a refused reply: by 3 or 14, with everything that was lent as it was
 pub record Refused (x : Called) (r : ReplyCall) : Type 0 where
-  pub number : (answered x r .reply .number ≡ 3) ⊎ (answered x r .reply .number ≡ 14)
-  pub unchanged : answered x r .lent ≡ lentFor x r
+  pub number : (replied x r .reply .number ≡ 3) ⊎ (replied x r .reply .number ≡ 14)
+  pub unchanged : replied x r .lent ≡ lentFor x r
 
 -- demand 2, for the calls of any solver
 pub record Demand2 (f : Solver) (p : Problem) (b : Buffers) : Type 0 where
   -- the start
   pub first : saidBy (f .start p b) ≡ saidAt (length (p .y0)) (treeOf p b) (b .question)
   -- any replies, refused ones included
-  pub answers : (rs : List ReplyCall) → TimesFit rs
+  pub answers : (rs : List ReplyCall) → TimesF64 rs
       → map saidBy (callsBy f (f .start p b) rs) ≡ toldBy (length (p .y0)) (treeOf p b) rs
   -- what the session decodes to, at an end too
-  pub session : (rs : List ReplyCall) → TimesFit rs
+  pub session : (rs : List ReplyCall) → TimesF64 rs
       → SessionAt p b (standsAt (length (p .y0)) (treeOf p b) rs) (lastBy f (f .start p b) rs .lent .session)
 
 -- and for ours
 pub record CallsFollow (p : Problem) (b : Buffers) : Type 0 where
   pub demand : Demand2 ours p b
   -- the replies not refused, fed to the tree
-  pub taken : (rs : List ReplyCall) → TimesFit rs
-      → heardOf (startOf p b) rs ≡ fedTo (length (p .y0)) (treeOf p b) (takenOf (startOf p b) rs)
+  pub taken : (rs : List ReplyCall) → TimesF64 rs
+      → heardOf (startOf p b) rs ≡ fedTo (length (p .y0)) (treeOf p b) (takenReplies (startOf p b) rs)
   -- work and pivots are the tree's
-  pub work : (rs : List ReplyCall) → TimesFit rs
+  pub work : (rs : List ReplyCall) → TimesF64 rs
       → lastOf (startOf p b) rs .lent .work ≡ stateAt (standsAt (length (p .y0)) (treeOf p b) rs) .w
-  pub pivots : (rs : List ReplyCall) → TimesFit rs
+  pub pivots : (rs : List ReplyCall) → TimesF64 rs
       → lastOf (startOf p b) rs .lent .pivots ≡ stateAt (standsAt (length (p .y0)) (treeOf p b) rs) .p
   -- refused ones change nothing
-  pub refused : (rs : List ReplyCall) (r : ReplyCall) → TimesFit rs → IsF64 (r .time)
-      → isRefusal (answered (lastOf (startOf p b) rs) r .reply) ≡ true → Refused (lastOf (startOf p b) rs) r
+  pub refused : (rs : List ReplyCall) (r : ReplyCall) → TimesF64 rs → IsF64 (r .time)
+      → isRefusal (replied (lastOf (startOf p b) rs) r .reply) ≡ true → Refused (lastOf (startOf p b) rs) r
   -- no session of a run is out of range
-  pub never-13 : (rs : List ReplyCall) (r : ReplyCall) → TimesFit rs → IsF64 (r .time)
-      → answered (lastOf (startOf p b) rs) r .reply .number ≡ 13 → ⊥
+  pub never-13 : (rs : List ReplyCall) (r : ReplyCall) → TimesF64 rs → IsF64 (r .time)
+      → replied (lastOf (startOf p b) rs) r .reply .number ≡ 13 → ⊥

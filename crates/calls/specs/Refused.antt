@@ -1,5 +1,6 @@
 -- A refused call leaves every lent slice as it was, whatever was lent, in a run or not; so does a start without states
--- (`refused-unchanged` in proofs/Refused.antt; the table of 01-scope's 'Limits and refusals').
+-- (`refused-unchanged` in proofs/Refused.antt; the table of 01-scope's 'Limits and refusals'). Of 11 and 12 answered
+-- to a reply it says nothing: those replies are taken.
 use mathlib.Core.Bool.{true}
 use mathlib.Core.List.{List}
 use mathlib.Core.Logic.{_⊎_}

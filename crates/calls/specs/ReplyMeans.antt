@@ -1,7 +1,8 @@
 -- What each number that a reply answers means, whatever is lent (01-scope, 'What the host sees', 'Limits and refusals',
--- 'A step'); 3, 13 and 14 are the rows of ReplyRefused. `reply-means` in proofs/ReplyMeans.antt, `kinds` and `numbers`
--- in proofs/ReplyTurns.antt, `gap` in proofs/ReplyGap.antt.
--- A reply that is taken is answered by the machine's turn, which is what the session then keeps.
+-- 'A step'); 3, 13 and 14 are the rows of ReplyRefused. `reply-means`, `kinds` and `numbers` in
+-- proofs/ReplyMeans.antt, `gap` in proofs/ReplyGap.antt.
+-- A reply that is taken is answered by the machine's turn, which is what the session then keeps. That the
+-- contents are a run's is neither asked nor claimed.
 use mathlib.Core.Bool.{true, false}
 use mathlib.Core.List.{List}
 use mathlib.Core.Logic.{_⊎_, _↔_}
@@ -30,10 +31,9 @@ use Rattle.turns.specs.declared.Question.the-variants as Question
 use Rattle.between_steps.specs.declared.Status.{Status}
 use Rattle.between_steps.specs.declared.Status.the-variants as Status
 use Rattle.turns.specs.declared.Step.{Step}
-use Rattle.turns.specs.declared.Turn.{Turn}
 use Rattle.between_steps.specs.Begin.{isGoing}
-use Rattle.between_steps.specs.Pass.{isSupplied}
 use Rattle.passes.specs.Pass.{acceptedOf}
+use Rattle.between_steps.specs.Pass.{isSupplied}
 use Rattle.session.specs.Session.{decodeOf, encodeOf}
 use Rattle.refusals.specs.Rows.{NoneHolds}
 use Rattle.answers.specs.declared.Reply.{Reply}
@@ -41,7 +41,7 @@ use Rattle.answers.specs.Answers.{plainOf, answerOf}
 use Rattle.answers.specs.Called.{Buffers}
 use Rattle.replies.specs.Replies.{kindOf, turned}
 use Rattle.raimsklo.specs.Calls.{replyOf}
-use Rattle.calls.specs.ReplyRefused.{Awaited, derivative, jacobian, answer, nothing, awaits, phaseIn}
+use Rattle.calls.specs.ReplyRefused.{derivative, jacobian, nothing, awaits, phaseIn}
 use Rattle.calls.specs.ReplyRefused.{replyRows}
 
 -- ---- the numbers
@@ -77,8 +77,8 @@ endedBy number c = record {
   rejected = c .rejected;
 }
 
-abbrev pub endOf : Status → Common → End
-endOf status c = record {
+abbrev pub endFrom : Status → Common → End
+endFrom status c = record {
   h = c .h;
   status = status;
   nfe = c .nfe;
@@ -95,12 +95,12 @@ pub record Numbers : Type 0 where
   pub jacobian : (a : At) → answerOf (Question.Jacobian a) ≡ plainOf 101 0 zeroF (a .time)
   pub first : (a : At) → answerOf (Question.FirstReport a) .number ≡ 102
   pub report : (r : Step) → answerOf (Question.Report r) .number ≡ 103
-  pub success : (c : Common) → answerOf (Question.Finished (endOf Status.Success c)) ≡ endedBy 110 c
-  pub interrupted : (c : Common) → answerOf (Question.Finished (endOf Status.Interrupted c)) ≡ endedBy 111 c
-  pub more : (c : Common) → answerOf (Question.Finished (endOf Status.NeedsMoreSteps c)) ≡ endedBy 112 c
-  pub small : (c : Common) → answerOf (Question.Finished (endOf Status.StepTooSmall c)) ≡ endedBy 113 c
-  pub poor : (c : Common) → answerOf (Question.Finished (endOf Status.PoorConvergence c)) ≡ endedBy 114 c
-  pub gap : (c : Common) → answerOf (Question.Finished (endOf Status.CoefficientGap c)) ≡ endedBy 115 c
+  pub success : (c : Common) → answerOf (Question.Finished (endFrom Status.Success c)) ≡ endedBy 110 c
+  pub interrupted : (c : Common) → answerOf (Question.Finished (endFrom Status.Interrupted c)) ≡ endedBy 111 c
+  pub more : (c : Common) → answerOf (Question.Finished (endFrom Status.NeedsMoreSteps c)) ≡ endedBy 112 c
+  pub small : (c : Common) → answerOf (Question.Finished (endFrom Status.StepTooSmall c)) ≡ endedBy 113 c
+  pub poor : (c : Common) → answerOf (Question.Finished (endFrom Status.PoorConvergence c)) ≡ endedBy 114 c
+  pub gap : (c : Common) → answerOf (Question.Finished (endFrom Status.CoefficientGap c)) ≡ endedBy 115 c
   pub step : (h : Float) → answerOf (Question.StepRefused h) ≡ plainOf 11 0 h zeroF
   pub weight : (i : ℕ) → answerOf (Question.WeightRefused i) ≡ plainOf 12 i zeroF zeroF
 
@@ -114,13 +114,13 @@ AtReport p = (p ≡ Phase.FirstReport) ⊎ (p ≡ Phase.Report)
 --     success: (xend − time)·direction is not above 0; needs more steps: it is, and max_steps are accepted
 --     too small: |h| ≤ hmin·1.00001, or the tenth error failure; poor: |h| ≤ hmin·1.00001, or the mxncf-th failure
 --     coefficient gap: family 2, order 6 or more, icount below 0 (1,000,000 is added to it)
-abbrev pub Ended : Settings → Phase → Kind → Status → Common → Type 0
-Ended s before kind Status.Success c = isGoing s c ≡ false
-Ended s before kind Status.Interrupted c = AtReport before × (kind ≡ Kind.Report Answer.Interrupt)
-Ended s before kind Status.NeedsMoreSteps c = (isGoing s c ≡ true) × (s .maxsteps ≤ c .nst)
-Ended s before kind Status.StepTooSmall c = (tinyOf c ≡ true) ⊎ (c .kflag ≡ 10)
-Ended s before kind Status.PoorConvergence c = (tinyOf c ≡ true) ⊎ (c .ncf ≡ mxncfOf s)
-Ended s before kind Status.CoefficientGap c = (c .meth ≡ Bdf) × (6 ≤ c .nq) × (c .icount < 1000000)
+abbrev pub HeldAtEnd : Settings → Phase → Kind → Status → Common → Type 0
+HeldAtEnd s before kind Status.Success c = isGoing s c ≡ false
+HeldAtEnd s before kind Status.Interrupted c = AtReport before × (kind ≡ Kind.Report Answer.Interrupt)
+HeldAtEnd s before kind Status.NeedsMoreSteps c = (isGoing s c ≡ true) × (s .maxsteps ≤ c .nst)
+HeldAtEnd s before kind Status.StepTooSmall c = (tinyOf c ≡ true) ⊎ (c .kflag ≡ 10)
+HeldAtEnd s before kind Status.PoorConvergence c = (tinyOf c ≡ true) ⊎ (c .ncf ≡ mxncfOf s)
+HeldAtEnd s before kind Status.CoefficientGap c = (c .meth ≡ Bdf) × (6 ≤ c .nq) × (c .icount < 1000000)
 
 -- the question, the phase that waits for its reply, and the record then
 abbrev pub Meant : Settings → Phase → Kind → Question → Phase → Common → Type 0
@@ -132,7 +132,7 @@ Meant s before kind (Question.FirstReport a) after c =
 Meant s before kind (Question.Report r) after c =
     (after ≡ Phase.Report) × (r ≡ record { previous = c .told; time = c .tn; count = c .count; order = c .nq })
 Meant s before kind (Question.Finished e) after c =
-    (awaits after ≡ nothing) × (e ≡ endOf (e .status) c) × Ended s before kind (e .status) c
+    (awaits after ≡ nothing) × (e ≡ endFrom (e .status) c) × HeldAtEnd s before kind (e .status) c
 Meant s before kind (Question.StepRefused h) after c =
     (awaits after ≡ nothing) × (before ≡ Phase.FirstDerivative) × (refused h (s .direction) ≡ true)
 Meant s before kind (Question.WeightRefused i) after c = awaits after ≡ nothing

@@ -1,14 +1,17 @@
 -- What a reply is refused for, whatever is lent: the rows of 01-scope's table for a reply ('Limits and refusals'), in
 -- the order in which they are looked at, each condition as a proposition; and what each phase asks for.
--- `reply-refused` (proofs/ReplyRefused.antt): the first row whose condition holds is the answer.
+-- `reply-refused` (proofs/ReplyRefused.antt): the first row whose condition holds is the answer. Which rows a run
+-- can meet is not said here (Follow: no 13).
 use mathlib.Core.Bool.{false}
 use mathlib.Core.List.{List, [], _∷_}
 use mathlib.Core.Logic.{_⊎_, _≢_, _↔_}
 use mathlib.Core.Path.{_≡_}
-use Prim.Native.Nat.{ℕ, _+_, _*_, _≤_, _<_}
+use Prim.Native.Nat.{ℕ, _+_, _*_, _<_}
 use lib.ListN.{length}
 use lib.Ieee.{Float}
 use Rattle.numbers.specs.Float.{zeroF}
+use Rattle.common.specs.Layout.{workLength}
+use Rattle.common.specs.Limits.{maxStates}
 use Rattle.turns.specs.declared.Phase.{Phase}
 use Rattle.turns.specs.declared.Phase.the-variants as Phase
 use Rattle.fields.specs.States.{phaseOf}
@@ -56,10 +59,10 @@ phaseIn b = phaseOf (Word.phase (b .session))
 abbrev pub replyRows : ℕ → List Float → Buffers → List Row
 replyRows kind numbers b =
     let n = Word.n (b .session) in
-    -- the session's length; a stored n outside 1 to 64; the lengths that need n
+    -- the session's length; a stored n that is no number of states; the lengths that need n
     row 3 (length (b .session) ≢ 1448)
-    ∷ row 13 ((n ≡ 0) ⊎ (64 < n))
-    ∷ row 3 ((length (b .work) ≢ n * n + 19 * n) ⊎ (length (b .pivots) ≢ n) ⊎ (length (b .question) ≢ 14 * n + 6))
+    ∷ row 13 ((n ≡ 0) ⊎ (maxStates < n))
+    ∷ row 3 ((length (b .work) ≢ workLength n) ⊎ (length (b .pivots) ≢ n) ⊎ (length (b .question) ≢ 14 * n + 6))
     -- finished: the other values always pass 13
     ∷ row 14 (Word.phase (b .session) ≡ 10)
     -- a value out of range

@@ -1,6 +1,7 @@
 -- A run as a list of calls (01-scope, 'What the host sees'): one accepted start and any replies, refused ones included,
 -- each given work, pivots and session exactly as the call before left them, and a question slice lent anew.
 -- start and reply are `startOf` and `replyOf` of crate raimsklo, which the contracts of the two functions cite.
+-- Nothing asks that the replies belong to one system of equations.
 use mathlib.Core.Bool.{Bool, not, _||_}
 use mathlib.Core.List.{List, [], _∷_}
 use Prim.Native.Nat.{ℕ}
@@ -39,9 +40,9 @@ pub record ReplyCall : Type 0 where
   pub question : List Float
 
 -- every time is an f64
-abbrev pub TimesFit : List ReplyCall → Type 0
-TimesFit [] = Unit {0}
-TimesFit (r ∷ rs) = IsF64 (r .time) × TimesFit rs
+abbrev pub TimesF64 : List ReplyCall → Type 0
+TimesF64 [] = Unit {0}
+TimesF64 (r ∷ rs) = IsF64 (r .time) × TimesF64 rs
 
 -- ---- the calls of any solver that starts and replies so; x is the call before
 
@@ -72,8 +73,8 @@ lastBy f x (r ∷ rs) = lastBy f (answeredBy f x r) rs
 abbrev pub ours : Solver
 ours = record { start = startOf; reply = replyOf }
 
-abbrev pub answered : Called → ReplyCall → Called
-answered x r = answeredBy ours x r
+abbrev pub replied : Called → ReplyCall → Called
+replied x r = answeredBy ours x r
 
 abbrev pub callsOf : Called → List ReplyCall → List Called
 callsOf x rs = callsBy ours x rs
@@ -87,6 +88,6 @@ lastOf x rs = lastBy ours x rs
 abbrev pub isRefusal : Reply → Bool
 isRefusal a = eqb (a .number) 3 || (eqb (a .number) 13 || eqb (a .number) 14)
 
-unfoldable pub takenOf : Called → List ReplyCall → List ReplyCall
-takenOf x [] = []
-takenOf x (r ∷ rs) = keepIf (not (isRefusal (answered x r .reply))) r (takenOf (answered x r) rs)
+unfoldable pub takenReplies : Called → List ReplyCall → List ReplyCall
+takenReplies x [] = []
+takenReplies x (r ∷ rs) = keepIf (not (isRefusal (replied x r .reply))) r (takenReplies (replied x r) rs)

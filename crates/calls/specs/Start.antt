@@ -1,5 +1,6 @@
 -- What a start answers and leaves, for any problem and whatever is lent (`starts-exactly` in proofs/Exactly.antt,
--- `starts-fresh` in proofs/Fresh.antt). The order of the refusals is that of the rows.
+-- `starts-fresh` in proofs/Fresh.antt). The order of the refusals is that of the rows. What the
+-- first derivative is then answered is First's.
 use mathlib.Core.List.{List, _∷_}
 use mathlib.Core.Path.{_≡_}
 use lib.ListN.{length}
@@ -10,11 +11,10 @@ use Rattle.refusals.specs.Table.{startRows}
 use Rattle.answers.specs.Answers.{refusedOf}
 use Rattle.answers.specs.Called.{Buffers}
 use Rattle.raimsklo.specs.Calls.{Problem, lengthsOf, startOf}
-use Rattle.calls.specs.WellFormed.{WellFormed}
 
 -- an empty y0 is success (110) before everything; then 1 to 11
-abbrev pub rowsOf : Problem → Buffers → List Row
-rowsOf p b =
+abbrev pub startCallRows : Problem → Buffers → List Row
+startCallRows p b =
     row 110 (length (p .y0) ≡ 0)
     ∷ startRows (p .x0) (p .xend) (p .options) (lengthsOf p b) (p .rtol) (p .atol)
 
@@ -25,7 +25,7 @@ Returned p b r = startOf p b ≡ record { reply = refusedOf r; lent = b }
 -- a row is returned exactly if its condition holds and no earlier one does; the first derivative is wanted (100)
 -- exactly if none holds
 abbrev pub StartsExactly : Problem → Buffers → Type 0
-StartsExactly p b = ExactlyFirst (Returned p b) (startOf p b .reply .number ≡ 100) (Unit {0}) (rowsOf p b)
+StartsExactly p b = ExactlyFirst (Returned p b) (startOf p b .reply .number ≡ 100) (Unit {0}) (startCallRows p b)
 
 -- an accepted start answers and leaves the same whatever the slices held, but for the question, where y stands first
 -- and the rest is as lent

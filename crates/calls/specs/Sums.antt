@@ -1,6 +1,7 @@
 -- The sums worked by hand of 01-scope, (1) to (12), as one table (`sums` in proofs/Sums.antt). (8) to (12) go through
 -- the calls: a start on any slices of the right lengths, and a host that gives derivatives and continues at reports,
 -- each reply with any question slice of the right length. What a sum does not name has the Rust's default.
+-- The scope's sums that are only run are not among them.
 use mathlib.Core.Bool.{true, false}
 use mathlib.Core.List.{List, [], _∷_}
 use mathlib.Core.Path.{_≡_}
@@ -8,7 +9,7 @@ use Prim.Native.Nat.{ℕ, _+_}
 use lib.ListN.{length}
 use lib.Ieee.{Float, nan}
 use Rattle.loops.specs.Part.{part}
-use Rattle.numbers.specs.Float.{lit, zeroF, oneF, uround, d0·5, d2, d5, d100}
+use Rattle.numbers.specs.Float.{lit, zeroF, oneF, uround, d0·5, d2, d3, d5, d100}
 use Rattle.root.specs.Root.{rootOf}
 use Rattle.coefficients.specs.Table.{elcoOf, tescoOf}
 use Rattle.vectors.specs.Norm.{vmnormOf}
@@ -20,10 +21,7 @@ use Rattle.refusals.specs.declared.Options.{Options}
 use Rattle.answers.specs.declared.Reply.{Reply}
 use Rattle.answers.specs.Called.{Buffers, Called}
 use Rattle.raimsklo.specs.Calls.{Problem, startOf}
-use Rattle.calls.specs.Run.{ReplyCall, answered}
-
-abbrev pub d3 : Float
-d3 = lit 0x4008_0000_0000_0000
+use Rattle.calls.specs.Run.{ReplyCall, replied}
 
 abbrev pub d4·5 : Float
 d4·5 = lit 0x4012_0000_0000_0000
@@ -103,7 +101,7 @@ pub data Act : Type 0 where
   continues : Act
 
 -- slices for one state: those of the start, and a question slice for each reply, with whatever they hold
-pub record Lent (b : Buffers) (q : ℕ → List Float) : Type 0 where
+pub record LentOne (b : Buffers) (q : ℕ → List Float) : Type 0 where
   pub work : length (b .work) ≡ 20
   pub pivots : length (b .pivots) ≡ 1
   pub session : length (b .session) ≡ 1448
@@ -115,8 +113,8 @@ replyWith kind numbers time question = record { kind = kind; numbers = numbers; 
 
 -- a derivative; or continue, with the state that stands first in the question and the report's time
 abbrev pub actedBy : Called → Act → List Float → Called
-actedBy x (gives f) q = answered x (replyWith 1 (f ∷ []) zeroF q)
-actedBy x continues q = answered x (replyWith 3 (part 0 1 (x .lent .question)) (x .reply .time) q)
+actedBy x (gives f) q = replied x (replyWith 1 (f ∷ []) zeroF q)
+actedBy x continues q = replied x (replyWith 3 (part 0 1 (x .lent .question)) (x .reply .time) q)
 
 -- the i-th reply is lent q i
 unfoldable pub hostedBy : Called → ℕ → (ℕ → List Float) → List Act → Called
@@ -130,12 +128,12 @@ pub record Result : Type 0 where
   pub reply : Reply
   pub y : List Float
 
-pub record Row : Type 0 where
+pub record SumRow : Type 0 where
   pub problem : Single
   pub acts : List Act
   pub result : Result
 
-unfoldable pub resultOf : Buffers → (ℕ → List Float) → Row → Result
+unfoldable pub resultOf : Buffers → (ℕ → List Float) → SumRow → Result
 resultOf b q r =
     let x = hostedBy (startOf (problemOf (r .problem)) b) 0 q (r .acts) in
     record { reply = x .reply; y = column 1 0 (x .lent .work) }
@@ -150,35 +148,35 @@ ended number h nfe total accepted rejected v = record {
   y = v ∷ [];
 }
 
-abbrev pub row8 : Row
+abbrev pub row8 : SumRow
 row8 = record {
   problem = problem8;
   acts = gives zeroF ∷ continues ∷ gives zeroF ∷ continues ∷ [];
   result = ended 110 oneF 2 1 1 0 d2;
 }
 
-abbrev pub row9 : Row
+abbrev pub row9 : SumRow
 row9 = record {
   problem = problem8;
   acts = gives zeroF ∷ continues ∷ gives nan ∷ continues ∷ [];
   result = ended 110 oneF 2 1 1 0 nan;
 }
 
-abbrev pub row10 : Row
+abbrev pub row10 : SumRow
 row10 = record {
   problem = problem10;
   acts = gives zeroF ∷ continues ∷ gives zeroF ∷ continues ∷ [];
   result = ended 112 oneF 2 1 1 0 d2;
 }
 
-abbrev pub row11 : Row
+abbrev pub row11 : SumRow
 row11 = record {
   problem = problem11;
   acts = gives zeroF ∷ continues ∷ gives d100 ∷ [];
   result = ended 114 oneF 2 0 0 0 zeroF;
 }
 
-abbrev pub row12 : Row
+abbrev pub row12 : SumRow
 row12 = record {
   problem = problem12;
   acts = gives zeroF ∷ continues ∷ gives d100 ∷ gives d100 ∷ [];
@@ -213,12 +211,12 @@ pub record Sums : Type 0 where
   pub seven : (y : Float) → (interpolateOf d0·75 (snapshot d0·5) (y ∷ []) ≡ outputs 0 (d1·75 ∷ []))
       × (interpolateOf d0·75 (snapshot zeroF) (y ∷ []) ≡ outputs 17 (y ∷ []))
   -- (8) derivatives 0: success, h 1, 2 derivatives, steps 1, 1, 0
-  pub eight : (b : Buffers) (q : ℕ → List Float) → Lent b q → resultOf b q row8 ≡ row8 .result
+  pub eight : (b : Buffers) (q : ℕ → List Float) → LentOne b q → resultOf b q row8 ≡ row8 .result
   -- (9) second derivative NaN there: success, y NaN
-  pub nine : (b : Buffers) (q : ℕ → List Float) → Lent b q → resultOf b q row9 ≡ row9 .result
+  pub nine : (b : Buffers) (q : ℕ → List Float) → LentOne b q → resultOf b q row9 ≡ row9 .result
   -- (10) (8) with end 2, max_steps 1: needs more steps
-  pub ten : (b : Buffers) (q : ℕ → List Float) → Lent b q → resultOf b q row10 ≡ row10 .result
+  pub ten : (b : Buffers) (q : ℕ → List Float) → LentOne b q → resultOf b q row10 ≡ row10 .result
   -- (11) derivatives 0, 100: poor, steps 0, 0, 0
-  pub eleven : (b : Buffers) (q : ℕ → List Float) → Lent b q → resultOf b q row11 ≡ row11 .result
+  pub eleven : (b : Buffers) (q : ℕ → List Float) → LentOne b q → resultOf b q row11 ≡ row11 .result
   -- (12) derivatives 0, 100, 100: too small, steps 0, 0, 1
-  pub twelve : (b : Buffers) (q : ℕ → List Float) → Lent b q → resultOf b q row12 ≡ row12 .result
+  pub twelve : (b : Buffers) (q : ℕ → List Float) → LentOne b q → resultOf b q row12 ≡ row12 .result

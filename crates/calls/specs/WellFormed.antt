@@ -1,5 +1,6 @@
 -- A well-formed problem with what is lent for it (01-scope, 'Limits and refusals'). Those are the problems that are
--- accepted: `well-formed` in proofs/WellFormed.antt has WellFormed p b ↔ (the start returns 100).
+-- accepted: `well-formed` in proofs/WellFormed.antt has WellFormed p b ↔ (the start returns 100). That its run
+-- succeeds is not claimed.
 use mathlib.Core.Bool.{false}
 use mathlib.Core.Logic.{_⊎_}
 use mathlib.Core.Path.{_≡_}
@@ -8,18 +9,20 @@ use lib.ListN.{length, getD}
 use lib.Ieee as Ieee
 use lib.Ieee.{nan}
 use Rattle.numbers.specs.Float.{_⊖_, zeroF}
+use Rattle.common.specs.Layout.{workLength}
+use Rattle.common.specs.Limits.{maxStates}
 use Rattle.refusals.specs.FirstStep.{StepTaken}
 use Rattle.answers.specs.Called.{Buffers}
 use Rattle.raimsklo.specs.Calls.{Problem}
 
 pub record WellFormed (p : Problem) (b : Buffers) : Type 0 where
   -- 1 to 64 states
-  pub states : (1 ≤ length (p .y0)) × (length (p .y0) ≤ 64)
+  pub states : (1 ≤ length (p .y0)) × (length (p .y0) ≤ maxStates)
   -- tolerance lists 1 or n long
   pub rtol : (length (p .rtol) ≡ 1) ⊎ (length (p .rtol) ≡ length (p .y0))
   pub atol : (length (p .atol) ≡ 1) ⊎ (length (p .atol) ≡ length (p .y0))
   -- n·n + 19·n numbers of work, n pivots, 1448 bytes of session, 14·n + 6 numbers of question
-  pub work : length (b .work) ≡ length (p .y0) * length (p .y0) + 19 * length (p .y0)
+  pub work : length (b .work) ≡ workLength (length (p .y0))
   pub pivots : length (b .pivots) ≡ length (p .y0)
   pub session : length (b .session) ≡ 1448
   pub question : length (b .question) ≡ 14 * length (p .y0) + 6
