@@ -19,7 +19,7 @@ use Rattle.common.specs.Record.{with-h, with-hu, with-rc, with-el0, with-conit,
 use Rattle.common.specs.Record.{with-nq, with-nqnyh, with-ialth, with-icount}
 use Rattle.common.specs.Rules.{resetOf, icount20}
 use Rattle.history.specs.Steps.{leastOf, limitedOf, adjustOf}
-use Rattle.history.proofs.Laws.{chosen-if, length-for, length-rescale}
+use Rattle.history.proofs.Laws.{chosen-if, length-loop, length-rescale}
 use Rattle.acceptance.specs.declared.family.Proposal.{Proposal}
 use Rattle.acceptance.specs.declared.Branch.{Branch}
 use Rattle.acceptance.specs.declared.Branch.the-variants.{SmallGain, Lowered, Kept, Raised, HeldBySm1}
@@ -122,7 +122,7 @@ module _ (s : Settings) (k : ℕ) where
 
   length-raise-column : (n j : ℕ) (r : Float) (work : List Float) → length (raiseColumnOf n j r work) ≡ length work
   unfolding raiseColumnOf
-  length-raise-column n j r work = length-for (raiseColumnAt n j r) 0 n work (λ i t. simp length-set)
+  length-raise-column n j r work = length-loop (raiseColumnAt n j r) 0 n work (λ i t. simp length-set)
 
   raise-moves : (c : Common) (up : Float) (work : List Float) → Moves s c k work (raiseOf s c up work)
   unfolding raiseOf
@@ -155,7 +155,7 @@ module _ (s : Settings) (k : ℕ) where
   unfolding raisedLeftOf raisedWorkOf
   length-raised-left c work =
       chosen-if (λ (l : List Float). length l ≡ length work) (eqb (c .nq + 1) (c .lmax)) (λ e. refl)
-      (λ e. length-for (raisedAt (s .n) (c .lmax)) 0 (s .n) work (λ i t. simp length-set))
+      (λ e. length-loop (raisedAt (s .n) (c .lmax)) 0 (s .n) work (λ i t. simp length-set))
 
   pub choose-order-moves : (c : Common) (dsm : Float) (work : List Float)
       → Moves s c k work (chooseOrderOf s c dsm work)

@@ -34,8 +34,8 @@ pub record Attempt : Type 0 where
 abbrev pub goesOn : Next → Moved → Attempt
 goesOn next m = record { next = next; common = m .common; work = m .work }
 
-abbrev pub stopped : Next → Common → List Float → Attempt
-stopped next c work = record { next = next; common = c; work = work }
+abbrev pub stopsAs : Next → Common → List Float → Attempt
+stopsAs next c work = record { next = next; common = c; work = work }
 
 -- the time goes back, and the next rescale may at most double
 unfoldable pub retractedOf : Common → Common
@@ -69,7 +69,7 @@ quarteredOf s c work =
     repredictOf s d (maxOf d0·25 (leastOf d)) work
 
 unfoldable pub noConvergenceAt : Settings → Bool → Common → List Float → Attempt
-noConvergenceAt s true c work = stopped Poor c work
+noConvergenceAt s true c work = stopsAs Poor c work
 noConvergenceAt s false c work = goesOn Pass (quarteredOf s c work)
 
 unfoldable pub noConvergenceOf : Settings → Common → List Float → Attempt
@@ -97,9 +97,9 @@ tenthOf s c work =
 
 -- tiny; below the third failure; the tenth
 unfoldable pub missedAt : Settings → Float → Bool → Bool → Bool → Common → List Float → Attempt
-missedAt s dsm true early last c work = stopped TooSmall c work
+missedAt s dsm true early last c work = stopsAs TooSmall c work
 missedAt s dsm false true last c work = goesOn Pass (repredictOf s c (shrunkOf c dsm) work)
-missedAt s dsm false false true c work = stopped TooSmall c work
+missedAt s dsm false false true c work = stopsAs TooSmall c work
 missedAt s dsm false false false c work = goesOn Restep (tenthOf s c work)
 
 unfoldable pub missedOf : Settings → Common → Float → List Float → Attempt

@@ -19,9 +19,9 @@ use Rattle.common.specs.declared.Settings.{Settings}
 use Rattle.common.specs.declared.Common.{Common}
 use Rattle.common.specs.Record.{with-nq}
 use Rattle.common.specs.Rules.{resetOf}
-use Rattle.history.specs.Columns.{predictColumnsOf, retractColumnsOf, multiplyAt, multiplyOf, scaleColumnOf}
-use Rattle.history.specs.Columns.{Rescaled, rescaleAt, rescaleColumnsOf, addScaledAt, addScaledOf, correctAt}
-use Rattle.history.specs.Columns.{correctColumnsOf, copyAt, copyOf, slopeAt, slopeOf, fillOf, scalePartOf}
+use Rattle.history.specs.Columns.{predictColumnsOf, retractColumnsOf, timesAt, timesOf, Rescaled, rescaleAt}
+use Rattle.history.specs.Columns.{rescaleColumnsOf, addScaledAt, addScaledOf, correctAt, correctColumnsOf, copyAt}
+use Rattle.history.specs.Columns.{copyOf, slopeAt, slopeOf, fillOf, scalePartOf}
 use Rattle.history.specs.Steps.{StepInRange, adjustOf, predictedOf}
 
 -- what a choice has if each side has it where it is taken
@@ -41,9 +41,9 @@ always P f i e s kept p =
     let q : i + (e - i) - i ≡ e - i = omega arith in
     rw q at (keeps P f (i + (e - i)) (λ k t below h. kept k t h) i s (omega arith) p)
 
-pub length-for : {A : Type 0} (f : ℕ → List A → List A) (i e : ℕ) (l : List A)
+pub length-loop : {A : Type 0} (f : ℕ → List A → List A) (i e : ℕ) (l : List A)
     → ((k : ℕ) (s : List A) → length (f k s) ≡ length s) → length (for i e f l) ≡ length l
-length-for f i e l one = always (λ s. length s ≡ length l) f i e l (λ k s p. one k s ∙ p) refl
+length-loop f i e l one = always (λ s. length s ≡ length l) f i e l (λ k s p. one k s ∙ p) refl
 
 -- the passes of predict and retract: they differ in g, what a turn stores
 module _ (n nqnyh : ℕ) (g : ℕ → List Float → Float) where
@@ -51,7 +51,7 @@ module _ (n nqnyh : ℕ) (g : ℕ → List Float → Float) where
   passes nq yh = for 0 nq (λ k s. for (nqnyh - (k + 1) * n) nqnyh (λ i t. set t i (g i t)) s) yh
 
   length-passes : (nq : ℕ) (yh : List Float) → length (passes nq yh) ≡ length yh
-  length-passes nq yh = length-for _ 0 nq yh (λ k s. length-for _ _ nqnyh s (λ i t. length-set t i (g i t)))
+  length-passes nq yh = length-loop _ 0 nq yh (λ k s. length-loop _ _ nqnyh s (λ i t. length-set t i (g i t)))
 
   same-pass : (a i : ℕ) (yh : List Float) → a ≤ nqnyh → nqnyh ≤ i
       → getD (for a nqnyh (λ k t. set t k (g k t)) yh) i nan ≡ getD yh i nan
@@ -82,39 +82,34 @@ module _ (n nq nqnyh : ℕ) (yh : List Float) where
   unfolding retractColumnsOf
   same-retract i beyond = same-passes n nqnyh (λ j t. getD t j nan ⊖ getD t (j + n) nan) nq i yh beyond
 
-length-scale : (r : Float) (v : List Float) → length (multiplyOf r v) ≡ length v
-length-scale r v = length-for (multiplyAt r) 0 (length v) v (λ i t. simp length-set)
-
-pub length-scale-column : (n j : ℕ) (r : Float) (yh : List Float) → length (scaleColumnOf n j r yh) ≡ length yh
-unfolding scaleColumnOf
-length-scale-column n j r yh =
-    same-len-mid (j * n) n yh (multiplyOf r (part (j * n) n yh)) (length-scale r (part (j * n) n yh))
+length-scale : (r : Float) (v : List Float) → length (timesOf r v) ≡ length v
+length-scale r v = length-loop (timesAt r) 0 (length v) v (λ i t. simp length-set)
 
 pub length-scale-part : (n at : ℕ) (r : Float) (work : List Float) → length (scalePartOf n at r work) ≡ length work
 unfolding scalePartOf
-length-scale-part n at r work = same-len-mid at n work (multiplyOf r (part at n work)) (length-scale r (part at n work))
+length-scale-part n at r work = same-len-mid at n work (timesOf r (part at n work)) (length-scale r (part at n work))
 
 pub length-rescale : (n l : ℕ) (rh : Float) (yh : List Float) → length (rescaleColumnsOf n l rh yh) ≡ length yh
 unfolding rescaleColumnsOf
 length-rescale n l rh yh =
     let kept : Rescaled → Type 0 = λ s. length (s .yh) ≡ length yh in
-    always kept (rescaleAt n rh) 1 l _ (λ j s p. length-scale-column n j (s .r ⊗ rh) (s .yh) ∙ p) refl
+    always kept (rescaleAt n rh) 1 l _ (λ j s p. length-scale-part n (j * n) (s .r ⊗ rh) (s .yh) ∙ p) refl
 
 length-add-scaled : (n j : ℕ) (e : Float) (at : ℕ) (l : List Float) → length (addScaledOf n j e at l) ≡ length l
 unfolding addScaledOf
-length-add-scaled n j e at l = length-for (addScaledAt n j e at) 0 n l (λ i t. simp length-set)
+length-add-scaled n j e at l = length-loop (addScaledAt n j e at) 0 n l (λ i t. simp length-set)
 
 pub length-correct : (s : Settings) (c : Common) (work : List Float) → length (correctColumnsOf s c work) ≡ length work
 unfolding correctColumnsOf
-length-correct s c work = length-for (correctAt s c) 0 (c .nq + 1) work (λ j t. length-add-scaled (s .n) j _ _ t)
+length-correct s c work = length-loop (correctAt s c) 0 (c .nq + 1) work (λ j t. length-add-scaled (s .n) j _ _ t)
 
 pub length-copy : (n to from : ℕ) (work : List Float) → length (copyOf n to from work) ≡ length work
 unfolding copyOf
-length-copy n to from work = length-for (copyAt to from) 0 n work (λ i t. simp length-set)
+length-copy n to from work = length-loop (copyAt to from) 0 n work (λ i t. simp length-set)
 
 pub length-slope : (n : ℕ) (h : Float) (work : List Float) → length (slopeOf n h work) ≡ length work
 unfolding slopeOf
-length-slope n h work = length-for (slopeAt n h) 0 n work (λ i t. simp length-set)
+length-slope n h work = length-loop (slopeAt n h) 0 n work (λ i t. simp length-set)
 
 pub length-fill : (n at : ℕ) (x : Float) (work : List Float) → at + n ≤ length work
     → length (fillOf n at x work) ≡ length work

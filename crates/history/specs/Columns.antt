@@ -41,15 +41,15 @@ unfoldable pub retractColumnsOf : ℕ → ℕ → ℕ → List Float → List Fl
 retractColumnsOf n nq nqnyh yh = for 0 nq (retractPass n nqnyh) yh
 
 -- each number times r
-abbrev pub multiplyAt : Float → ℕ → List Float → List Float
-multiplyAt r i v = set v i (getD v i nan ⊗ r)
+abbrev pub timesAt : Float → ℕ → List Float → List Float
+timesAt r i v = set v i (getD v i nan ⊗ r)
 
-abbrev pub multiplyOf : Float → List Float → List Float
-multiplyOf r v = for 0 (length v) (multiplyAt r) v
+abbrev pub timesOf : Float → List Float → List Float
+timesOf r v = for 0 (length v) (timesAt r) v
 
--- column j times r
-unfoldable pub scaleColumnOf : ℕ → ℕ → Float → List Float → List Float
-scaleColumnOf n j r yh = putPart (j * n) n yh (multiplyOf r (part (j * n) n yh))
+-- the n numbers at `at`, each times r
+unfoldable pub scalePartOf : ℕ → ℕ → Float → List Float → List Float
+scalePartOf n at r work = putPart at n work (timesOf r (part at n work))
 
 -- the power of rh so far, and the columns
 pub record Rescaled : Type 0 where
@@ -57,7 +57,7 @@ pub record Rescaled : Type 0 where
   pub yh : List Float
 
 abbrev pub rescaleAt : ℕ → Float → ℕ → Rescaled → Rescaled
-rescaleAt n rh j s = record { r = s .r ⊗ rh; yh = scaleColumnOf n j (s .r ⊗ rh) (s .yh) }
+rescaleAt n rh j s = record { r = s .r ⊗ rh; yh = scalePartOf n (j * n) (s .r ⊗ rh) (s .yh) }
 
 unfoldable pub rescaleColumnsOf : ℕ → ℕ → Float → List Float → List Float
 rescaleColumnsOf n l rh yh = for 1 l (rescaleAt n rh) (record { r = oneF; yh = yh }) .yh
@@ -92,7 +92,3 @@ slopeOf n h work = for 0 n (slopeAt n h) work
 -- the n numbers at `at` become x
 unfoldable pub fillOf : ℕ → ℕ → Float → List Float → List Float
 fillOf n at x work = putPart at n work (replicate n x)
-
--- the n numbers at `at`, each times r
-unfoldable pub scalePartOf : ℕ → ℕ → Float → List Float → List Float
-scalePartOf n at r work = putPart at n work (multiplyOf r (part at n work))

@@ -4,7 +4,7 @@ ghost use mathlib.Core.Path.{_≡_};
 ghost use Prim.Native.Nat.{_+_, _*_, _≤_};
 ghost use lib.ListN.{length, replicate};
 ghost use Rattle.common.specs.Layout.{matrixAt};
-ghost use Rattle.history.specs.Columns.{addRange, subRange, predictColumnsOf, retractColumnsOf, multiplyOf};
+ghost use Rattle.history.specs.Columns.{addRange, subRange, predictColumnsOf, retractColumnsOf, timesOf};
 ghost use Rattle.history.specs.Columns.{rescaleColumnsOf, addScaledOf, correctColumnsOf, copyOf, slopeOf};
 ghost use Rattle.history.specs.Steps.{StepInRange, leastOf, pdhOf, limitedOf, adjustOf, staleOf, predictedOf};
 ghost use Rattle.history.specs.Steps.{predictedWorkOf};
@@ -76,7 +76,7 @@ pub fn retract_columns(yh: &mut [f64], n: usize, nq: usize, nqnyh: usize)
 
 // Each number times r.
 pub fn scale(v: &mut [f64], r: f64)
-    ensures { λ _. ⌜ now (v .exit) ≡ multiplyOf r (now (v .entry)) ⌝ }
+    ensures { λ _. ⌜ now (v .exit) ≡ timesOf r (now (v .entry)) ⌝ }
 {
     for i in 0..v.len() {
         v[i] *= r;

@@ -37,10 +37,10 @@ behind-fits n at len h =
     let p = both (leb n at) (leb (at + n) len) h in
     (leb-true n at (p .0), leb-true (at + n) len (p .1))
 
-pub weighed : (n rtol atol at len : ℕ) → isWeighed n rtol atol at len ≡ true
+pub weighed-fits : (n rtol atol at len : ℕ) → isWeighed n rtol atol at len ≡ true
     → (isToleranceList n rtol ≡ true) × (isToleranceList n atol ≡ true) × (isBehind n at len ≡ true)
 unfolding isWeighed
-weighed n rtol atol at len h =
+weighed-fits n rtol atol at len h =
     let p = both (isToleranceList n rtol) _ h in
     let q = both (isToleranceList n atol) (isBehind n at len) (p .1) in
     (p .0, q .0, q .1)

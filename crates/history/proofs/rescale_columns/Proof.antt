@@ -7,8 +7,8 @@ use lib.ListN.{length}
 use borrow.Author.Needs.{needs}
 use Rattle.loops.specs.For.{for, again, ended, within}
 use Rattle.numbers.specs.Float.{_⊗_, oneF}
-use Rattle.history.specs.Columns.{scaleColumnOf, Rescaled, rescaleAt, rescaleColumnsOf}
-use Rattle.history.proofs.Laws.{length-scale-column}
+use Rattle.history.specs.Columns.{scalePartOf, Rescaled, rescaleAt, rescaleColumnsOf}
+use Rattle.history.proofs.Laws.{length-scale-part}
 use Rattle.history.proofs.rescale_columns.Statement.{statement}
 use Rattle.history.proofs.rescale_columns.Tie as tie
 
@@ -60,7 +60,7 @@ part-scale-end c =
     omega (arith, within (a .n) (a .l) (l .loop .j) (omega arith))
 
 loop-again : tie.Need-loop-again Inv-loop μ-loop
-unfolding scaleColumnOf
+unfolding scalePartOf
 loop-again c =
     let b = c .before .before .before .before .before in
     let l = b .loop in
@@ -68,7 +68,7 @@ loop-again c =
     let scaled = c .before .before .scale .ensures in
     let k : l .j * a .n + a .n - l .j * a .n ≡ a .n = omega arith in
     (
-      rw (scaled, k) (length-scale-column (a .n) (l .j) (l .r ⊗ a .rh) (l .yh) ∙ l .inv .0),
+      rw (scaled, k) (length-scale-part (a .n) (l .j * a .n) (l .r ⊗ a .rh) (l .yh) ∙ l .inv .0),
       rw (scaled, k) (again _ _ _ _ _ (omega arith) (l .inv .1)),
     )
 

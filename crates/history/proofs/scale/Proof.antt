@@ -5,12 +5,12 @@ use mathlib.Core.Path.{_≡_, refl}
 use native.Mathlib.Omega.{arith}
 use lib.ListN.{length, length-set}
 use Rattle.loops.specs.For.{for, again, ended}
-use Rattle.history.specs.Columns.{multiplyAt, multiplyOf}
+use Rattle.history.specs.Columns.{timesAt, timesOf}
 use Rattle.history.proofs.scale.Statement.{statement}
 use Rattle.history.proofs.scale.Tie as tie
 
 abbrev Inv-loop : tie.InvT-loop
-Inv-loop v₀ r i₀ i-end v i = (length v ≡ length v₀) × (for i (length v₀) (multiplyAt r) v ≡ multiplyOf r v₀)
+Inv-loop v₀ r i₀ i-end v i = (length v ≡ length v₀) × (for i (length v₀) (timesAt r) v ≡ timesOf r v₀)
 
 abbrev μ-loop : tie.MeasureT-loop
 μ-loop v₀ r i₀ i-end v i = length v₀ - i

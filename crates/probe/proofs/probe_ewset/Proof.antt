@@ -3,14 +3,14 @@
 use mathlib.Core.Path.{sym, _∙_}
 use borrow.Author.Needs.{needs}
 use Rattle.probe.specs.Leaves.{ewsetLeft}
-use Rattle.probe.proofs.Sizes.{list-serves, behind-fits, weighed}
+use Rattle.probe.proofs.Sizes.{list-serves, behind-fits, weighed-fits}
 use Rattle.probe.proofs.probe_ewset.Statement.{statement}
 use Rattle.probe.proofs.probe_ewset.Tie as tie
 
 ewset-requires : tie.Need-ewset-requires
 ewset-requires c κs =
     let a = c .before .before .before .before .before .before .args in
-    let p = weighed _ _ _ _ _ (sym (c .before .before .is-weighed .ensures) ∙ c .before .if1 .taken) in
+    let p = weighed-fits _ _ _ _ _ (sym (c .before .before .is-weighed .ensures) ∙ c .before .if1 .taken) in
     (list-serves (a .n) (a .rtol .now) (p .0), (list-serves (a .n) (a .atol .now) (p .1), behind-fits _ _ _ (p .2)))
 
 returns : tie.Need-returns
