@@ -24,7 +24,7 @@ use Rattle.vectors.specs.Norm.{vmnormOf}
 use Rattle.vectors.specs.Tolerance.{toleranceOf}
 use Rattle.vectors.specs.Weights.{ewsetOf, invertOf}
 use Rattle.common.specs.Rules.{firstCallInitOf, resetOf}
-use Rattle.history.specs.Columns.{predictColumnsOf, retractColumnsOf, scaleColumnOf, rescaleColumnsOf, addScaledOf}
+use Rattle.history.specs.Columns.{predictColumnsOf, retractColumnsOf, rescaleColumnsOf, addScaledOf}
 use Rattle.history.specs.Columns.{correctColumnsOf, copyOf, slopeOf, fillOf, scalePartOf}
 use Rattle.history.specs.Steps.{limitedOf, adjustOf, staleOf, predictedOf}
 use Rattle.corrector.specs.Verdict.{judgeOf, ratedOf, dconOf, estimatedOf, judgedConverged, giveUpOf, judgedFurther, judgedTested}
@@ -180,11 +180,11 @@ unfolding toldBy standsAt kindOf settingsOf firstStepOf Refusals.smallestOf Refu
     Attempt.retractedOf Attempt.repredictOf Attempt.errorOf Attempt.shrunkOf Attempt.missedAt
     Attempt.missedOf Attempt.overshotOf Attempt.failedOf Attempt.unconvergedOf Attempt.quarteredOf
     Attempt.noConvergenceAt Attempt.noConvergenceOf Accept.correctedOf Accept.keepFamilyOf Accept.testFamilyOf
-    Accept.acceptOf Accept.closedOf judgeOf ratedOf dconOf estimatedOf judgedConverged giveUpOf judgedFurther judgedTested openOf
-    adamsResidualOf adamsUpdateOf adamsOf correctOf limitedOf adjustOf staleOf predictedOf predictColumnsOf
-    retractColumnsOf scaleColumnOf rescaleColumnsOf addScaledOf correctColumnsOf copyOf slopeOf fillOf scalePartOf
-    firstCallInitOf resetOf ewsetOf invertOf toleranceOf vmnormOf elcoOf tescoOf sm1Of cfodeOf rootOf absOf negative
-    signumOf refused maxOf minOf times add sub mul div neg lt eq le ne ofInt ofBits
+    Accept.acceptOf Accept.closedOf judgeOf ratedOf dconOf estimatedOf judgedConverged giveUpOf judgedFurther
+    judgedTested openOf adamsResidualOf adamsUpdateOf adamsOf correctOf limitedOf adjustOf staleOf predictedOf
+    predictColumnsOf retractColumnsOf rescaleColumnsOf addScaledOf correctColumnsOf copyOf slopeOf fillOf
+    scalePartOf firstCallInitOf resetOf ewsetOf invertOf toleranceOf vmnormOf elcoOf tescoOf sm1Of cfodeOf rootOf absOf
+    negative signumOf refused maxOf minOf times add sub mul div neg lt eq le ne ofInt ofBits
     Order.raisedWorkOf Order.raisedLeftOf Order.raisedSizeOf Order.loweredSizeOf Order.limitedFactorsOf Order.settleOf
     Order.raiseColumnOf Order.raiseOf Order.lowerOf Order.chooseOf Order.chooseOrderOf sizeOf
 computed =

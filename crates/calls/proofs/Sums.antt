@@ -25,7 +25,7 @@ use Rattle.vectors.proofs.Examples.{sum-3}
 use Rattle.dense.proofs.Examples.{sum-4-factored, sum-4-solved, sum-5-zero, sum-5-nan}
 use Rattle.common.specs.Layout.{column}
 use Rattle.common.specs.Rules.{firstCallInitOf, resetOf}
-use Rattle.history.specs.Columns.{predictColumnsOf, retractColumnsOf, scaleColumnOf, rescaleColumnsOf, addScaledOf}
+use Rattle.history.specs.Columns.{predictColumnsOf, retractColumnsOf, rescaleColumnsOf, addScaledOf}
 use Rattle.history.specs.Columns.{correctColumnsOf, copyOf, slopeOf, fillOf, scalePartOf}
 use Rattle.history.specs.Steps.{limitedOf, adjustOf, staleOf, predictedOf}
 use Rattle.interpolation.proofs.Examples.{sum-7}
@@ -248,11 +248,11 @@ unfolding allowed hosted shownAs settingsOf firstStepOf Refusals.smallestOf Refu
     Reports.afterReportOf Attempt.retractedOf Attempt.repredictOf Attempt.errorOf Attempt.shrunkOf Attempt.missedAt
     Attempt.missedOf Attempt.overshotOf Attempt.failedOf Attempt.unconvergedOf Attempt.quarteredOf
     Attempt.noConvergenceAt Attempt.noConvergenceOf Accept.correctedOf Accept.keepFamilyOf Accept.testFamilyOf
-    Accept.acceptOf Accept.closedOf judgeOf ratedOf dconOf estimatedOf judgedConverged giveUpOf judgedFurther judgedTested openOf
-    adamsResidualOf adamsUpdateOf adamsOf correctOf limitedOf adjustOf staleOf predictedOf predictColumnsOf
-    retractColumnsOf scaleColumnOf rescaleColumnsOf addScaledOf correctColumnsOf copyOf slopeOf fillOf scalePartOf
-    firstCallInitOf resetOf ewsetOf invertOf toleranceOf vmnormOf elcoOf tescoOf sm1Of cfodeOf rootOf absOf negative
-    signumOf refused maxOf minOf times add sub mul div neg lt eq le ne ofInt ofBits
+    Accept.acceptOf Accept.closedOf judgeOf ratedOf dconOf estimatedOf judgedConverged giveUpOf judgedFurther
+    judgedTested openOf adamsResidualOf adamsUpdateOf adamsOf correctOf limitedOf adjustOf staleOf predictedOf
+    predictColumnsOf retractColumnsOf rescaleColumnsOf addScaledOf correctColumnsOf copyOf slopeOf fillOf
+    scalePartOf firstCallInitOf resetOf ewsetOf invertOf toleranceOf vmnormOf elcoOf tescoOf sm1Of cfodeOf rootOf absOf
+    negative signumOf refused maxOf minOf times add sub mul div neg lt eq le ne ofInt ofBits
 computed = (
   record { asked = refl; over = refl; reply = refl; y = refl },
   record { asked = refl; over = refl; reply = refl; y = refl },

@@ -20,7 +20,7 @@ use Rattle.common.specs.declared.MethodFamily.the-variants.{Adams}
 use Rattle.common.specs.declared.Settings.{Settings}
 use Rattle.common.specs.Rules.{firstCallInitOf, resetOf}
 use Rattle.common.specs.State.{Given}
-use Rattle.history.specs.Columns.{predictColumnsOf, retractColumnsOf, scaleColumnOf, rescaleColumnsOf}
+use Rattle.history.specs.Columns.{predictColumnsOf, retractColumnsOf, scalePartOf, rescaleColumnsOf}
 use Rattle.history.specs.Columns.{copyOf, slopeOf, fillOf}
 use Rattle.history.specs.Steps.{limitedOf, adjustOf, staleOf, predictedOf}
 use Rattle.corrector.specs.Verdict.{judgeOf, ratedOf, dconOf, estimatedOf, judgedConverged, giveUpOf, judgedFurther}
@@ -88,7 +88,7 @@ unfolding fed waits start started weighted sized firstAnswered beginning solveAt
     predictedAt failedOf restepOf retractedOf repredictOf errorOf shrunkOf tenthOf missedAt missedOf overshotOf
     judgeOf ratedOf dconOf estimatedOf judgedConverged giveUpOf judgedFurther judgedTested openOf adamsResidualOf
     adamsUpdateOf adamsOf correctOf limitedOf adjustOf staleOf predictedOf predictColumnsOf retractColumnsOf
-    scaleColumnOf rescaleColumnsOf copyOf slopeOf fillOf firstCallInitOf resetOf ewsetOf invertOf toleranceOf vmnormOf
+    scalePartOf rescaleColumnsOf copyOf slopeOf fillOf firstCallInitOf resetOf ewsetOf invertOf toleranceOf vmnormOf
     elcoOf tescoOf sm1Of cfodeOf rootOf absOf negative refused maxOf minOf times add sub mul div neg lt eq le ne ofInt
     ofBits
 cap-attained = refl
