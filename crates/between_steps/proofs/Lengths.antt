@@ -14,10 +14,10 @@ use Rattle.vectors.proofs.Laws.{length-invert}
 use Rattle.common.specs.declared.Settings.{Settings}
 use Rattle.common.specs.declared.Common.{Common}
 use Rattle.common.specs.Layout.{ewtAt, yAt, matrixAt, ewt}
+use Rattle.common.specs.Rules.{resetOf, firstCallInitOf}
 use Rattle.history.specs.Parts.{storedOf}
 use Rattle.history.specs.Steps.{adjustOf, predictedOf}
 use Rattle.history.proofs.Laws.{length-rescale, length-predict}
-use Rattle.common.specs.Rules.{resetOf, firstCallInitOf}
 use Rattle.between_steps.specs.Begin.{isCut, cutOf, setupOf, preparedAt, preparedOf, predictedAt}
 use Rattle.between_steps.specs.Begin.{firstPredictionOf}
 use Rattle.between_steps.specs.Start.{inverted, takenOf}
