@@ -3,7 +3,7 @@
 --     Stored, stores              turn i puts at place a i what g makes of the entry at place b i; the places differ
 --                                 from turn to turn, and none is read after an earlier turn wrote it
 -- Assumes nothing.
-use mathlib.Core.Path.{_≡_, refl, sym, ap, _∙_}
+use mathlib.Core.Path.{_≡_, refl, ap, _∙_}
 use mathlib.Core.List.{List}
 use mathlib.Core.Logic.{_≢_}
 use Prim.Native.Nat.{ℕ, _+_, _<_}

@@ -23,7 +23,8 @@ use Rattle.root.specs.Root.{factor, powerOf, keepOf, bitTurn, rootBits, 
 use Rattle.root.specs.Largest.{infinityBits, unsigned, productOf, Largest, LargestFloat}
 use Rattle.root.proofs.Laws.{alike}
 use Rattle.root.proofs.Cases.{accepted}
-use Rattle.root.proofs.Unsigned.{zero-le, le-inf, infinity-above, le-trans, lt-is}
+use Rattle.numbers.proofs.Order.{le-trans}
+use Rattle.root.proofs.Unsigned.{zero-le, le-inf, infinity-above, lt-is}
 use Rattle.root.proofs.Unsigned.{positive-unsigned, above-unsigned, mul-unsigned, mul-up}
 use Rattle.root.proofs.Patterns.{bits-zero, bits-infinity, bits-positive, bits-unsigned, bits-le, bits-of}
 
@@ -98,8 +99,7 @@ module _ (x : Float) (k : ℕ) (above : T (positive x)) where
       go : (t : Bool) → passes x k b ≡ t → t ≡ false
       go false e = refl
       go true e =
-          differs (sym n ∙ le-trans (productOf k a) (productOf k b) x (product-unsigned k a (omega arith))
-          (product-unsigned k b h) (positive-unsigned x above) (product-mono k a b g h) e)
+          differs (sym n ∙ le-trans (productOf k a) (productOf k b) x (product-mono k a b g h) e)
 
   -- infinity's product and the NaNs of the patterns above it are not at most x
   pub fails-beyond : (b : ℕ) → infinityBits ≤ b → b < 2 ^ 63 → le (productOf k b) x ≡ false

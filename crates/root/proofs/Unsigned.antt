@@ -1,49 +1,31 @@
 -- Floats without a sign, zero and infinity included: their order is the one of their values, infinity on top, and
 -- a product with a positive float grows with both factors.
---     zero-le, le-inf, infinity-above, le-trans    the order
+--     zero-le, le-inf, infinity-above              the order
 --     lt-is, above-unsigned                        x is below y where y is not at most x, and then y has no sign
 --     mul-unsigned, mul-up                         products have no sign either, and keep the order
 -- Assumes nothing.
-use mathlib.Core.Path.{_≡_, refl, sym, _∙_}
-use mathlib.Core.Bool.{Bool, true, false, not, _&&_, _||_, cond}
-use mathlib.Core.Logic.{inl, inr}
+use mathlib.Core.Path.{_≡_, refl, sym, _∙_, subst}
+use mathlib.Core.Bool.{Bool, true, false, not, cond}
+use mathlib.Core.Logic.{⊎-elim}
 use Prim.Native.Nat.{ℕ, zero, suc, _+_, _*_, _^_, _≤_}
-use native.Mathlib.Nat.{zero-mul, mul-pos, mul-le-mul, mul-mul-mul-comm, eq-or-lt-of-le}
+use native.Mathlib.Nat.{zero-mul, mul-pos, mul-le-mul, mul-mul-mul-comm}
 use native.Mathlib.Omega.{arith}
 use lib.IntN.{ℤ, pos}
-use lib.Dec.{T, ltb, leb, eqb, ltb→lt}
+use lib.Dec.{T, ltb, leb, ltb→lt}
 use lib.Ieee.{Float, nan, inf, fin, Format, prec, emax, low, up, down, units, odd, round, mul, le, lt}
 use lib.Ieee.Fits.{down-pos, round-is}
 use lib.Ieee.Bits.{is-true}
 use lib.Ieee.Order.{round-mono, kept, drop}
-use lib.Ieee.Positive.{positive, num, den, den-pos, through, le→cross}
-use borrow.Author.Tests.{leb-true, leb-false, le-leb, lt-ltb, le-ltb, eq-eqb, ne-eqb}
+use lib.Ieee.Positive.{positive, num, den, den-pos, le→cross}
+use borrow.Author.Tests.{leb-true, le-leb, ne-eqb}
 use Rattle.loops.specs.Test.{differs}
+use Rattle.numbers.proofs.Order.{Number, at-most, nan-or, total, lt-not-le}
 use Rattle.root.specs.Largest.{unsigned}
 
 -- ---- the order, as one comparison of numbers
-at-most : (a b : ℕ) → (ltb a b || (eqb a b && true)) ≡ leb a b
-at-most a b = go (leb a b) refl
-  where
-    go : (t : Bool) → leb a b ≡ t → (ltb a b || (eqb a b && true)) ≡ t
-    go false h =
-        let g = leb-false a b h in
-        rw (le-ltb a b (omega arith), ne-eqb a b (λ q. omega arith))
-    go true h = elim (eq-or-lt-of-le (leb-true a b h)) [
-      | inl q ↦ rw (le-ltb a b (omega arith), eq-eqb a b q)
-      | inr l ↦ rw (lt-ltb a b l)
-    ]
-
-under : (a b : ℕ) → ltb a b ≡ not (leb b a)
-under a b = go (leb b a) refl
-  where
-    go : (t : Bool) → leb b a ≡ t → ltb a b ≡ not t
-    go false h = lt-ltb a b (leb-false b a h)
-    go true h = le-ltb a b (leb-true b a h)
-
 le-fin : (m n : ℕ) (e d : ℤ) → le (fin false m e) (fin false n d) ≡ leb (m * up e * down d) (n * up d * down e)
 unfolding le
-le-fin m n e d = at-most (m * up e * down d) (n * up d * down e)
+le-fin m n e d = at-most (m * up e * down d) (n * up d * down e) _ refl
 
 pub positive-unsigned : (x : Float) → T (positive x) → T (unsigned x)
 positive-unsigned nan p = absurd p
@@ -67,22 +49,17 @@ zero-le (fin true m e) p = absurd p
 zero-le (fin false m e) p =
     le-fin 0 m (pos 0) e ∙ le-leb (0 * up (pos 0) * down e) (m * up e * down (pos 0)) (simp zero-mul (omega arith))
 
+number : (x : Float) → T (unsigned x) → Number x
+number x p = ⊎-elim (λ e. absurd (subst (λ (z : Float). T (unsigned z)) e p)) (λ n. n) (nan-or x)
+
 pub lt-is : (x y : Float) → T (unsigned x) → T (unsigned y) → lt x y ≡ not (le y x)
-unfolding le
-lt-is nan y p q = absurd p
-lt-is (inf true) y p q = absurd p
-lt-is (inf false) nan p q = absurd q
-lt-is (inf false) (inf true) p q = absurd q
-lt-is (inf false) (inf false) p q = refl
-lt-is (inf false) (fin true n d) p q = absurd q
-lt-is (inf false) (fin false n d) p q = refl
-lt-is (fin true m e) y p q = absurd p
-lt-is (fin false m e) nan p q = absurd q
-lt-is (fin false m e) (inf true) p q = absurd q
-lt-is (fin false m e) (inf false) p q = refl
-lt-is (fin false m e) (fin true n d) p q = absurd q
-lt-is (fin false m e) (fin false n d) p q =
-    rw (le-fin n m d e) (under (m * up e * down d) (n * up d * down e))
+lt-is x y p q = by (lt x y) refl (le y x) refl
+  where
+    by : (s : Bool) → lt x y ≡ s → (t : Bool) → le y x ≡ t → s ≡ not t
+    by true e true f = absurd (lt-not-le x y e f)
+    by true e false f = refl
+    by false e true f = refl
+    by false e false f = differs (sym f ∙ total x y (number x p) (number y q) e)
 
 inf-le-fin : (n : ℕ) (d : ℤ) → le (inf false) (fin false n d) ≡ false
 unfolding le
@@ -108,31 +85,6 @@ above-unsigned (fin false m e) (inf true) p h = differs h
 above-unsigned (fin false m e) (inf false) p h = tt
 above-unsigned (fin false m e) (fin true n d) p h = differs h
 above-unsigned (fin false m e) (fin false n d) p h = tt
-
-pub le-trans : (x y z : Float) → T (unsigned x) → T (unsigned y) → T (unsigned z) → le x y ≡ true → le y z ≡ true
-    → le x z ≡ true
-le-trans nan y z p q r h k = absurd p
-le-trans (inf true) y z p q r h k = absurd p
-le-trans (inf false) nan z p q r h k = absurd q
-le-trans (inf false) (inf true) z p q r h k = absurd q
-le-trans (inf false) (inf false) z p q r h k = k
-le-trans (inf false) (fin true n d) z p q r h k = absurd q
-le-trans (inf false) (fin false n d) z p q r h k = differs (sym (inf-le-fin n d) ∙ h)
-le-trans (fin true m e) y z p q r h k = absurd p
-le-trans (fin false m e) y nan p q r h k = absurd r
-le-trans (fin false m e) y (inf true) p q r h k = absurd r
-le-trans (fin false m e) y (inf false) p q r h k = le-inf (fin false m e) tt
-le-trans (fin false m e) y (fin true l c) p q r h k = absurd r
-le-trans (fin false m e) nan (fin false l c) p q r h k = absurd q
-le-trans (fin false m e) (inf true) (fin false l c) p q r h k = absurd q
-le-trans (fin false m e) (inf false) (fin false l c) p q r h k = differs (sym (inf-le-fin l c) ∙ k)
-le-trans (fin false m e) (fin true n d) (fin false l c) p q r h k = absurd q
-le-trans (fin false m e) (fin false n d) (fin false l c) p q r h k =
-    le-fin m l e c
-    ∙ le-leb (m * up e * down c) (l * up c * down e)
-    (through (m * up e) (n * up d) (l * up c) (down e) (down d) (down c) (down-pos d)
-    (leb-true (m * up e * down d) (n * up d * down e) (sym (le-fin m n e d) ∙ h))
-    (leb-true (n * up d * down c) (l * up c * down d) (sym (le-fin n l d c) ∙ k)))
 
 -- ---- products with a positive float
 odd-unsigned : (d q k l : ℕ) → T (unsigned (odd d false q k l))

@@ -22,7 +22,7 @@ use Rattle.numbers.specs.Float.{_⊗_, zeroF, uround}
 use Rattle.numbers.specs.Sign.{absOf}
 use Rattle.numbers.specs.Order.{maxOf}
 use Rattle.vectors.specs.Norm.{vmnormOf, rowOf, fnormOf}
-use Rattle.vectors.proofs.Order.{Number, nan-or, le-refl, le-of-lt, lt-number, le-trans, total}
+use Rattle.numbers.proofs.Order.{Number, nan-or, le-refl, le-of-lt, lt-number, le-trans, total}
 
 -- x is a NaN, or at most y
 abbrev pub NanOrLe : Float → Float → Type 0

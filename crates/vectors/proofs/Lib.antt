@@ -1,5 +1,4 @@
 pub mod Laws
-pub mod Order
 pub mod Largest
 pub mod Maxima
 pub mod Examples

@@ -18,13 +18,12 @@ use lib.Ieee.Fits.{mul-fits}
 use Rattle.loops.specs.Test.{differs}
 use Rattle.loops.specs.For.{for, again-four}
 use Rattle.numbers.specs.Float.{zeroF}
-use Rattle.numbers.specs.Sign.{absOf}
 use Rattle.numbers.specs.Order.{maxOf}
 use Rattle.vectors.specs.declared.Four.{Four}
 use Rattle.vectors.specs.Norm.{entryOf, normTurn}
 use Rattle.vectors.specs.Maxima.{fourAt, topOf}
-use Rattle.vectors.proofs.Order.{Number, nan-or, le-refl, le-of-lt, lt-number, le-trans, total}
-use Rattle.vectors.proofs.Order.{lt-not-le, lt-trans, same}
+use Rattle.numbers.proofs.Order.{Number, nan-or, le-refl, le-of-lt, lt-number, le-trans, total}
+use Rattle.numbers.proofs.Order.{lt-not-le, lt-trans, same}
 use Rattle.vectors.proofs.Largest.{NanOrLe, itself, zero-number}
 
 abbrev Fits : Float → Type 0

@@ -1,5 +1,4 @@
 -- `keep` meets its contract: each way returns what `keepOf` picks under the test that led there.
-use native.Mathlib.Nat.{mod-eq-of-lt}
 use native.Mathlib.Omega.{arith}
 use borrow.Author.Needs.{needs}
 use Rattle.numbers.proofs.Bits.{to-infinity}

@@ -1,7 +1,6 @@
 -- `root` meets its contract: each way returns what `rootOf` says under the tests that led there.
 use native.Mathlib.Omega.{arith}
 use lib.Ieee.{nanBits}
-use borrow.Author.Needs.{needs}
 use Rattle.numbers.proofs.Bits.{to-infinity, zero-over-zero}
 use Rattle.root.specs.Root.{rootBits}
 use Rattle.root.proofs.Cases.{accepted, too-low, too-high}

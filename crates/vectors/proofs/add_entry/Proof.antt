@@ -1,5 +1,4 @@
 -- `add_entry` meets its contract. Assumes nothing.
-use native.Mathlib.Omega.{arith}
 use borrow.Author.Needs.{needs}
 use Rattle.vectors.proofs.add_entry.Statement.{statement}
 use Rattle.vectors.proofs.add_entry.Tie as tie

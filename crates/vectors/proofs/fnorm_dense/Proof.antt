@@ -7,7 +7,7 @@ use borrow.Author.Needs.{needs}
 use lib.Ieee.{Float}
 use Rattle.loops.specs.For.{for, again, again-four, ended}
 use Rattle.vectors.specs.Norm.{fnormTurn, fnormOf}
-use Rattle.vectors.proofs.Order.{Number}
+use Rattle.numbers.proofs.Order.{Number}
 use Rattle.vectors.proofs.Largest.{max-larger, zero-number}
 use Rattle.vectors.proofs.fnorm_dense.Statement.{statement}
 use Rattle.vectors.proofs.fnorm_dense.Tie as tie

@@ -1,7 +1,7 @@
 -- `vmnorm` meets its contract. The invariants: the entries that are left give the whole norm, from the largest of the
 -- four and then from the one maximum. Assumes nothing.
 use Prim.Native.Nat.{_+_, _-_, _*_, _/_, _≤_}
-use mathlib.Core.Path.{_≡_, refl, sym, ap, _∙_}
+use mathlib.Core.Path.{_≡_, refl, ap}
 use native.Mathlib.Omega.{arith}
 use borrow.Author.Needs.{needs}
 use lib.ListN.{length}
@@ -9,7 +9,7 @@ use lib.Ieee.{Float}
 use Rattle.loops.specs.For.{for, again, ended}
 use Rattle.vectors.specs.Norm.{normTurn, vmnormOf}
 use Rattle.vectors.specs.Maxima.{topOf}
-use Rattle.vectors.proofs.Order.{Number}
+use Rattle.numbers.proofs.Order.{Number}
 use Rattle.vectors.proofs.Largest.{max-larger}
 use Rattle.vectors.proofs.Maxima.{AllClean, all-clean, top-zero, clean-number, top-number, four-clean, four-on}
 use Rattle.vectors.proofs.vmnorm.Statement.{statement}

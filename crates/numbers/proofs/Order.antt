@@ -3,6 +3,7 @@
 --     le-refl, le-of-lt, le-trans    the order
 --     total, lt-not-le               of two numbers, one is below the other or the other is at most it, and never both
 --     le-lt, lt-trans                the order, one side strict
+--     at-most                        the test of two magnitudes
 --     same                           two floats above 0 that fit are the same if each is at most the other
 -- Assumes nothing.
 use mathlib.Core.Path.{_≡_, refl, sym, _∙_}
@@ -53,7 +54,7 @@ or-true true = refl
 or-true false = refl
 
 -- a is at most b: below or level
-at-most : (a b : ℕ) (q : Bool) → q ≡ eqb a b → (ltb a b || (q && true)) ≡ leb a b
+pub at-most : (a b : ℕ) (q : Bool) → q ≡ eqb a b → (ltb a b || (q && true)) ≡ leb a b
 at-most a b q e = go (leb a b) refl
   where
     go : (t : Bool) → leb a b ≡ t → (ltb a b || (q && true)) ≡ t
