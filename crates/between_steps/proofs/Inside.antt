@@ -25,8 +25,9 @@ use Rattle.acceptance.proofs.Ready.{Ready}
 use Rattle.between_steps.specs.Ranges.{Ranges, Inside, Lent}
 use Rattle.between_steps.specs.Begin.{preparedOf}
 use Rattle.between_steps.specs.Start.{restartOf}
-use Rattle.between_steps.proofs.Within.{coreOf, Within, orders-of, range-of, ready-of, within-open, within-judged}
-use Rattle.between_steps.proofs.Within.{within-factored, within-column, within-restart, within-prepared}
+use Rattle.between_steps.proofs.Within.{coreOf, Within, orders-of, range-of, ready-of, within-open}
+use Rattle.between_steps.proofs.Within.{within-judged, within-factored, within-column, within-restart}
+use Rattle.between_steps.proofs.Within.{within-prepared}
 
 pub inside-ranges : {s : Settings} {c : Common} → Ranges s c → Inside s c
 inside-ranges p =

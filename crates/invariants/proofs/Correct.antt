@@ -23,8 +23,8 @@ use Rattle.corrector.specs.Iterate.{openOf, Corrected, adamsOf, bdfOf, bdfResid
 use Rattle.fields.specs.Fields.{Fit}
 use Rattle.invariants.proofs.Floats.{either, literal, product, quotient, maximum}
 use Rattle.invariants.proofs.Sizes.{norm}
-use Rattle.invariants.proofs.Records.{CommonFits, put-rc, put-pdest, put-pdlast, put-pdnorm, put-convrate, put-rate}
-use Rattle.invariants.proofs.Records.{put-delp}
+use Rattle.invariants.proofs.Records.{CommonFits, put-rc, put-pdest, put-pdlast, put-pdnorm, put-convrate}
+use Rattle.invariants.proofs.Records.{put-rate, put-delp}
 
 -- ---- the Jacobian
 

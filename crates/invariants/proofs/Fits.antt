@@ -16,15 +16,15 @@ use Rattle.attempt.specs.Attempt.{noConvergenceOf, failedOf}
 use Rattle.between_steps.specs.declared.Kind.{Kind}
 use Rattle.between_steps.specs.Begin.{isCut, cutOf, setupOf, preparedAt, preparedOf, predictedAt, firstPredictionOf}
 use Rattle.between_steps.specs.Start.{firstStepOf as stepOf}
-use Rattle.turns.specs.declared.Session.{Session}
+use Rattle.questions.specs.declared.Session.{Session}
 use Rattle.reports.specs.Reports.{initialOf}
 use Rattle.machine.specs.Resume.{With, resumeOf}
 use Rattle.refusals.specs.declared.Options.{Options}
 use Rattle.refusals.specs.declared.Lengths.{Lengths}
 use Rattle.refusals.specs.Start.{largestOf, smallestOf, inverseOf, inverseLargestOf, settingsOf, firstStepOf}
 use Rattle.fields.specs.Fields.{Fit, FloatsFit}
-use Rattle.invariants.specs.Next.{started, next}
-use Rattle.invariants.proofs.Keeps.{Invariant, each, any, after, Keeps}
+use Rattle.invariants.specs.Next.{startedSession, sessionAfter}
+use Rattle.invariants.proofs.Keeps.{Invariant, each, any, after-pass, Keeps}
 use Rattle.invariants.proofs.Walk.{resume-keeps}
 use Rattle.invariants.proofs.Floats.{either, literal, sum, quotient, absolute, signum}
 use Rattle.invariants.proofs.Sizes.{norm, initial-step, first-size}
@@ -101,18 +101,18 @@ module _ (s : Settings) where
     factored = λ x f. finished-fits s (x .c) (x .w) (x .p) f;
     unconverged = λ x f w.
       let g = no-convergence-fits s (x .c) w f in
-      after (noConvergenceOf s (x .c) w .next) (λ e. g) (λ e. g) g;
+      after-pass (noConvergenceOf s (x .c) w .next) (λ e. g) (λ e. g) g;
     failed = λ x f dsm w.
       let g = failed-fits s (x .c) dsm w f in
-      after (failedOf s (x .c) dsm w .next) (λ e. g) (λ e. g) g;
+      after-pass (failedOf s (x .c) dsm w .next) (λ e. g) (λ e. g) g;
     restepped = λ x f w. restep-fits s (x .c) w f;
   }
 
 pub floats-kept : (x : Session) (kind : Kind) (reply : List Float) (time : Float) (w : With) → FloatsFit x → Fit time
-    → FloatsFit (next x (resumeOf x kind reply time w))
+    → FloatsFit (sessionAfter x (resumeOf x kind reply time w))
 floats-kept x kind reply time w f t =
     let c = commons x f in
-    floats (next x (resumeOf x kind reply time w)) (f .xend) (f .direction)
+    floats (sessionAfter x (resumeOf x kind reply time w)) (f .xend) (f .direction)
     (each (resumeOf x kind reply time w .turn .phase) (λ g. g) (λ g. g) (λ g. g)
     (resume-keeps x kind reply time w (floats-keep (x .settings) (w .rtol) (w .atol) time t) (any (x .phase) c c c)))
 
@@ -145,9 +145,9 @@ initial-fits s x0 h hmin hmxi p q m i = record {
 }
 
 pub start-fits : (x0 xend : Float) (o : Options) (l : Lengths) → Fit x0 → Fit xend → Fit (o .«min_step»)
-    → Fit (o .«first_step») → FloatsFit (started x0 xend o l)
+    → Fit (o .«first_step») → FloatsFit (startedSession x0 xend o l)
 unfolding settingsOf
 start-fits x0 xend o l p q m h =
-    floats (started x0 xend o l) q (signum (xend ⊖ x0))
+    floats (startedSession x0 xend o l) q (signum (xend ⊖ x0))
     (initial-fits (settingsOf x0 xend o l) x0 (firstStepOf o) (smallestOf o) (inverseLargestOf x0 xend o)
     p (first-step-fits o h) (smallest-fits o m) (inverse-largest-fits x0 xend o))

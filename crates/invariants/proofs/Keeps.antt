@@ -27,9 +27,9 @@ use Rattle.acceptance.specs.Accept.{acceptOf}
 use Rattle.between_steps.specs.Begin.{firstPredictionOf}
 use Rattle.between_steps.specs.Start.{firstStepOf, firstSizeOf, restartOf}
 use Rattle.between_steps.specs.Pass.{verdictOf}
-use Rattle.turns.specs.declared.Phase.{Phase}
-use Rattle.turns.specs.declared.Phase.the-variants as Phase
-use Rattle.turns.specs.Turns.{Left}
+use Rattle.questions.specs.declared.Phase.{Phase}
+use Rattle.questions.specs.declared.Phase.the-variants as Phase
+use Rattle.questions.specs.Turns.{RunState}
 
 -- what may hold of the record, the work and the pivots
 abbrev pub Invariant : Type 1
@@ -56,8 +56,8 @@ Held Phase.Finished B S O = O
 abbrev pub Holds : Invariant → Invariant → Invariant → Phase → State → Type 0
 Holds B S O phase x = Held phase (B x) (S x) (O x)
 
-abbrev pub HoldsLeft : Invariant → Invariant → Invariant → Left → Type 0
-HoldsLeft B S O l = Holds B S O (l .turn .phase) (at (l .turn .common) (l .work) (l .ipiv))
+abbrev pub HoldsIn : Invariant → Invariant → Invariant → RunState → Type 0
+HoldsIn B S O l = Holds B S O (l .turn .phase) (at (l .turn .common) (l .work) (l .ipiv))
 
 module _ {B S O X : Type 0} where
   -- what follows in each phase
@@ -95,11 +95,11 @@ After Next.Restep S O = S
 After Next.TooSmall S O = O
 After Next.Poor S O = O
 
-pub after : {S O : Type 0} (v : Next) → (v ≡ Next.Pass → S) → (v ≡ Next.Restep → S) → O → After v S O
-after Next.Pass p r o = p refl
-after Next.Restep p r o = r refl
-after Next.TooSmall p r o = o
-after Next.Poor p r o = o
+pub after-pass : {S O : Type 0} (v : Next) → (v ≡ Next.Pass → S) → (v ≡ Next.Restep → S) → O → After v S O
+after-pass Next.Pass p r o = p refl
+after-pass Next.Restep p r o = r refl
+after-pass Next.TooSmall p r o = o
+after-pass Next.Poor p r o = o
 
 -- ---- the laws
 
@@ -120,7 +120,8 @@ pub record Keeps (s : Settings) (rtol atol : List Float) (time : Float) (B S O :
   pub asked : (x : State) → B x → (k : ℕ) → B (with-c (with-nfe k (x .c)) x)
   pub timed : (x : State) → B x → B (with-c (with-tn time (x .c)) x)
   pub retimed : (x : State) → B x → B (with-c (with-tn (x .c .told ⊕ x .c .hu) (x .c)) x)
-  pub first-step : (x : State) → B x → (w : List Float) → B (with-c (with-h (firstStepOf s (x .c) rtol atol w) (x .c)) x)
+  pub first-step : (x : State) → B x → (w : List Float)
+    → B (with-c (with-h (firstStepOf s (x .c) rtol atol w) (x .c)) x)
   pub first-size : (x : State) → B x → (w : List Float)
       → B (with-c (with-h (firstSizeOf s (x .c) (firstStepOf s (x .c) rtol atol w)) (x .c)) x)
   pub restarted : (x : State) → B x → B (with-c (restartOf (x .c)) x)

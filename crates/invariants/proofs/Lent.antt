@@ -13,9 +13,9 @@ use Rattle.attempt.specs.Attempt.{noConvergenceOf, failedOf}
 use Rattle.between_steps.specs.declared.Kind.{Kind}
 use Rattle.between_steps.specs.Ranges.{Lent}
 use Rattle.between_steps.proofs.Inside.{lent-length, lent-factored}
-use Rattle.turns.specs.declared.Session.{Session}
+use Rattle.questions.specs.declared.Session.{Session}
 use Rattle.machine.specs.Resume.{With, resumeOf}
-use Rattle.invariants.proofs.Keeps.{Invariant, each, any, after, Keeps}
+use Rattle.invariants.proofs.Keeps.{Invariant, each, any, after-pass, Keeps}
 use Rattle.invariants.proofs.Walk.{resume-keeps}
 
 module _ (s : Settings) where
@@ -45,8 +45,8 @@ module _ (s : Settings) where
     jacobian-begun = λ x h. h;
     column = λ x h j e. h;
     factored = λ x h. lent-factored s (x .c) (x .w) (x .p) h;
-    unconverged = λ x h w. after (noConvergenceOf s (x .c) w .next) (λ e. h) (λ e. h) h;
-    failed = λ x h dsm w. after (failedOf s (x .c) dsm w .next) (λ e. h) (λ e. h) h;
+    unconverged = λ x h w. after-pass (noConvergenceOf s (x .c) w .next) (λ e. h) (λ e. h) h;
+    failed = λ x h dsm w. after-pass (failedOf s (x .c) dsm w .next) (λ e. h) (λ e. h) h;
     restepped = λ x h w. h;
   }
 

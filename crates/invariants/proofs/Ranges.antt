@@ -8,12 +8,11 @@
 use mathlib.Core.List.{List}
 use mathlib.Core.Logic.{_⊎_, inl, inr}
 use mathlib.Core.Path.{_≡_}
-use Prim.Native.Nat.{ℕ, _+_, _*_, _^_, _≤_, _<_}
+use Prim.Native.Nat.{ℕ, _*_, _^_, _≤_, _<_}
 use native.Mathlib.Nat.{mod-self}
 use native.Mathlib.Omega.{arith}
 use lib.Ieee.{Float}
 use borrow.Author.Tests.{leb-false}
-use Rattle.common.specs.State.{State}
 use Rattle.common.specs.declared.Settings.{Settings}
 use Rattle.common.specs.declared.Common.{Common}
 use Rattle.common.specs.Limits.{mxncfOf}
@@ -29,10 +28,10 @@ use Rattle.between_steps.specs.Ranges.{Accepted, Ranges}
 use Rattle.between_steps.proofs.Within.{Core, coreOf, Within, range-of, within-open, within-judged, within-factored}
 use Rattle.between_steps.proofs.Within.{within-column, within-unconverged, within-failed, failed-pass, failed-restep}
 use Rattle.between_steps.proofs.Within.{within-restep, within-restart, within-first, within-another, within-accept}
-use Rattle.turns.specs.declared.Session.{Session}
+use Rattle.questions.specs.declared.Session.{Session}
 use Rattle.reports.specs.Reports.{initialOf}
 use Rattle.machine.specs.Resume.{With, resumeOf}
-use Rattle.invariants.proofs.Keeps.{Invariant, each, any, after, Keeps}
+use Rattle.invariants.proofs.Keeps.{Invariant, each, any, after-pass, Keeps}
 use Rattle.invariants.proofs.Walk.{resume-keeps}
 
 -- ---- where a run ends
@@ -100,11 +99,11 @@ module _ (s : Settings) (base most : ℕ) where
   abbrev pub Ranged : ℕ → Invariant
   Ranged under x = Within s base most under (coreOf (x .c))
 
-  abbrev pub Closed : Invariant
-  Closed x = Closing s (coreOf (x .c))
+  abbrev pub ClosingAt : Invariant
+  ClosingAt x = Closing s (coreOf (x .c))
 
   module _ (acc : Accepted s) (enough : s .maxsteps ≤ most) (few : most ≤ 2 ^ 62) where
-    pub ranges-keep : (rtol atol : List Float) (time : Float) → Keeps s rtol atol time (Ranged 0) (Ranged 1) Closed
+    pub ranges-keep : (rtol atol : List Float) (time : Float) → Keeps s rtol atol time (Ranged 0) (Ranged 1) ClosingAt
     unfolding beginOf
     ranges-keep rtol atol time = record {
       between-work = λ x h w e. h;
@@ -128,10 +127,10 @@ module _ (s : Settings) (base most : ℕ) where
       column = λ x h j e. within-column acc (x .c) h j (e (acc .n .0));
       factored = λ x h. within-factored acc (x .c) h (omega (arith, h .steps)) (x .w) (x .p);
       unconverged = λ x h w.
-        after (noConvergenceOf s (x .c) w .next) (within-unconverged acc (x .c) h w)
+        after-pass (noConvergenceOf s (x .c) w .next) (within-unconverged acc (x .c) h w)
         (λ e. never (unconverged s (x .c) w .next) e) (closing-unconverged acc (x .c) h w);
       failed = λ x h dsm w.
-        after (failedOf s (x .c) dsm w .next)
+        after-pass (failedOf s (x .c) dsm w .next)
         (λ e. within-failed acc (x .c) h w dsm (failed-pass acc (x .c) h w dsm e))
         (λ e. within-failed acc (x .c) h w dsm (failed-restep acc (x .c) h w dsm e))
         (closing-failed acc (x .c) h w dsm);

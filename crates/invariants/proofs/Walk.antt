@@ -44,26 +44,26 @@ use Rattle.between_steps.specs.Begin.{isGoing}
 use Rattle.between_steps.specs.Start.{withDerivative, inverted, firstStepOf, takenOf as stateOf, restartOf}
 use Rattle.between_steps.specs.Pass.{isSupplied}
 use Rattle.between_steps.proofs.Lengths.{length-first, length-stored, length-taken, length-inverted}
-use Rattle.turns.specs.declared.Phase.{Phase}
-use Rattle.turns.specs.declared.Phase.the-variants as Phase
-use Rattle.turns.specs.declared.Session.{Session}
-use Rattle.turns.specs.Turns.{Kept, leaving, askedOf, askedInStepOf, finishedOf}
-use Rattle.turns.specs.Begin.{openPassOf, beganOf, goOnAt, goOnOf}
-use Rattle.passes.specs.Pass.{attemptedAt, reportedOf, closedAt, closeOf, acceptedAt, acceptedOf, convergedAt}
-use Rattle.passes.specs.Pass.{convergedOf, unconvergedOf, concludedAt, iterateOf, iterationsOf, factoredAt}
-use Rattle.passes.specs.Pass.{factoredOf, askColumnOf, beginJacobianAt, beginJacobianOf, openedAt, openedOf}
-use Rattle.passes.specs.Pass.{jacobianOf, columnAt, columnOf, furtherOf, restepOf}
-use Rattle.reports.specs.Reports.{sizedAt, sizedOf, weightedAt, firstDerivativeOf, firstReportOf, firstModifiedOf}
+use Rattle.questions.specs.declared.Phase.{Phase}
+use Rattle.questions.specs.declared.Phase.the-variants as Phase
+use Rattle.questions.specs.declared.Session.{Session}
+use Rattle.questions.specs.Turns.{TurnWork, withPivots, askedOf, askedInStepOf, finishedOf}
+use Rattle.questions.specs.Begin.{openPassOf, beganOf, goOnAt, goOnOf}
+use Rattle.passes.specs.Pass.{attemptedAt, reportedOf, closedAt, endStepOf, acceptedAt, acceptedOf, errorTestAt}
+use Rattle.passes.specs.Pass.{errorTestOf, passFailedOf, concludedAt, iterateOf, iterationsOf, matrixDoneAt}
+use Rattle.passes.specs.Pass.{matrixDoneOf, askColumnOf, askJacobianAt, askJacobianOf, openedReplyAt, openedReplyOf}
+use Rattle.passes.specs.Pass.{jacobianReplyOf, columnReplyAt, columnReplyOf, furtherReplyOf, restepReplyOf}
+use Rattle.reports.specs.Reports.{sizedAt, sizedOf, weightedAt, firstDerivativeOf, afterFirstReportOf, firstModifiedOf}
 use Rattle.reports.specs.Reports.{afterReportOf, modifiedOf}
-use Rattle.machine.specs.Resume.{With, isAsked, unasked, takenOf, resumeOf}
+use Rattle.machine.specs.Resume.{With, isAsked, unasked, dealtOf, resumeOf}
 use Rattle.machine.proofs.Replies.{derivative-length}
-use Rattle.invariants.proofs.Keeps.{Invariant, at, Holds, HoldsLeft, After, Keeps}
+use Rattle.invariants.proofs.Keeps.{Invariant, at, Holds, HoldsIn, After, Keeps}
 
 module _ {s : Settings} {rtol atol : List Float} {time : Float} {B S O : Invariant}
     (k : Keeps s rtol atol time B S O) where
   module _ (p : List ℕ) where
-    abbrev Stays : Kept → Type 0
-    Stays t = HoldsLeft B S O (leaving p t)
+    abbrev Stays : TurnWork → Type 0
+    Stays t = HoldsIn B S O (withPivots p t)
 
     -- ---- between steps
 
@@ -96,8 +96,8 @@ module _ {s : Settings} {rtol atol : List Float} {time : Float} {B S O : Invaria
     attempted Next.TooSmall c w h = h
     attempted Next.Poor c w h = h
 
-    unconverges : (c : Common) (w : List Float) → S (at c w p) → Stays (unconvergedOf s c w)
-    unfolding unconvergedOf
+    unconverges : (c : Common) (w : List Float) → S (at c w p) → Stays (passFailedOf s c w)
+    unfolding passFailedOf
     unconverges c w h =
         attempted _ _ _ (k .unconverged _ (k .step-work _ h _ (λ r. Attempt.unconverged s c w .sized)) w)
 
@@ -106,8 +106,8 @@ module _ {s : Settings} {rtol atol : List Float} {time : Float} {B S O : Invaria
     closed-at (Refused i) c w h = k .over _ h
     closed-at Inverted c w h = k .totalled _ (k .between-work _ h _ (λ r. length-copy (s .n) (yAt (s .n)) 0 w)) _
 
-    closes : (order : ℕ) (c : Common) (w : List Float) → B (at c w p) → Stays (closeOf s c order rtol atol w)
-    unfolding closeOf
+    closes : (order : ℕ) (c : Common) (w : List Float) → B (at c w p) → Stays (endStepOf s c order rtol atol w)
+    unfolding endStepOf
     closes order c w h =
         closed-at _ c _ (k .between-work _ h _ (λ r. length-closed s c order rtol atol w (omega (arith, r))))
 
@@ -124,8 +124,8 @@ module _ {s : Settings} {rtol atol : List Float} {time : Float} {B S O : Invaria
     accepted-at order Branch.FamilyChanged c w h = closes order c w h
 
     converged-at : (dsm : Float) (above : Bool) (c : Common) (w : List Float) → S (at c w p)
-        → Stays (convergedAt s c dsm rtol atol above w)
-    unfolding convergedAt acceptedOf
+        → Stays (errorTestAt s c dsm rtol atol above w)
+    unfolding errorTestAt acceptedOf
     converged-at dsm true c w h =
         attempted _ _ _ (k .failed _ (k .step-work _ h _ (λ r. Attempt.failed s c dsm w .sized)) dsm w)
     converged-at dsm false c w h =
@@ -135,7 +135,7 @@ module _ {s : Settings} {rtol atol : List Float} {time : Float} {B S O : Invaria
 
     concluded-at : (v : Pass) (c : Common) (del : Float) (w : List Float) → S (at c w p)
         → Stays (concludedAt s v c del rtol atol w)
-    unfolding concludedAt convergedOf askedInStepOf
+    unfolding concludedAt errorTestOf askedInStepOf
     concluded-at Pass.Converged c del w h =
         converged-at (errorOf s c del w) (Ieee.lt oneF (errorOf s c del w)) c w h
     concluded-at Pass.Retry c del w h = opens c w h
@@ -154,8 +154,9 @@ module _ {s : Settings} {rtol atol : List Float} {time : Float} {B S O : Invaria
 
     -- ---- the Jacobian
 
-    factored-at : (done : Bool) (c : Common) (w : List Float) → S (at c w p) → Stays (factoredAt s rtol atol done c p w)
-    unfolding factoredAt
+    factored-at : (done : Bool) (c : Common) (w : List Float) → S (at c w p)
+        → Stays (matrixDoneAt s rtol atol done c p w)
+    unfolding matrixDoneAt
     factored-at true c w h = iterations c w h
     factored-at false c w h = unconverges c w h
 
@@ -165,16 +166,16 @@ module _ {s : Settings} {rtol atol : List Float} {time : Float} {B S O : Invaria
     asks-column j c w e h =
         k .asked-in-step _ (k .column _ (k .step-work _ h _ (λ r. length-perturb s c w j)) j e) _ _
 
-    begin-at : (supplied : Bool) (c : Common) (w : List Float) → S (at c w p) → Stays (beginJacobianAt s supplied c w)
-    unfolding beginJacobianAt
+    begin-at : (supplied : Bool) (c : Common) (w : List Float) → S (at c w p) → Stays (askJacobianAt s supplied c w)
+    unfolding askJacobianAt
     begin-at true c w h = h
     begin-at false c w h =
         asks-column 0 c _ (λ n. n) (k .step-work _ h _ (λ r. length-copy (s .n) (yfdAt (s .n)) (yAt (s .n)) w))
 
     -- ---- replies
 
-    opened-at : (due : Bool) (c : Common) (w : List Float) → S (at c w p) → Stays (openedAt s due c rtol atol p w)
-    unfolding openedAt beginJacobianOf
+    opened-at : (due : Bool) (c : Common) (w : List Float) → S (at c w p) → Stays (openedReplyAt s due c rtol atol p w)
+    unfolding openedReplyAt askJacobianOf
     opened-at true c w h = begin-at (isSupplied s c) (beginOf c) w (k .jacobian-begun _ h)
     opened-at false c w h = iterations c w h
 
@@ -201,16 +202,16 @@ module _ {s : Settings} {rtol atol : List Float} {time : Float} {B S O : Invaria
       taken : matrixAt (s .n) ≤ length w → length (stateOf (s .n) f w) ≡ length w
       taken r = length-taken (s .n) w r f l
 
-      opened : S (at c w p) → Stays (openedOf s c rtol atol f p w)
-      unfolding openedOf
+      opened : S (at c w p) → Stays (openedReplyOf s c rtol atol f p w)
+      unfolding openedReplyOf
       opened h = opened-at (c .due) c _ (k .step-work _ h _ derivative)
 
-      further : S (at c w p) → Stays (furtherOf s c rtol atol f p w)
-      unfolding furtherOf
+      further : S (at c w p) → Stays (furtherReplyOf s c rtol atol f p w)
+      unfolding furtherReplyOf
       further h = iterates c _ (k .step-work _ h _ derivative)
 
-      resteps : S (at c w p) → Stays (restepOf s c f w)
-      unfolding restepOf
+      resteps : S (at c w p) → Stays (restepReplyOf s c f w)
+      unfolding restepReplyOf
       resteps h =
           let v = withDerivative (s .n) f w in
           opens _ _ (k .restepped _ (k .step-work _ h _ (λ r. Attempt.restepped s c v .sized ∙ derivative r)) v)
@@ -226,8 +227,8 @@ module _ {s : Settings} {rtol atol : List Float} {time : Float} {B S O : Invaria
           in
           weighted-at _ c _ (k .between-work _ h _ (λ r. length-inverted n v (omega (arith, e r)) ∙ e r))
 
-      first-report : (a : Answer) → B (at c w p) → Stays (firstReportOf s c a f time w)
-      unfolding firstReportOf finishedOf askedOf
+      first-report : (a : Answer) → B (at c w p) → Stays (afterFirstReportOf s c a f time w)
+      unfolding afterFirstReportOf finishedOf askedOf
       first-report Continue h = goes-on (with-tn time c) w (k .timed _ h)
       first-report Interrupt h = k .over _ (k .timed _ h)
       first-report Modified h = k .asked _ (k .timed _ (k .between-work _ h _ taken)) _
@@ -256,24 +257,25 @@ module _ {s : Settings} {rtol atol : List Float} {time : Float} {B S O : Invaria
 
   -- ---- replies that change the pivots
 
-  factors : (c : Common) (p : List ℕ) (w : List Float) → S (at c w p) → HoldsLeft B S O (factoredOf s c rtol atol p w)
-  unfolding factoredOf
+  factors : (c : Common) (p : List ℕ) (w : List Float) → S (at c w p) → HoldsIn B S O (matrixDoneOf s c rtol atol p w)
+  unfolding matrixDoneOf
   factors c p w h = let x = factorsOf s c w p in factored-at (x .ipiv) (x .done) _ _ (k .factored _ h)
 
   jacobian : (f : List Float) (c : Common) (p : List ℕ) (w : List Float) → S (at c w p)
-      → HoldsLeft B S O (jacobianOf s c rtol atol f p w)
-  unfolding jacobianOf
+      → HoldsIn B S O (jacobianReplyOf s c rtol atol f p w)
+  unfolding jacobianReplyOf
   jacobian f c p w h = factors c p _ (k .step-work _ h _ (λ r. length-supplied s c w f))
 
-  column-at : (more : Bool) (c : Common) (p : List ℕ) (w : List Float) → ltb (c .column + 1) (s .n) ≡ more → S (at c w p)
-      → HoldsLeft B S O (columnAt s more c rtol atol p w)
-  unfolding columnAt
+  column-at : (more : Bool) (c : Common) (p : List ℕ) (w : List Float) → ltb (c .column + 1) (s .n) ≡ more
+    → S (at c w p)
+      → HoldsIn B S O (columnReplyAt s more c rtol atol p w)
+  unfolding columnReplyAt
   column-at true c p w e h = asks-column p (c .column + 1) c w (λ n. ltb-true (c .column + 1) (s .n) e) h
   column-at false c p w e h = factors (with-column 0 c) p w (k .column _ h 0 (λ n. n))
 
   column : (f : List Float) → length f ≡ s .n → (c : Common) (p : List ℕ) (w : List Float) → S (at c w p)
-      → HoldsLeft B S O (columnOf s c rtol atol f p w)
-  unfolding columnOf
+      → HoldsIn B S O (columnReplyOf s c rtol atol f p w)
+  unfolding columnReplyOf
   column f l c p w h =
       column-at (ltb (c .column + 1) (s .n)) c p _ refl
       (k .step-work _ h _
@@ -290,8 +292,8 @@ module _ (x : Session) (kind : Kind) (f : List Float) (time : Float) (w : With) 
   Before phase = Holds B S O phase (at c (w .work) (w .ipiv))
 
   taken-keeps : (phase : Phase) (kd : Kind) → isAsked phase kd (length f) (x .settings .n) ≡ true → Before phase
-      → HoldsLeft B S O (takenOf x phase kd f time w)
-  unfolding takenOf
+      → HoldsIn B S O (dealtOf x phase kd f time w)
+  unfolding dealtOf
   taken-keeps Phase.FirstDerivative kd e h = first-derivative k (w .ipiv) f (derivative-length _ _ kd e) c (w .work) h
   taken-keeps Phase.FirstReport (Kind.Report a) e h =
       first-report k (w .ipiv) f (eqb-true (length f) (x .settings .n) e) c (w .work) a h
@@ -311,11 +313,11 @@ module _ (x : Session) (kind : Kind) (f : List Float) (time : Float) (w : With) 
   taken-keeps Phase.Finished kd e h = absurd (true≢false (sym e))
 
   resumed : (asked : Bool) → isAsked (x .phase) kind (length f) (x .settings .n) ≡ asked → Before (x .phase)
-      → HoldsLeft B S O (cond asked (takenOf x (x .phase) kind f time w) (unasked x w))
+      → HoldsIn B S O (cond asked (dealtOf x (x .phase) kind f time w) (unasked x w))
   resumed true e h = taken-keeps (x .phase) kind e h
   resumed false e h = h
 
   -- every reply, refused ones included
-  pub resume-keeps : Before (x .phase) → HoldsLeft B S O (resumeOf x kind f time w)
+  pub resume-keeps : Before (x .phase) → HoldsIn B S O (resumeOf x kind f time w)
   unfolding resumeOf
   resume-keeps h = resumed (isAsked (x .phase) kind (length f) (x .settings .n)) refl h

@@ -16,10 +16,10 @@ use Rattle.between_steps.specs.declared.Kind.{Kind}
 use Rattle.between_steps.specs.declared.Kind.the-variants.{Derivative, Jacobian, Report}
 use Rattle.between_steps.specs.Replies.{isDerivative, isJacobian, isAnswer}
 use Rattle.between_steps.proofs.Kind.{the-type as kinds}
-use Rattle.turns.specs.declared.Session.{Session}
-use Rattle.turns.specs.declared.Phase.{Phase}
-use Rattle.turns.specs.Requires.{UnlessFinished}
-use Rattle.machine.specs.Resume.{With, isAsked, unasked, takenOf, resumeOf}
+use Rattle.questions.specs.declared.Session.{Session}
+use Rattle.questions.specs.declared.Phase.{Phase}
+use Rattle.questions.specs.Requires.{UnlessFinished}
+use Rattle.machine.specs.Resume.{With, isAsked, unasked, dealtOf, resumeOf}
 use Rattle.machine.specs.Resume.{firstAnsweredOf, answeredOf}
 
 module _ (len n : ℕ) where
@@ -51,15 +51,15 @@ module _ (x : Session) (kind : Kind) (reply : List Float) (time : Float) (w : Wi
   asked = isAsked (x .phase) kind (length reply) (x .settings .n)
 
   pub resume-asked : (p : Phase) → x .phase ≡ p → asked ≡ true
-      → resumeOf x kind reply time w ≡ takenOf x p kind reply time w
+      → resumeOf x kind reply time w ≡ dealtOf x p kind reply time w
   unfolding resumeOf
   resume-asked p e h =
-      ap (λ (t : Bool). cond t (takenOf x (x .phase) kind reply time w) (unasked x w)) h
-      ∙ ap (λ (q : Phase). takenOf x q kind reply time w) e
+      ap (λ (t : Bool). cond t (dealtOf x (x .phase) kind reply time w) (unasked x w)) h
+      ∙ ap (λ (q : Phase). dealtOf x q kind reply time w) e
 
   pub resume-unasked : asked ≡ false → resumeOf x kind reply time w ≡ unasked x w
   unfolding resumeOf
-  resume-unasked h = ap (λ (t : Bool). cond t (takenOf x (x .phase) kind reply time w) (unasked x w)) h
+  resume-unasked h = ap (λ (t : Bool). cond t (dealtOf x (x .phase) kind reply time w) (unasked x w)) h
 
 module _ (x : Session) (reply : List Float) (time : Float) (w : With) where
   pub first-unasked : (k : Kind) → OneOf (0 ∷ 1 ∷ []) (tagOf kinds k) → firstAnsweredOf x k reply time w ≡ unasked x w

@@ -7,13 +7,13 @@ use lib.Ieee.{Float}
 use Rattle.between_steps.specs.declared.Kind.{Kind}
 use Rattle.between_steps.specs.declared.Kind.the-variants.{Derivative, Jacobian, Report}
 use Rattle.between_steps.specs.Replies.{isDerivative, isJacobian, isAnswer}
-use Rattle.turns.specs.declared.Session.{Session}
-use Rattle.turns.specs.declared.Phase.{Phase}
-use Rattle.turns.specs.declared.Phase.the-variants as Phase
-use Rattle.turns.specs.declared.Question.the-variants.{Unasked}
-use Rattle.turns.specs.Turns.{Left, kept, leaving}
-use Rattle.passes.specs.Pass.{openedOf, jacobianOf, columnOf, furtherOf, restepOf}
-use Rattle.reports.specs.Reports.{firstDerivativeOf, firstReportOf, firstModifiedOf, afterReportOf, modifiedOf}
+use Rattle.questions.specs.declared.Session.{Session}
+use Rattle.questions.specs.declared.Phase.{Phase}
+use Rattle.questions.specs.declared.Phase.the-variants as Phase
+use Rattle.questions.specs.declared.Question.the-variants.{Unasked}
+use Rattle.questions.specs.Turns.{RunState, turnWork, withPivots}
+use Rattle.passes.specs.Pass.{openedReplyOf, jacobianReplyOf, columnReplyOf, furtherReplyOf, restepReplyOf}
+use Rattle.reports.specs.Reports.{firstDerivativeOf, afterFirstReportOf, firstModifiedOf, afterReportOf, modifiedOf}
 
 -- ---- whether a reply is what was asked
 
@@ -40,42 +40,43 @@ pub record With : Type 0 where
   pub ipiv : List ℕ
 
 -- nothing has changed
-abbrev pub unasked : Session → With → Left
+abbrev pub unasked : Session → With → RunState
 unasked x w =
-    leaving (w .ipiv) (kept (record { question = Unasked; phase = x .phase; common = x .common }) (w .work))
+    withPivots (w .ipiv) (turnWork (record { question = Unasked; phase = x .phase; common = x .common }) (w .work))
 
 -- the answer to the first report, and to a step's
-abbrev pub firstAnsweredOf : Session → Kind → List Float → Float → With → Left
+abbrev pub firstAnsweredOf : Session → Kind → List Float → Float → With → RunState
 firstAnsweredOf x (Report a) y time w =
-    leaving (w .ipiv) (firstReportOf (x .settings) (x .common) a y time (w .work))
+    withPivots (w .ipiv) (afterFirstReportOf (x .settings) (x .common) a y time (w .work))
 firstAnsweredOf x Derivative y time w = unasked x w
 firstAnsweredOf x Jacobian y time w = unasked x w
 
-abbrev pub answeredOf : Session → Kind → List Float → Float → With → Left
+abbrev pub answeredOf : Session → Kind → List Float → Float → With → RunState
 answeredOf x (Report a) y time w =
-    leaving (w .ipiv) (afterReportOf (x .settings) (x .common) a y time (w .work))
+    withPivots (w .ipiv) (afterReportOf (x .settings) (x .common) a y time (w .work))
 answeredOf x Derivative y time w = unasked x w
 answeredOf x Jacobian y time w = unasked x w
 
-unfoldable pub takenOf : Session → Phase → Kind → List Float → Float → With → Left
-takenOf x Phase.FirstDerivative kind f time w =
-    leaving (w .ipiv) (firstDerivativeOf (x .settings) (x .common) (w .rtol) (w .atol) f (w .work))
-takenOf x Phase.FirstReport kind f time w = firstAnsweredOf x kind f time w
-takenOf x Phase.FirstModified kind f time w = leaving (w .ipiv) (firstModifiedOf (x .settings) (x .common) f (w .work))
-takenOf x Phase.Opened kind f time w =
-    leaving (w .ipiv) (openedOf (x .settings) (x .common) (w .rtol) (w .atol) f (w .ipiv) (w .work))
-takenOf x Phase.JacobianAsked kind f time w =
-    jacobianOf (x .settings) (x .common) (w .rtol) (w .atol) f (w .ipiv) (w .work)
-takenOf x Phase.DifferenceColumn kind f time w =
-    columnOf (x .settings) (x .common) (w .rtol) (w .atol) f (w .ipiv) (w .work)
-takenOf x Phase.FurtherDerivative kind f time w =
-    leaving (w .ipiv) (furtherOf (x .settings) (x .common) (w .rtol) (w .atol) f (w .ipiv) (w .work))
-takenOf x Phase.Restep kind f time w = leaving (w .ipiv) (restepOf (x .settings) (x .common) f (w .work))
-takenOf x Phase.Report kind f time w = answeredOf x kind f time w
-takenOf x Phase.Modified kind f time w = leaving (w .ipiv) (modifiedOf (x .settings) (x .common) f (w .work))
-takenOf x Phase.Finished kind f time w = unasked x w
+unfoldable pub dealtOf : Session → Phase → Kind → List Float → Float → With → RunState
+dealtOf x Phase.FirstDerivative kind f time w =
+    withPivots (w .ipiv) (firstDerivativeOf (x .settings) (x .common) (w .rtol) (w .atol) f (w .work))
+dealtOf x Phase.FirstReport kind f time w = firstAnsweredOf x kind f time w
+dealtOf x Phase.FirstModified kind f time w =
+    withPivots (w .ipiv) (firstModifiedOf (x .settings) (x .common) f (w .work))
+dealtOf x Phase.Opened kind f time w =
+    withPivots (w .ipiv) (openedReplyOf (x .settings) (x .common) (w .rtol) (w .atol) f (w .ipiv) (w .work))
+dealtOf x Phase.JacobianAsked kind f time w =
+    jacobianReplyOf (x .settings) (x .common) (w .rtol) (w .atol) f (w .ipiv) (w .work)
+dealtOf x Phase.DifferenceColumn kind f time w =
+    columnReplyOf (x .settings) (x .common) (w .rtol) (w .atol) f (w .ipiv) (w .work)
+dealtOf x Phase.FurtherDerivative kind f time w =
+    withPivots (w .ipiv) (furtherReplyOf (x .settings) (x .common) (w .rtol) (w .atol) f (w .ipiv) (w .work))
+dealtOf x Phase.Restep kind f time w = withPivots (w .ipiv) (restepReplyOf (x .settings) (x .common) f (w .work))
+dealtOf x Phase.Report kind f time w = answeredOf x kind f time w
+dealtOf x Phase.Modified kind f time w = withPivots (w .ipiv) (modifiedOf (x .settings) (x .common) f (w .work))
+dealtOf x Phase.Finished kind f time w = unasked x w
 
-unfoldable pub resumeOf : Session → Kind → List Float → Float → With → Left
+unfoldable pub resumeOf : Session → Kind → List Float → Float → With → RunState
 resumeOf x kind reply time w =
-    cond (isAsked (x .phase) kind (length reply) (x .settings .n)) (takenOf x (x .phase) kind reply time w)
+    cond (isAsked (x .phase) kind (length reply) (x .settings .n)) (dealtOf x (x .phase) kind reply time w)
     (unasked x w)

@@ -5,8 +5,8 @@ ghost use mathlib.Core.Path.{_≡_};
 ghost use Prim.Native.Nat.{_≤_};
 ghost use Rattle.common.specs.Limits.{maxStates};
 ghost use Rattle.between_steps.specs.Ranges.{Accepted};
-ghost use Rattle.turns.specs.Requires.{Resumes, UnlessFinished};
-ghost use Rattle.turns.specs.Turns.{kept, leaving};
+ghost use Rattle.questions.specs.Requires.{Resumes, UnlessFinished};
+ghost use Rattle.questions.specs.Turns.{turnWork, withPivots};
 ghost use Rattle.reports.specs.Reports.{initialOf};
 ghost use Rattle.machine.specs.Resume.{With, isAsked, resumeOf};
 
@@ -15,10 +15,10 @@ use between_steps::Kind;
 use common::Common;
 use common::MethodFamily;
 use common::Settings;
-use turns::Phase;
-use turns::Question;
-use turns::Session;
-use turns::Turn;
+use questions::Phase;
+use questions::Question;
+use questions::Session;
+use questions::Turn;
 
 // Whether a reply of this kind and length is what the phase waits for.
 fn is_asked(phase: Phase, kind: Kind, len: usize, n: usize) -> bool
@@ -61,7 +61,7 @@ pub fn resume(
 ) -> Turn
     requires { ⌜ x .settings .n ≤ maxStates ⌝ }
     requires { ⌜ UnlessFinished (x .phase) (Resumes x (now rtol) (now atol) (now work) (now ipiv)) ⌝ }
-    ensures { λ r. ⌜ leaving (now (ipiv .exit)) (kept r (now (work .exit)))
+    ensures { λ r. ⌜ withPivots (now (ipiv .exit)) (turnWork r (now (work .exit)))
         ≡ resumeOf x kind (now (reply .entry)) time (record {
             rtol = now (rtol .entry);
             atol = now (atol .entry);
@@ -78,15 +78,15 @@ pub fn resume(
     match phase {
         Phase::FirstDerivative => reports::first_derivative(s, c, rtol, atol, reply, work),
         Phase::FirstReport => match kind {
-            Kind::Report(answer) => reports::first_report(s, c, answer, reply, time, work),
+            Kind::Report(answer) => reports::after_first_report(s, c, answer, reply, time, work),
             Kind::Derivative | Kind::Jacobian => Turn { question: Question::Unasked, phase: phase, common: c },
         },
         Phase::FirstModified => reports::first_modified(s, c, reply, work),
-        Phase::Opened => passes::opened(s, c, rtol, atol, reply, work, ipiv),
-        Phase::JacobianAsked => passes::jacobian(s, c, rtol, atol, reply, work, ipiv),
-        Phase::DifferenceColumn => passes::column(s, c, rtol, atol, reply, work, ipiv),
-        Phase::FurtherDerivative => passes::further(s, c, rtol, atol, reply, work, ipiv),
-        Phase::Restep => passes::restep(s, c, reply, work),
+        Phase::Opened => passes::opened_reply(s, c, rtol, atol, reply, work, ipiv),
+        Phase::JacobianAsked => passes::jacobian_reply(s, c, rtol, atol, reply, work, ipiv),
+        Phase::DifferenceColumn => passes::column_reply(s, c, rtol, atol, reply, work, ipiv),
+        Phase::FurtherDerivative => passes::further_reply(s, c, rtol, atol, reply, work, ipiv),
+        Phase::Restep => passes::restep_reply(s, c, reply, work),
         Phase::Report => match kind {
             Kind::Report(answer) => reports::after_report(s, c, answer, reply, time, work),
             Kind::Derivative | Kind::Jacobian => Turn { question: Question::Unasked, phase: phase, common: c },

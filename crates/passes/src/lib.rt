@@ -7,21 +7,21 @@ ghost use Rattle.common.specs.Layout.{matrixAt};
 ghost use Rattle.common.specs.Limits.{maxStates};
 ghost use Rattle.history.specs.Steps.{StepInRange};
 ghost use Rattle.between_steps.specs.Ranges.{Inside, Lent};
-ghost use Rattle.turns.specs.Turns.{kept, leaving};
-ghost use Rattle.passes.specs.Pass.{attemptedAt, reportedOf, closeOf, acceptedOf, convergedOf, unconvergedOf};
-ghost use Rattle.passes.specs.Pass.{iterateOf, iterationsOf, factoredOf, askColumnOf, beginJacobianOf};
-ghost use Rattle.passes.specs.Pass.{openedOf, jacobianOf, columnOf, furtherOf, restepOf};
+ghost use Rattle.questions.specs.Turns.{turnWork, withPivots};
+ghost use Rattle.passes.specs.Pass.{attemptedAt, reportedOf, endStepOf, acceptedOf, errorTestOf, passFailedOf};
+ghost use Rattle.passes.specs.Pass.{iterateOf, iterationsOf, matrixDoneOf, askColumnOf, askJacobianOf};
+ghost use Rattle.passes.specs.Pass.{openedReplyOf, jacobianReplyOf, columnReplyOf, furtherReplyOf, restepReplyOf};
 
 use attempt::Next;
 use between_steps::Status;
 use common::Common;
 use common::Settings;
 use acceptance::Branch;
-use turns::At;
-use turns::Phase;
-use turns::Question;
-use turns::Step;
-use turns::Turn;
+use questions::At;
+use questions::Phase;
+use questions::Question;
+use questions::Step;
+use questions::Turn;
 use corrector::Pass;
 
 // ---- a pass's end
@@ -29,22 +29,22 @@ use corrector::Pass;
 // After a pass that was not accepted.
 fn attempted(a: attempt::Attempted, n: usize, work: &mut [f64]) -> Turn
     requires { ⌜ (a .common .nfe < 2 ^ 63) × (a .common .count < 2 ^ 63) × (matrixAt n ≤ length (now work)) ⌝ }
-    ensures { λ r. ⌜ kept r (now (work .exit)) ≡ attemptedAt n (a .next) (a .common) (now (work .entry)) ⌝ }
+    ensures { λ r. ⌜ turnWork r (now (work .exit)) ≡ attemptedAt n (a .next) (a .common) (now (work .entry)) ⌝ }
 {
     let next = a.next;
     let c = a.common;
     match next {
-        Next::Pass => turns::open_pass(c, n, work),
-        Next::Restep => turns::ask_in_step(c, Phase::Restep),
-        Next::TooSmall => turns::finish(c, Status::StepTooSmall),
-        Next::Poor => turns::finish(c, Status::PoorConvergence),
+        Next::Pass => questions::open_pass(c, n, work),
+        Next::Restep => questions::ask_in_step(c, Phase::Restep),
+        Next::TooSmall => questions::finish(c, Status::StepTooSmall),
+        Next::Poor => questions::finish(c, Status::PoorConvergence),
     }
 }
 
 // The weights of the new state stand: the report.
 fn report(c: Common, n: usize, work: &mut [f64]) -> Turn
     requires { ⌜ (c .nst < 2 ^ 63) × (c .rejected < 2 ^ 63) × (matrixAt n ≤ length (now work)) ⌝ }
-    ensures { λ r. ⌜ kept r (now (work .exit)) ≡ reportedOf n c (now (work .entry)) ⌝ }
+    ensures { λ r. ⌜ turnWork r (now (work .exit)) ≡ reportedOf n c (now (work .entry)) ⌝ }
 {
     history::copy_part(work, n, common::Y * n, 0);
     let mut d = c;
@@ -54,15 +54,15 @@ fn report(c: Common, n: usize, work: &mut [f64]) -> Turn
 }
 
 // The end of an accepted step that used the given order: weights, then the report or 12.
-fn close(s: Settings, c: Common, order: usize, rtol: &[f64], atol: &[f64], work: &mut [f64]) -> Turn
+fn end_step(s: Settings, c: Common, order: usize, rtol: &[f64], atol: &[f64], work: &mut [f64]) -> Turn
     requires { ⌜ StepInRange s c ⌝ }
     requires { ⌜ (1 ≤ order) × (order ≤ 12) ⌝ }
     requires { ⌜ (c .nst < 2 ^ 63) × (c .rejected < 2 ^ 63) ⌝ }
     requires { ⌜ List1OrN (now rtol) (s .n - 1) ⌝ }
     requires { ⌜ List1OrN (now atol) (s .n - 1) ⌝ }
     requires { ⌜ matrixAt (s .n) ≤ length (now work) ⌝ }
-    ensures { λ r. ⌜ kept r (now (work .exit))
-        ≡ closeOf s c order (now (rtol .entry)) (now (atol .entry)) (now (work .entry)) ⌝ }
+    ensures { λ r. ⌜ turnWork r (now (work .exit))
+        ≡ endStepOf s c order (now (rtol .entry)) (now (atol .entry)) (now (work .entry)) ⌝ }
 {
     match acceptance::close(s, c, order, rtol, atol, work) {
         vectors::Weights::Refused(i) => {
@@ -73,12 +73,12 @@ fn close(s: Settings, c: Common, order: usize, rtol: &[f64], atol: &[f64], work:
 }
 
 // The error is at most 1, or a NaN: the step is accepted.
-fn accept(s: Settings, c: Common, dsm: f64, rtol: &[f64], atol: &[f64], work: &mut [f64]) -> Turn
+fn accepted(s: Settings, c: Common, dsm: f64, rtol: &[f64], atol: &[f64], work: &mut [f64]) -> Turn
     requires { ⌜ Inside s c ⌝ }
     requires { ⌜ List1OrN (now rtol) (s .n - 1) ⌝ }
     requires { ⌜ List1OrN (now atol) (s .n - 1) ⌝ }
     requires { ⌜ matrixAt (s .n) ≤ length (now work) ⌝ }
-    ensures { λ r. ⌜ kept r (now (work .exit))
+    ensures { λ r. ⌜ turnWork r (now (work .exit))
         ≡ acceptedOf s c dsm (now (rtol .entry)) (now (atol .entry)) (now (work .entry)) ⌝ }
 {
     let order = c.nq;
@@ -86,37 +86,37 @@ fn accept(s: Settings, c: Common, dsm: f64, rtol: &[f64], atol: &[f64], work: &m
     let branch = chosen.branch;
     let d = chosen.common;
     match branch {
-        Branch::CoefficientGap => turns::finish(d, Status::CoefficientGap),
+        Branch::CoefficientGap => questions::finish(d, Status::CoefficientGap),
         Branch::Unchanged
         | Branch::SmallGain
         | Branch::Lowered
         | Branch::Kept
         | Branch::Raised
         | Branch::HeldBySm1
-        | Branch::FamilyChanged => close(s, d, order, rtol, atol, work),
+        | Branch::FamilyChanged => end_step(s, d, order, rtol, atol, work),
     }
 }
 
 // The pass has converged: the error test.
-fn converged(s: Settings, c: Common, del: f64, rtol: &[f64], atol: &[f64], work: &mut [f64]) -> Turn
+fn error_test(s: Settings, c: Common, del: f64, rtol: &[f64], atol: &[f64], work: &mut [f64]) -> Turn
     requires { ⌜ Inside s c ⌝ }
     requires { ⌜ List1OrN (now rtol) (s .n - 1) ⌝ }
     requires { ⌜ List1OrN (now atol) (s .n - 1) ⌝ }
     requires { ⌜ matrixAt (s .n) ≤ length (now work) ⌝ }
-    ensures { λ r. ⌜ kept r (now (work .exit))
-        ≡ convergedOf s c del (now (rtol .entry)) (now (atol .entry)) (now (work .entry)) ⌝ }
+    ensures { λ r. ⌜ turnWork r (now (work .exit))
+        ≡ errorTestOf s c del (now (rtol .entry)) (now (atol .entry)) (now (work .entry)) ⌝ }
 {
     let dsm = attempt::error(s, c, del, work);
     if dsm > 1.0 {
         return attempted(attempt::error_failure(s, c, dsm, work), s.n, work);
     }
-    accept(s, c, dsm, rtol, atol, work)
+    accepted(s, c, dsm, rtol, atol, work)
 }
 
-fn unconverged(s: Settings, c: Common, work: &mut [f64]) -> Turn
+fn pass_failed(s: Settings, c: Common, work: &mut [f64]) -> Turn
     requires { ⌜ Inside s c ⌝ }
     requires { ⌜ matrixAt (s .n) ≤ length (now work) ⌝ }
-    ensures { λ r. ⌜ kept r (now (work .exit)) ≡ unconvergedOf s c (now (work .entry)) ⌝ }
+    ensures { λ r. ⌜ turnWork r (now (work .exit)) ≡ passFailedOf s c (now (work .entry)) ⌝ }
 {
     attempted(attempt::no_convergence(s, c, work), s.n, work)
 }
@@ -127,7 +127,7 @@ fn iterate(s: Settings, c: Common, rtol: &[f64], atol: &[f64], work: &mut [f64],
     requires { ⌜ List1OrN (now rtol) (s .n - 1) ⌝ }
     requires { ⌜ List1OrN (now atol) (s .n - 1) ⌝ }
     requires { ⌜ Lent (s .n) (now work) (now ipiv) ⌝ }
-    ensures { λ r. ⌜ kept r (now (work .exit))
+    ensures { λ r. ⌜ turnWork r (now (work .exit))
         ≡ iterateOf s c (now (rtol .entry)) (now (atol .entry)) (now (ipiv .entry)) (now (work .entry)) ⌝ }
 {
     let n = s.n;
@@ -137,10 +137,10 @@ fn iterate(s: Settings, c: Common, rtol: &[f64], atol: &[f64], work: &mut [f64],
     let pass = verdict.pass;
     let d = verdict.common;
     match pass {
-        Pass::Converged => converged(s, d, x.del, rtol, atol, work),
-        Pass::Retry => turns::open_pass(d, n, work),
-        Pass::NoConvergence => unconverged(s, d, work),
-        Pass::Further => turns::ask_in_step(d, Phase::FurtherDerivative),
+        Pass::Converged => error_test(s, d, x.del, rtol, atol, work),
+        Pass::Retry => questions::open_pass(d, n, work),
+        Pass::NoConvergence => pass_failed(s, d, work),
+        Pass::Further => questions::ask_in_step(d, Phase::FurtherDerivative),
     }
 }
 
@@ -149,7 +149,7 @@ fn iterations(s: Settings, c: Common, rtol: &[f64], atol: &[f64], work: &mut [f6
     requires { ⌜ List1OrN (now rtol) (s .n - 1) ⌝ }
     requires { ⌜ List1OrN (now atol) (s .n - 1) ⌝ }
     requires { ⌜ Lent (s .n) (now work) (now ipiv) ⌝ }
-    ensures { λ r. ⌜ kept r (now (work .exit))
+    ensures { λ r. ⌜ turnWork r (now (work .exit))
         ≡ iterationsOf s c (now (rtol .entry)) (now (atol .entry)) (now (ipiv .entry)) (now (work .entry)) ⌝ }
 {
     let n = s.n;
@@ -160,14 +160,14 @@ fn iterations(s: Settings, c: Common, rtol: &[f64], atol: &[f64], work: &mut [f6
 }
 
 // The matrix is complete: factored, then the iterations; a singular one gives no convergence.
-fn factored(s: Settings, c: Common, rtol: &[f64], atol: &[f64], work: &mut [f64], ipiv: &mut [usize]) -> Turn
+fn matrix_done(s: Settings, c: Common, rtol: &[f64], atol: &[f64], work: &mut [f64], ipiv: &mut [usize]) -> Turn
     requires { ⌜ Inside s c ⌝ }
     requires { ⌜ c .nlu < 2 ^ 63 ⌝ }
     requires { ⌜ List1OrN (now rtol) (s .n - 1) ⌝ }
     requires { ⌜ List1OrN (now atol) (s .n - 1) ⌝ }
     requires { ⌜ Lent (s .n) (now work) (now ipiv) ⌝ }
-    ensures { λ r. ⌜ leaving (now (ipiv .exit)) (kept r (now (work .exit)))
-        ≡ factoredOf s c (now (rtol .entry)) (now (atol .entry)) (now (ipiv .entry)) (now (work .entry)) ⌝ }
+    ensures { λ r. ⌜ withPivots (now (ipiv .exit)) (turnWork r (now (work .exit)))
+        ≡ matrixDoneOf s c (now (rtol .entry)) (now (atol .entry)) (now (ipiv .entry)) (now (work .entry)) ⌝ }
 {
     let f = jacobian::finish_jacobian(s, c, work, ipiv);
     let done = f.done;
@@ -175,7 +175,7 @@ fn factored(s: Settings, c: Common, rtol: &[f64], atol: &[f64], work: &mut [f64]
     if done {
         return iterations(s, d, rtol, atol, work, ipiv);
     }
-    unconverged(s, d, work)
+    pass_failed(s, d, work)
 }
 
 // ---- replies in a pass
@@ -185,20 +185,20 @@ fn ask_column(s: Settings, c: Common, j: usize, work: &mut [f64]) -> Turn
     requires { ⌜ (s .n ≤ maxStates) × (j < s .n) ⌝ }
     requires { ⌜ (c .nfe < 2 ^ 63) × (c .count < 2 ^ 63) ⌝ }
     requires { ⌜ matrixAt (s .n) ≤ length (now work) ⌝ }
-    ensures { λ r. ⌜ kept r (now (work .exit)) ≡ askColumnOf s c j (now (work .entry)) ⌝ }
+    ensures { λ r. ⌜ turnWork r (now (work .exit)) ≡ askColumnOf s c j (now (work .entry)) ⌝ }
 {
     jacobian::perturb(s, c, work, j);
     let mut d = c;
     d.column = j;
-    turns::ask_in_step(d, Phase::DifferenceColumn)
+    questions::ask_in_step(d, Phase::DifferenceColumn)
 }
 
 // A Jacobian begins: asked of the host, or by differences from the first column.
-fn begin_jacobian(s: Settings, c: Common, work: &mut [f64]) -> Turn
+fn ask_jacobian(s: Settings, c: Common, work: &mut [f64]) -> Turn
     requires { ⌜ Inside s c ⌝ }
     requires { ⌜ c .nje < 2 ^ 63 ⌝ }
     requires { ⌜ matrixAt (s .n) ≤ length (now work) ⌝ }
-    ensures { λ r. ⌜ kept r (now (work .exit)) ≡ beginJacobianOf s c (now (work .entry)) ⌝ }
+    ensures { λ r. ⌜ turnWork r (now (work .exit)) ≡ askJacobianOf s c (now (work .entry)) ⌝ }
 {
     let d = jacobian::begin_jacobian(c);
     let meth = c.meth;
@@ -214,53 +214,77 @@ fn begin_jacobian(s: Settings, c: Common, work: &mut [f64]) -> Turn
 }
 
 // The derivative at the prediction.
-pub fn opened(s: Settings, c: Common, rtol: &[f64], atol: &[f64], f: &[f64], work: &mut [f64], ipiv: &[usize]) -> Turn
+pub fn opened_reply(
+    s: Settings,
+    c: Common,
+    rtol: &[f64],
+    atol: &[f64],
+    f: &[f64],
+    work: &mut [f64],
+    ipiv: &[usize],
+) -> Turn
     requires { ⌜ Inside s c ⌝ }
     requires { ⌜ c .nje < 2 ^ 63 ⌝ }
     requires { ⌜ List1OrN (now rtol) (s .n - 1) ⌝ }
     requires { ⌜ List1OrN (now atol) (s .n - 1) ⌝ }
     requires { ⌜ length (now f) ≡ s .n ⌝ }
     requires { ⌜ Lent (s .n) (now work) (now ipiv) ⌝ }
-    ensures { λ r. ⌜ kept r (now (work .exit))
-        ≡ openedOf s c (now (rtol .entry)) (now (atol .entry)) (now (f .entry))
+    ensures { λ r. ⌜ turnWork r (now (work .exit))
+        ≡ openedReplyOf s c (now (rtol .entry)) (now (atol .entry)) (now (f .entry))
             (now (ipiv .entry)) (now (work .entry)) ⌝ }
 {
     history::store(work, common::SAVF * s.n, f);
     let due = c.due;
     if due {
-        return begin_jacobian(s, c, work);
+        return ask_jacobian(s, c, work);
     }
     iterations(s, c, rtol, atol, work, ipiv)
 }
 
 // The host's Jacobian.
-pub fn jacobian(s: Settings, c: Common, rtol: &[f64], atol: &[f64], f: &[f64], work: &mut [f64], ipiv: &mut [usize]) -> Turn
+pub fn jacobian_reply(
+    s: Settings,
+    c: Common,
+    rtol: &[f64],
+    atol: &[f64],
+    f: &[f64],
+    work: &mut [f64],
+    ipiv: &mut [usize],
+) -> Turn
     requires { ⌜ Inside s c ⌝ }
     requires { ⌜ c .nlu < 2 ^ 63 ⌝ }
     requires { ⌜ List1OrN (now rtol) (s .n - 1) ⌝ }
     requires { ⌜ List1OrN (now atol) (s .n - 1) ⌝ }
     requires { ⌜ length (now f) ≡ s .n * s .n ⌝ }
     requires { ⌜ Lent (s .n) (now work) (now ipiv) ⌝ }
-    ensures { λ r. ⌜ leaving (now (ipiv .exit)) (kept r (now (work .exit)))
-        ≡ jacobianOf s c (now (rtol .entry)) (now (atol .entry)) (now (f .entry))
+    ensures { λ r. ⌜ withPivots (now (ipiv .exit)) (turnWork r (now (work .exit)))
+        ≡ jacobianReplyOf s c (now (rtol .entry)) (now (atol .entry)) (now (f .entry))
             (now (ipiv .entry)) (now (work .entry)) ⌝ }
 {
     let a = common::MATRIX * s.n;
     let e = a + f.len();
     jacobian::store_jacobian(c, &mut work[a..e], f);
-    factored(s, c, rtol, atol, work, ipiv)
+    matrix_done(s, c, rtol, atol, work, ipiv)
 }
 
 // The derivative of a difference column.
-pub fn column(s: Settings, c: Common, rtol: &[f64], atol: &[f64], f: &[f64], work: &mut [f64], ipiv: &mut [usize]) -> Turn
+pub fn column_reply(
+    s: Settings,
+    c: Common,
+    rtol: &[f64],
+    atol: &[f64],
+    f: &[f64],
+    work: &mut [f64],
+    ipiv: &mut [usize],
+) -> Turn
     requires { ⌜ Inside s c ⌝ }
     requires { ⌜ c .nlu < 2 ^ 63 ⌝ }
     requires { ⌜ List1OrN (now rtol) (s .n - 1) ⌝ }
     requires { ⌜ List1OrN (now atol) (s .n - 1) ⌝ }
     requires { ⌜ length (now f) ≡ s .n ⌝ }
     requires { ⌜ Lent (s .n) (now work) (now ipiv) ⌝ }
-    ensures { λ r. ⌜ leaving (now (ipiv .exit)) (kept r (now (work .exit)))
-        ≡ columnOf s c (now (rtol .entry)) (now (atol .entry)) (now (f .entry))
+    ensures { λ r. ⌜ withPivots (now (ipiv .exit)) (turnWork r (now (work .exit)))
+        ≡ columnReplyOf s c (now (rtol .entry)) (now (atol .entry)) (now (f .entry))
             (now (ipiv .entry)) (now (work .entry)) ⌝ }
 {
     history::store(work, common::FTEM * s.n, f);
@@ -271,18 +295,26 @@ pub fn column(s: Settings, c: Common, rtol: &[f64], atol: &[f64], f: &[f64], wor
     }
     let mut d = c;
     d.column = 0;
-    factored(s, d, rtol, atol, work, ipiv)
+    matrix_done(s, d, rtol, atol, work, ipiv)
 }
 
 // A further derivative.
-pub fn further(s: Settings, c: Common, rtol: &[f64], atol: &[f64], f: &[f64], work: &mut [f64], ipiv: &[usize]) -> Turn
+pub fn further_reply(
+    s: Settings,
+    c: Common,
+    rtol: &[f64],
+    atol: &[f64],
+    f: &[f64],
+    work: &mut [f64],
+    ipiv: &[usize],
+) -> Turn
     requires { ⌜ Inside s c ⌝ }
     requires { ⌜ List1OrN (now rtol) (s .n - 1) ⌝ }
     requires { ⌜ List1OrN (now atol) (s .n - 1) ⌝ }
     requires { ⌜ length (now f) ≡ s .n ⌝ }
     requires { ⌜ Lent (s .n) (now work) (now ipiv) ⌝ }
-    ensures { λ r. ⌜ kept r (now (work .exit))
-        ≡ furtherOf s c (now (rtol .entry)) (now (atol .entry)) (now (f .entry))
+    ensures { λ r. ⌜ turnWork r (now (work .exit))
+        ≡ furtherReplyOf s c (now (rtol .entry)) (now (atol .entry)) (now (f .entry))
             (now (ipiv .entry)) (now (work .entry)) ⌝ }
 {
     history::store(work, common::SAVF * s.n, f);
@@ -290,13 +322,13 @@ pub fn further(s: Settings, c: Common, rtol: &[f64], atol: &[f64], f: &[f64], wo
 }
 
 // The derivative after the third to ninth error failure.
-pub fn restep(s: Settings, c: Common, f: &[f64], work: &mut [f64]) -> Turn
+pub fn restep_reply(s: Settings, c: Common, f: &[f64], work: &mut [f64]) -> Turn
     requires { ⌜ Inside s c ⌝ }
     requires { ⌜ length (now f) ≡ s .n ⌝ }
     requires { ⌜ matrixAt (s .n) ≤ length (now work) ⌝ }
-    ensures { λ r. ⌜ kept r (now (work .exit)) ≡ restepOf s c (now (f .entry)) (now (work .entry)) ⌝ }
+    ensures { λ r. ⌜ turnWork r (now (work .exit)) ≡ restepReplyOf s c (now (f .entry)) (now (work .entry)) ⌝ }
 {
     history::store(work, common::SAVF * s.n, f);
     let d = attempt::restep(s, c, work);
-    turns::open_pass(d, s.n, work)
+    questions::open_pass(d, s.n, work)
 }

@@ -21,10 +21,10 @@ use Rattle.between_steps.specs.declared.Answer.{Answer}
 use Rattle.between_steps.specs.declared.Answer.the-variants.{Continue, Interrupt, Modified}
 use Rattle.between_steps.specs.declared.Status.the-variants.{Interrupted}
 use Rattle.between_steps.specs.Start.{withDerivative, inverted, firstStepOf, firstSizeOf, takenOf, restartOf}
-use Rattle.turns.specs.declared.Phase.the-variants as Phase
-use Rattle.turns.specs.declared.Question.the-variants as Question
-use Rattle.turns.specs.Turns.{Kept, kept, askedOf, finishedOf, weightRefused}
-use Rattle.turns.specs.Begin.{goOnOf}
+use Rattle.questions.specs.declared.Phase.the-variants as Phase
+use Rattle.questions.specs.declared.Question.the-variants as Question
+use Rattle.questions.specs.Turns.{TurnWork, turnWork, askedOf, finishedOf, weightRefused}
+use Rattle.questions.specs.Begin.{goOnOf}
 
 -- ---- the start
 
@@ -41,28 +41,28 @@ initialOf s x0 h hmin hmxi = record {
 }
 
 -- 11: a first step that is zero, NaN or of another sign
-unfoldable pub sizedAt : Settings → Bool → Common → Float → List Float → Kept
+unfoldable pub sizedAt : Settings → Bool → Common → Float → List Float → TurnWork
 sizedAt s true c h work =
-    kept (record { question = Question.StepRefused h; phase = Phase.Finished; common = with-h h c }) work
+    turnWork (record { question = Question.StepRefused h; phase = Phase.Finished; common = with-h h c }) work
 sizedAt s false c h work =
     let h1 = firstSizeOf s c h in
-    kept (record {
+    turnWork (record {
       question = Question.FirstReport (record { time = c .tn });
       phase = Phase.FirstReport;
       common = with-h h1 c;
     })
     (slopeOf (s .n) h1 work)
 
-unfoldable pub sizedOf : Settings → Common → Float → List Float → Kept
+unfoldable pub sizedOf : Settings → Common → Float → List Float → TurnWork
 sizedOf s c h work = sizedAt s (refused h (s .direction)) c h work
 
 -- 12: a weight at most 0
-unfoldable pub weightedAt : Settings → Common → List Float → List Float → Weights → List Float → Kept
-weightedAt s c rtol atol (Refused i) work = kept (weightRefused c i) work
+unfoldable pub weightedAt : Settings → Common → List Float → List Float → Weights → List Float → TurnWork
+weightedAt s c rtol atol (Refused i) work = turnWork (weightRefused c i) work
 weightedAt s c rtol atol Inverted work = sizedOf s c (firstStepOf s c rtol atol work) work
 
 -- the derivative at the start
-unfoldable pub firstDerivativeOf : Settings → Common → List Float → List Float → List Float → List Float → Kept
+unfoldable pub firstDerivativeOf : Settings → Common → List Float → List Float → List Float → List Float → TurnWork
 firstDerivativeOf s c rtol atol f work =
     let n = s .n in
     let w = ewsetOf rtol atol n (ewtAt n) (copyOf n 0 (yAt n) (withDerivative n f work)) in
@@ -71,24 +71,25 @@ firstDerivativeOf s c rtol atol f work =
 -- ---- reports
 
 -- at the first report continue and interrupt keep the time alone
-unfoldable pub firstReportOf : Settings → Common → Answer → List Float → Float → List Float → Kept
-firstReportOf s c Continue y time work = goOnOf s (with-tn time c) work
-firstReportOf s c Interrupt y time work = kept (finishedOf (with-tn time c) Interrupted) work
-firstReportOf s c Modified y time work = kept (askedOf (with-tn time c) Phase.FirstModified) (takenOf (s .n) y work)
+unfoldable pub afterFirstReportOf : Settings → Common → Answer → List Float → Float → List Float → TurnWork
+afterFirstReportOf s c Continue y time work = goOnOf s (with-tn time c) work
+afterFirstReportOf s c Interrupt y time work = turnWork (finishedOf (with-tn time c) Interrupted) work
+afterFirstReportOf s c Modified y time work =
+    turnWork (askedOf (with-tn time c) Phase.FirstModified) (takenOf (s .n) y work)
 
 -- the derivative after a modified first report: the weights stay
-unfoldable pub firstModifiedOf : Settings → Common → List Float → List Float → Kept
+unfoldable pub firstModifiedOf : Settings → Common → List Float → List Float → TurnWork
 firstModifiedOf s c f work = goOnOf s c (slopeOf (s .n) (c .h) (withDerivative (s .n) f work))
 
 -- after a step modified ignores the time given: it is the time before the step plus the step
-unfoldable pub afterReportOf : Settings → Common → Answer → List Float → Float → List Float → Kept
+unfoldable pub afterReportOf : Settings → Common → Answer → List Float → Float → List Float → TurnWork
 afterReportOf s c Continue y time work = goOnOf s (with-tn time c) (takenOf (s .n) y work)
-afterReportOf s c Interrupt y time work = kept (finishedOf (with-tn time c) Interrupted) (takenOf (s .n) y work)
+afterReportOf s c Interrupt y time work = turnWork (finishedOf (with-tn time c) Interrupted) (takenOf (s .n) y work)
 afterReportOf s c Modified y time work =
-    kept (askedOf (with-tn (c .told ⊕ c .hu) c) Phase.Modified) (takenOf (s .n) y work)
+    turnWork (askedOf (with-tn (c .told ⊕ c .hu) c) Phase.Modified) (takenOf (s .n) y work)
 
 -- the derivative after a modified report: weights 1 / max(|y|, 2^-52)
-unfoldable pub modifiedOf : Settings → Common → List Float → List Float → Kept
+unfoldable pub modifiedOf : Settings → Common → List Float → List Float → TurnWork
 modifiedOf s c f work =
     let n = s .n in
     goOnOf s (restartOf c) (inverted n (ewsetLikeOf n (ewtAt n) (slopeOf n (c .h) (withDerivative n f work))))

@@ -6,23 +6,23 @@ ghost use Rattle.vectors.specs.Tolerance.{List1OrN};
 ghost use Rattle.common.specs.Layout.{matrixAt};
 ghost use Rattle.between_steps.specs.Ranges.{Inside};
 ghost use Rattle.between_steps.specs.Start.{firstStepOf};
-ghost use Rattle.turns.specs.Turns.{kept};
-ghost use Rattle.reports.specs.Reports.{sizedOf, firstDerivativeOf, firstReportOf, firstModifiedOf};
+ghost use Rattle.questions.specs.Turns.{turnWork};
+ghost use Rattle.reports.specs.Reports.{sizedOf, firstDerivativeOf, afterFirstReportOf, firstModifiedOf};
 ghost use Rattle.reports.specs.Reports.{afterReportOf, modifiedOf};
 
 use between_steps::Answer;
 use between_steps::Status;
 use common::Common;
 use common::Settings;
-use turns::At;
-use turns::Phase;
-use turns::Question;
-use turns::Turn;
+use questions::At;
+use questions::Phase;
+use questions::Question;
+use questions::Turn;
 
 // The first step is known: refused (11), or the first report.
 fn sized(s: Settings, c: Common, h: f64, work: &mut [f64]) -> Turn
     requires { ⌜ matrixAt (s .n) ≤ length (now work) ⌝ }
-    ensures { λ r. ⌜ kept r (now (work .exit)) ≡ sizedOf s c h (now (work .entry)) ⌝ }
+    ensures { λ r. ⌜ turnWork r (now (work .exit)) ≡ sizedOf s c h (now (work .entry)) ⌝ }
 {
     let mut d = c;
     d.h = h;
@@ -40,7 +40,7 @@ fn weighted(s: Settings, c: Common, rtol: &[f64], atol: &[f64], work: &mut [f64]
     requires { ⌜ List1OrN (now rtol) (s .n - 1) ⌝ }
     requires { ⌜ List1OrN (now atol) (s .n - 1) ⌝ }
     requires { ⌜ matrixAt (s .n) ≤ length (now work) ⌝ }
-    ensures { λ r. ⌜ kept r (now (work .exit))
+    ensures { λ r. ⌜ turnWork r (now (work .exit))
         ≡ sizedOf s c (firstStepOf s c (now (rtol .entry)) (now (atol .entry)) (now (work .entry)))
             (now (work .entry)) ⌝ }
 {
@@ -63,7 +63,7 @@ pub fn first_derivative(s: Settings, c: Common, rtol: &[f64], atol: &[f64], f: &
     requires { ⌜ List1OrN (now atol) (s .n - 1) ⌝ }
     requires { ⌜ length (now f) ≡ s .n ⌝ }
     requires { ⌜ matrixAt (s .n) ≤ length (now work) ⌝ }
-    ensures { λ r. ⌜ kept r (now (work .exit))
+    ensures { λ r. ⌜ turnWork r (now (work .exit))
         ≡ firstDerivativeOf s c (now (rtol .entry)) (now (atol .entry)) (now (f .entry)) (now (work .entry)) ⌝ }
 {
     let n = s.n;
@@ -79,21 +79,21 @@ pub fn first_derivative(s: Settings, c: Common, rtol: &[f64], atol: &[f64], f: &
     }
 }
 
-pub fn first_report(s: Settings, c: Common, answer: Answer, y: &[f64], time: f64, work: &mut [f64]) -> Turn
+pub fn after_first_report(s: Settings, c: Common, answer: Answer, y: &[f64], time: f64, work: &mut [f64]) -> Turn
     requires { ⌜ Inside s c ⌝ }
     requires { ⌜ length (now y) ≡ s .n ⌝ }
     requires { ⌜ matrixAt (s .n) ≤ length (now work) ⌝ }
-    ensures { λ r. ⌜ kept r (now (work .exit))
-        ≡ firstReportOf s c answer (now (y .entry)) time (now (work .entry)) ⌝ }
+    ensures { λ r. ⌜ turnWork r (now (work .exit))
+        ≡ afterFirstReportOf s c answer (now (y .entry)) time (now (work .entry)) ⌝ }
 {
     let mut d = c;
     d.tn = time;
     match answer {
-        Answer::Continue => turns::go_on(s, d, work),
-        Answer::Interrupt => turns::finish(d, Status::Interrupted),
+        Answer::Continue => questions::go_on(s, d, work),
+        Answer::Interrupt => questions::finish(d, Status::Interrupted),
         Answer::Modified => {
             between_steps::take_state(s.n, y, work);
-            turns::ask(d, Phase::FirstModified)
+            questions::ask(d, Phase::FirstModified)
         }
     }
 }
@@ -103,30 +103,30 @@ pub fn first_modified(s: Settings, c: Common, f: &[f64], work: &mut [f64]) -> Tu
     requires { ⌜ Inside s c ⌝ }
     requires { ⌜ length (now f) ≡ s .n ⌝ }
     requires { ⌜ matrixAt (s .n) ≤ length (now work) ⌝ }
-    ensures { λ r. ⌜ kept r (now (work .exit)) ≡ firstModifiedOf s c (now (f .entry)) (now (work .entry)) ⌝ }
+    ensures { λ r. ⌜ turnWork r (now (work .exit)) ≡ firstModifiedOf s c (now (f .entry)) (now (work .entry)) ⌝ }
 {
     let n = s.n;
     history::store(work, common::SAVF * n, f);
     history::set_slope(work, n, c.h);
-    turns::go_on(s, c, work)
+    questions::go_on(s, c, work)
 }
 
 pub fn after_report(s: Settings, c: Common, answer: Answer, y: &[f64], time: f64, work: &mut [f64]) -> Turn
     requires { ⌜ Inside s c ⌝ }
     requires { ⌜ length (now y) ≡ s .n ⌝ }
     requires { ⌜ matrixAt (s .n) ≤ length (now work) ⌝ }
-    ensures { λ r. ⌜ kept r (now (work .exit))
+    ensures { λ r. ⌜ turnWork r (now (work .exit))
         ≡ afterReportOf s c answer (now (y .entry)) time (now (work .entry)) ⌝ }
 {
     between_steps::take_state(s.n, y, work);
     let mut d = c;
     d.tn = time;
     match answer {
-        Answer::Continue => turns::go_on(s, d, work),
-        Answer::Interrupt => turns::finish(d, Status::Interrupted),
+        Answer::Continue => questions::go_on(s, d, work),
+        Answer::Interrupt => questions::finish(d, Status::Interrupted),
         Answer::Modified => {
             d.tn = c.told + c.hu;
-            turns::ask(d, Phase::Modified)
+            questions::ask(d, Phase::Modified)
         }
     }
 }
@@ -136,11 +136,11 @@ pub fn modified(s: Settings, c: Common, f: &[f64], work: &mut [f64]) -> Turn
     requires { ⌜ Inside s c ⌝ }
     requires { ⌜ length (now f) ≡ s .n ⌝ }
     requires { ⌜ matrixAt (s .n) ≤ length (now work) ⌝ }
-    ensures { λ r. ⌜ kept r (now (work .exit)) ≡ modifiedOf s c (now (f .entry)) (now (work .entry)) ⌝ }
+    ensures { λ r. ⌜ turnWork r (now (work .exit)) ≡ modifiedOf s c (now (f .entry)) (now (work .entry)) ⌝ }
 {
     let n = s.n;
     history::store(work, common::SAVF * n, f);
     history::set_slope(work, n, c.h);
     between_steps::state_weights(n, work);
-    turns::go_on(s, between_steps::restart(c), work)
+    questions::go_on(s, between_steps::restart(c), work)
 }

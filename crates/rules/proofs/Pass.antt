@@ -26,12 +26,12 @@ use Rattle.between_steps.specs.Pass.{isSupplied}
 use Rattle.rules.specs.Play.{Play}
 use Rattle.rules.specs.Pass.{askedInStep, stored, Outcome, converged, toRetry, unconverged}
 use Rattle.rules.specs.Pass.{Iterated, iterated, further, furtherAllowed, turns, fresh, iterations, factored}
-use Rattle.rules.specs.Pass.{factoredState, factoredAt, afterMatrix, columnAsked, columnStored, columns}
-use Rattle.rules.specs.Pass.{unperturbed, matrixGiven, matrix, sourceOf, begun, passAt, opened, pass}
+use Rattle.rules.specs.Pass.{factoredState, factoredIn, afterMatrix, columnAsked, columnStored, askColumns}
+use Rattle.rules.specs.Pass.{unperturbed, matrixGiven, askMatrix, sourceOf, begun, passAt, opened, pass}
 use Rattle.rules.specs.Rules.{limitsOf}
 use Rattle.rules.specs.Steps.{Tally, Step, oneDerivative, costOf, oneJacobian, onePass, oneRetry}
 use Rattle.rules.specs.Caps.{passesOf, retriesOf, jacobiansOf, derivativesOf, Capped}
-use Rattle.rules.specs.Demands.{Kept}
+use Rattle.rules.specs.Demands.{CapsKept}
 use Rattle.rules.specs.Counts.{Counted}
 use Rattle.rules.proofs.Tracks.{Whole, now, Base, Tracks, same-tracks, node}
 
@@ -138,7 +138,7 @@ module _ (g : Given) (f : MethodFamily) (b : Common) (xs : List Step) (base : Ba
       }
 
   place : {r : ℕ} (x : State) (u : Tally) → During r (x .c) u
-      → Kept x (now f s u ∷ xs) × Counted s (x .c)
+      → CapsKept x (now f s u ∷ xs) × Counted s (x .c)
   place x u p =
       node s f b xs base x u (p .tracks) (omega (arith, p .rejected, p .passes, room .rejected)) (capped p)
 
@@ -206,8 +206,8 @@ module _ (g : Given) (f : MethodFamily) (b : Common) (xs : List Step) (base : Ba
     -- ---- the Jacobian, begun in this pass and not yet factored
 
     factored-at : (done : Bool) (z : State) (u : Tally) → During (furtherAllowed s) (z .c) u → z .c .jcur ≡ true
-        → Whole g (factoredAt g on done z) (now f s u ∷ xs)
-    unfolding factoredAt
+        → Whole g (factoredIn g on done z) (now f s u ∷ xs)
+    unfolding factoredIn
     factored-at true z u p new = iterations-whole z u p (λ e. differs (sym e ∙ new))
     factored-at false z u p new = after .fails z u (fewer 0 (omega arith) p)
 
@@ -238,8 +238,8 @@ module _ (g : Given) (f : MethodFamily) (b : Common) (xs : List Step) (base : Ba
         (finished-flags s (z .c) (z .w) (z .p) .0 ∙ new)
 
     columns-whole : (k j : ℕ) (z : State) (u : Tally) → During (k + (furtherAllowed s)) (z .c) u → z .c .jcur ≡ true
-        → z .c .nlu + 1 ≤ b .nlu + u .jacobians → Whole g (columns k j g on z) (now f s u ∷ xs)
-    unfolding columns
+        → z .c .nlu + 1 ≤ b .nlu + u .jacobians → Whole g (askColumns k j g on z) (now f s u ∷ xs)
+    unfolding askColumns
     columns-whole zero j z u p new lu = after-matrix _ u (set-column 0 (fewer _ (omega arith) p)) new lu
     columns-whole (suc k) j z u p new lu =
         let v = oneDerivative u in
@@ -249,8 +249,8 @@ module _ (g : Given) (f : MethodFamily) (b : Common) (xs : List Step) (base : Ba
 
     matrix-whole : (given : Bool) (z : State) (u : Tally)
         → During (costOf (limitsOf s) (sourceOf given) + (furtherAllowed s)) (z .c) u → z .c .jcur ≡ true
-        → z .c .nlu + 1 ≤ b .nlu + u .jacobians → Whole g (matrix g on given z) (now f s u ∷ xs)
-    unfolding matrix
+        → z .c .nlu + 1 ≤ b .nlu + u .jacobians → Whole g (askMatrix g on given z) (now f s u ∷ xs)
+    unfolding askMatrix
     matrix-whole true z u p new lu =
         (place z u p, λ f1. after-matrix (matrixGiven g f1 z) u (fewer _ (omega arith) p) new lu)
     matrix-whole false z u p new lu = columns-whole (s .n) 0 (unperturbed g z) u (fewer _ (omega arith) p) new lu

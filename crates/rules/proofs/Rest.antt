@@ -26,11 +26,11 @@ use Rattle.between_steps.specs.declared.Answer.the-variants.{Continue, Interrup
 use Rattle.between_steps.specs.Ranges.{Accepted}
 use Rattle.rules.specs.Play.{Question, Play, Ending, accepted, gap, tooSmall, poor}
 use Rattle.rules.specs.Pass.{put-w, asked}
-use Rattle.rules.specs.Rules.{reportedState, taken, timed, modified, restarted, answered, closed, closing}
-use Rattle.rules.specs.Rules.{settled, acceptance, settledState, stepped, limitsOf}
+use Rattle.rules.specs.Rules.{reportedState, taken, timed, modified, restarted, afterReport, closed, closing}
+use Rattle.rules.specs.Rules.{afterAcceptance, acceptance, settledState, stepped, limitsOf}
 use Rattle.rules.specs.Steps.{Tally, Step, requested, noted, isEnded, isEndedKeeping, number}
 use Rattle.rules.specs.Caps.{passesOf, Capped, Every}
-use Rattle.rules.specs.Demands.{Kept}
+use Rattle.rules.specs.Demands.{CapsKept}
 use Rattle.rules.specs.Counts.{stepMost, Counted}
 use Rattle.rules.proofs.Tracks.{Whole, Between, passes-cost, between-counted, now, Base}
 use Rattle.rules.proofs.Tracks.{most-passes, derivatives-most, tracks-counted}
@@ -119,7 +119,7 @@ module _ (g : Given) (acc : Accepted (g .s)) where
   abbrev s : Settings
   s = g .s
 
-  pub rest-place : {N : ℕ} (x : State) (ys : List Step) → Rest s N (x .c) ys → Kept x ys × Counted s (x .c)
+  pub rest-place : {N : ℕ} (x : State) (ys : List Step) → Rest s N (x .c) ys → CapsKept x ys × Counted s (x .c)
   rest-place {N} x ys p =
       (record { capped = p .capped; accepted = rw (p .between .nst) (p .balanced) },
       between-counted s N (x .c) acc (p .few) (p .between))
@@ -136,8 +136,8 @@ module _ (g : Given) (acc : Accepted (g .s)) where
 
   module _ (N : ℕ) (on : State → Play) (go : Goes N on) where
     answered-whole : (x : State) (ys : List Step) → Rest s N (x .c) ys → Ample N (x .c)
-        → (a : Answer) (y : List Float) (t : Float) → Whole g (answered g on x a y t) ys
-    unfolding answered
+        → (a : Answer) (y : List Float) (t : Float) → Whole g (afterReport g on x a y t) ys
+    unfolding afterReport
     answered-whole x ys p more Continue y t =
         go (timed t (taken g y x)) ys (same-rest _ refl p)
     answered-whole x ys p more Interrupt y t =
@@ -232,7 +232,7 @@ module _ (g : Given) (acc : Accepted (g .s)) where
         counted-down r i N h few (inr e) = (omega arith, omega arith)
 
     ended-place : (z : State) (u : Tally) → Done s f b (z .c) u → (e : Ending) → isEndedKeeping (some e) ≡ true
-        → Kept z (with-end u e ∷ xs) × Counted s (z .c)
+        → CapsKept z (with-end u e ∷ xs) × Counted s (z .c)
     ended-place z u p e keeps =
         (record {
           capped = (capped-end u e (p .capped), base .capped);
@@ -242,8 +242,8 @@ module _ (g : Given) (acc : Accepted (g .s)) where
 
     settled-whole : (on : State → Play) → Goes (suc (b .nst)) on → (order : ℕ) (isGap : Bool) (z : State) (u : Tally)
         → Done s f b (z .c) u → (dsm : Float)
-        → Whole g (settled g on order isGap (settledState z (acceptance g dsm z))) (now f s u ∷ xs)
-    unfolding settled
+        → Whole g (afterAcceptance g on order isGap (settledState z (acceptance g dsm z))) (now f s u ∷ xs)
+    unfolding afterAcceptance
     settled-whole on go order true z u p dsm =
         let q = accepted-rest (z .c) u p dsm (z .w) gap refl in
         let k = rest-place (settledState z (acceptance g dsm z)) _ (q .0) in

@@ -22,7 +22,7 @@ use Rattle.rules.specs.Play.{Limits, Play}
 use Rattle.rules.specs.Rules.{limitsOf}
 use Rattle.rules.specs.Steps.{Tally, Step, isEnded, isEndedKeeping, number}
 use Rattle.rules.specs.Caps.{passesOf, jacobiansOf, Capped, Every}
-use Rattle.rules.specs.Demands.{Throughout, Kept, Demand3At}
+use Rattle.rules.specs.Demands.{Throughout, CapsKept, Demand3At}
 use Rattle.rules.specs.Counts.{stepMost, Counted, CountedAt}
 
 -- what both theorems say of a place of the tree, and of all of them
@@ -157,6 +157,6 @@ module _ (s : Settings) (f : MethodFamily) (b : Common) (xs : List Step) (base :
 
   -- at a question in the step
   pub node : (x : State) (t : Tally) → Tracks s f b (x .c) t → x .c .rejected ≤ b .rejected + t .passes
-      → Capped (now f s t) → Kept x (now f s t ∷ xs) × Counted s (x .c)
+      → Capped (now f s t) → CapsKept x (now f s t ∷ xs) × Counted s (x .c)
   node x t p few q =
       (record { capped = (q, base .capped); accepted = rw (p .nst) (base .balanced) }, tracks-counted (x .c) t p few q)

@@ -64,14 +64,14 @@ latest [] = 0
 latest (x ∷ xs) = x .tally .derivatives
 
 -- each step within its caps; accepted = ended - ended too small - ended poor
-pub record Kept (x : State) (xs : List Step) : Type 0 where
+pub record CapsKept (x : State) (xs : List Step) : Type 0 where
   pub capped : Every Capped xs
   pub accepted : x .c .nst + number isEndedKeeping xs ≡ number isEnded xs
 
 abbrev pub Demand3At : Given → Play → List Step → Type 0
-Demand3At g (ret e) xs = Kept (lastState e) xs × Named e
-Demand3At g (ask q x k) xs = Kept x xs
-Demand3At g (tell r x k) xs = Kept x xs × (r .count ≡ latest xs)
+Demand3At g (ret e) xs = CapsKept (lastState e) xs × Named e
+Demand3At g (ask q x k) xs = CapsKept x xs
+Demand3At g (tell r x k) xs = CapsKept x xs × (r .count ≡ latest xs)
 Demand3At g (say e p) xs = ⊥
 
 -- ---- demand 1

@@ -36,8 +36,8 @@ put-c c x = made x c (x .w)
 abbrev pub put-w : List Float → State → State
 put-w w x = made x (x .c) w
 
-abbrev pub moved : State → Moved → State
-moved x m = made x (m .common) (m .work)
+abbrev pub movedTo : State → Moved → State
+movedTo x m = made x (m .common) (m .work)
 
 -- a derivative is asked for, in no step and in the step under way: the counts rise with the question
 abbrev pub asked : Common → Common
@@ -112,12 +112,12 @@ abbrev pub factoredState : Factored → State
 factoredState f = record { c = f .common; w = f .work; p = f .ipiv }
 
 -- a singular matrix gives no convergence
-unfoldable pub factoredAt : Given → (Outcome → Play) → Bool → State → Play
-factoredAt g on true x = iterations g on x
-factoredAt g on false x = on (unconverged x)
+unfoldable pub factoredIn : Given → (Outcome → Play) → Bool → State → Play
+factoredIn g on true x = iterations g on x
+factoredIn g on false x = on (unconverged x)
 
 unfoldable pub afterMatrix : Given → (Outcome → Play) → State → Play
-afterMatrix g on x = factoredAt g on (factored g x .done) (factoredState (factored g x))
+afterMatrix g on x = factoredIn g on (factored g x .done) (factoredState (factored g x))
 
 -- column j is asked for
 abbrev pub columnAsked : Given → ℕ → State → State
@@ -132,11 +132,11 @@ abbrev pub wantedColumn : Given → State → Question
 wantedColumn g x = derivativeAt (x .c .tn) (yfd (g .s .n) (x .w))
 
 -- k columns are still to come, j the next
-unfoldable pub columns : ℕ → ℕ → Given → (Outcome → Play) → State → Play
-columns zero j g on x = afterMatrix g on (put-c (with-column 0 (x .c)) x)
-columns (suc k) j g on x =
+unfoldable pub askColumns : ℕ → ℕ → Given → (Outcome → Play) → State → Play
+askColumns zero j g on x = afterMatrix g on (put-c (with-column 0 (x .c)) x)
+askColumns (suc k) j g on x =
     ask (wantedColumn g (columnAsked g j x)) (columnAsked g j x)
-    (λ f. columns k (j + 1) g on (columnStored g f (columnAsked g j x)))
+    (λ f. askColumns k (j + 1) g on (columnStored g f (columnAsked g j x)))
 
 -- the perturbed state begins as y
 abbrev pub unperturbed : Given → State → State
@@ -150,10 +150,10 @@ abbrev pub columnsOf : Settings → ℕ
 columnsOf s = s .n
 
 -- by the host, or by differences
-unfoldable pub matrix : Given → (Outcome → Play) → Bool → State → Play
-matrix g on true x =
+unfoldable pub askMatrix : Given → (Outcome → Play) → Bool → State → Play
+askMatrix g on true x =
     ask (jacobianAt (x .c .tn) (y (g .s .n) (x .w))) x (λ f. afterMatrix g on (matrixGiven g f x))
-matrix g on false x = columns (columnsOf (g .s)) 0 g on (unperturbed g x)
+askMatrix g on false x = askColumns (columnsOf (g .s)) 0 g on (unperturbed g x)
 
 abbrev pub sourceOf : Bool → Source
 sourceOf true = supplied
@@ -167,7 +167,7 @@ begun x = put-c (beginOf (x .c)) x
 -- a Jacobian is due, or not
 unfoldable pub passAt : Given → (Outcome → Play) → Bool → State → Play
 passAt g on true x =
-    say (jacobian (sourceOf (isSupplied (g .s) (x .c)))) (matrix g on (isSupplied (g .s) (x .c)) (begun x))
+    say (jacobian (sourceOf (isSupplied (g .s) (x .c)))) (askMatrix g on (isSupplied (g .s) (x .c)) (begun x))
 passAt g on false x = iterations g on x
 
 -- y is the prediction, column 0

@@ -28,29 +28,29 @@ abbrev pub answersReport : ℕ → Reply → Bool
 answersReport n r = isAnswer (r .kind) (length (r .numbers)) n
 
 -- where a run stands, its next question, report or end, and its steps so far
-pub record Seen : Type 0 where
+pub record Progress : Type 0 where
   pub play : Play
   pub steps : List Step
 
 -- waiting for a reply that answers: `at` where the list ends first
-unfoldable pub waits : (Reply → Bool) → (Reply → List Reply → Seen) → Seen → List Reply → Seen
+unfoldable pub waits : (Reply → Bool) → (Reply → List Reply → Progress) → Progress → List Reply → Progress
 waits is on at [] = at
 waits is on at (r ∷ rs) = cond (is r) (on r rs) (waits is on at rs)
 
 -- what a reply to a report says; one of another kind has been refused
-abbrev pub answerOf : Kind → Answer
-answerOf (Kind.Report a) = a
-answerOf Kind.Derivative = Continue
-answerOf Kind.Jacobian = Continue
+abbrev pub answerGiven : Kind → Answer
+answerGiven (Kind.Report a) = a
+answerGiven Kind.Derivative = Continue
+answerGiven Kind.Jacobian = Continue
 
 -- the run p, its steps so far being xs, after a list of replies
-unfoldable pub fed : ℕ → Play → List Step → List Reply → Seen
+unfoldable pub fed : ℕ → Play → List Step → List Reply → Progress
 fed n (ret e) xs rs = record { play = ret e; steps = xs }
 fed n (ask q x k) xs rs =
     waits (answers n q) (λ r rest. fed n (k (r .numbers)) (noted q xs) rest)
     (record { play = ask q x k; steps = noted q xs }) rs
 fed n (tell q x k) xs rs =
-    waits (answersReport n) (λ r rest. fed n (k (answerOf (r .kind)) (r .numbers) (r .time)) xs rest)
+    waits (answersReport n) (λ r rest. fed n (k (answerGiven (r .kind)) (r .numbers) (r .time)) xs rest)
     (record { play = tell q x k; steps = xs }) rs
 fed n (say e p) xs rs = fed n p (marked e xs) rs
 
@@ -61,5 +61,5 @@ AllAsked n (ask q x k) [] = Unit {0}
 AllAsked n (ask q x k) (r ∷ rs) = (answers n q r ≡ true) × AllAsked n (k (r .numbers)) rs
 AllAsked n (tell q x k) [] = Unit {0}
 AllAsked n (tell q x k) (r ∷ rs) =
-    (answersReport n r ≡ true) × AllAsked n (k (answerOf (r .kind)) (r .numbers) (r .time)) rs
+    (answersReport n r ≡ true) × AllAsked n (k (answerGiven (r .kind)) (r .numbers) (r .time)) rs
 AllAsked n (say e p) rs = AllAsked n p rs

@@ -37,7 +37,7 @@ use Rattle.reports.specs.Reports.{initialOf}
 use Rattle.rules.specs.Play.{Report, Limits, accepted, gap, tooSmall, poor}
 use Rattle.rules.specs.Play.{begins, ends, finished, stepRefused, weightRefused, exhausted}
 use Rattle.rules.specs.Play.{Play, ret, ask, tell, say}
-use Rattle.rules.specs.Pass.{made, put-c, put-w, moved, asked, askedInStep, wanted, stored, columnsOf}
+use Rattle.rules.specs.Pass.{made, put-c, put-w, movedTo, asked, askedInStep, wanted, stored, columnsOf}
 use Rattle.rules.specs.Pass.{Outcome, converged, toRetry, unconverged, pass}
 
 -- ---- the attempts of a step
@@ -52,7 +52,7 @@ abbrev pub single : State → State
 single x = put-c (askedInStep (x .c)) x
 
 abbrev pub restepped : Given → List Float → State → State
-restepped g f x = moved x (restepOf (g .s) (x .c) (stored g f x .w))
+restepped g f x = movedTo x (restepOf (g .s) (x .c) (stored g f x .w))
 
 -- what follows a pass that was not accepted; `again` is the next pass
 unfoldable pub follow : Given → (State → Play) → (Ended → Play) → Next → State → Play
@@ -92,8 +92,8 @@ attempts (suc k) g on x = pass g (decide g (attempts k g on) on) x
 -- ---- the end of a step
 
 -- n, nq, t, h, hu, 2^-52, columns 0 to nq
-abbrev pub snapshotOf : Given → State → List Float
-snapshotOf g x =
+abbrev pub snapshotIn : Given → State → List Float
+snapshotIn g x =
     whole (g .s .n) ∷ whole (x .c .nq) ∷ x .c .tn ∷ x .c .h ∷ x .c .hu ∷ uround
     ∷ part 0 ((x .c .nq + 1) * g .s .n) (x .w)
 
@@ -102,13 +102,13 @@ abbrev pub reportedState : Given → State → State
 reportedState g x =
     made x (with-total (x .c .nst + x .c .rejected) (x .c)) (copyOf (g .s .n) (yAt (g .s .n)) 0 (x .w))
 
-abbrev pub reportOf : Given → State → Report
-reportOf g x = record {
+abbrev pub reportAt : Given → State → Report
+reportAt g x = record {
   previous = x .c .told;
   time = x .c .tn;
   y = y (g .s .n) (x .w);
   count = x .c .count;
-  snapshot = snapshotOf g x;
+  snapshot = snapshotIn g x;
 }
 
 -- the host's y, in y and in column 0
@@ -129,17 +129,17 @@ restarted g f x =
     made x (restartOf (x .c)) (inverted n (ewsetLikeOf n (ewtAt n) (slopeOf n (x .c .h) (stored g f x .w))))
 
 -- the answer to a step's report; `on` goes on with the run
-unfoldable pub answered : Given → (State → Play) → State → Answer → List Float → Float → Play
-answered g on x Continue f t = on (timed t (taken g f x))
-answered g on x Interrupt f t = ret (finished Status.Interrupted (timed t (taken g f x)))
-answered g on x Modified f t =
+unfoldable pub afterReport : Given → (State → Play) → State → Answer → List Float → Float → Play
+afterReport g on x Continue f t = on (timed t (taken g f x))
+afterReport g on x Interrupt f t = ret (finished Status.Interrupted (timed t (taken g f x)))
+afterReport g on x Modified f t =
     ask (wanted g (modified g f x)) (modified g f x) (λ d. on (restarted g d (modified g f x)))
 
 -- the weights of the new state, inverted or refused (12)
 unfoldable pub closed : Given → (State → Play) → Weights → State → Play
 closed g on (Refused i) x = ret (weightRefused i x)
 closed g on Inverted x =
-    tell (reportOf g (reportedState g x)) (reportedState g x) (answered g on (reportedState g x))
+    tell (reportAt g (reportedState g x)) (reportedState g x) (afterReport g on (reportedState g x))
 
 abbrev pub closing : Given → ℕ → State → Closed
 closing g order x = closedOf (g .s) (x .c) order (g .rtol) (g .atol) (x .w)
@@ -155,9 +155,9 @@ isGap Branch.HeldBySm1 = false
 isGap Branch.FamilyChanged = false
 
 -- the coefficient gap, or not; the order is the one that the step used
-unfoldable pub settled : Given → (State → Play) → ℕ → Bool → State → Play
-settled g on order true x = say (ends gap) (ret (finished Status.CoefficientGap x))
-settled g on order false x =
+unfoldable pub afterAcceptance : Given → (State → Play) → ℕ → Bool → State → Play
+afterAcceptance g on order true x = say (ends gap) (ret (finished Status.CoefficientGap x))
+afterAcceptance g on order false x =
     say (ends accepted) (closed g on (closing g order x .weights) (put-w (closing g order x .work) x))
 
 abbrev pub acceptance : Given → Float → State → Settled
@@ -168,7 +168,7 @@ settledState x r = made x (r .common) (r .work)
 
 unfoldable pub stepped : Given → (State → Play) → Ended → Play
 stepped g on (endedAccepted dsm x) =
-    settled g on (x .c .nq) (isGap (acceptance g dsm x .branch)) (settledState x (acceptance g dsm x))
+    afterAcceptance g on (x .c .nq) (isGap (acceptance g dsm x .branch)) (settledState x (acceptance g dsm x))
 stepped g on (endedSmall x) = say (ends tooSmall) (ret (finished Status.StepTooSmall x))
 stepped g on (endedPoor x) = say (ends poor) (ret (finished Status.PoorConvergence x))
 
@@ -176,12 +176,12 @@ stepped g on (endedPoor x) = say (ends poor) (ret (finished Status.PoorConvergen
 
 -- cut or set up, then predicted
 abbrev pub prepared : Given → State → State
-prepared g x = moved x (preparedOf (g .s) (x .c) (x .w))
+prepared g x = movedTo x (preparedOf (g .s) (x .c) (x .w))
 
 abbrev pub predicted : Given → State → State
 predicted g x =
     let q = prepared g x in
-    moved x (predictedAt (g .s) (enteredOf (x .c .tn) (q .c)) (q .w))
+    movedTo x (predictedAt (g .s) (enteredOf (x .c .tn) (q .c)) (q .w))
 
 abbrev pub limitsOf : Settings → Limits
 limitsOf s = record { mxncf = mxncfOf s; maxcor = s .maxcor; columns = columnsOf s }
@@ -233,8 +233,8 @@ beginning g a =
 abbrev pub sizedState : Given → Float → State → State
 sizedState g h x = let h1 = firstSizeOf (g .s) (x .c) h in made x (with-h h1 (x .c)) (slopeOf (g .s .n) h1 (x .w))
 
-abbrev pub firstReportOf : Given → State → Report
-firstReportOf g x = record {
+abbrev pub firstReportAt : Given → State → Report
+firstReportAt g x = record {
   previous = x .c .tn;
   time = x .c .tn;
   y = y (g .s .n) (x .w);
@@ -259,7 +259,7 @@ firstAnswered g x Modified f t =
 -- 11: a first step that is zero, NaN or of another sign
 unfoldable pub sized : Given → Bool → Float → State → Play
 sized g true h x = ret (stepRefused h (put-c (with-h h (x .c)) x))
-sized g false h x = tell (firstReportOf g (sizedState g h x)) (sizedState g h x) (firstAnswered g (sizedState g h x))
+sized g false h x = tell (firstReportAt g (sizedState g h x)) (sizedState g h x) (firstAnswered g (sizedState g h x))
 
 abbrev pub firstStep : Given → State → Float
 firstStep g x = firstStepOf (g .s) (x .c) (g .rtol) (g .atol) (x .w)

@@ -32,7 +32,7 @@ use Rattle.acceptance.specs.Order.{Settled}
 use Rattle.acceptance.specs.Accept.{acceptOf}
 use Rattle.between_steps.specs.declared.Status.the-variants as Status
 use Rattle.rules.specs.Play.{Report, finished, ret}
-use Rattle.rules.specs.Rules.{predicted, step, solve, reportedState, reportOf, modified, restarted}
+use Rattle.rules.specs.Rules.{predicted, step, solve, reportedState, reportAt, modified, restarted}
 
 -- |h| ≤ hmin·1.00001
 abbrev pub Tiny : Common → Type 0
@@ -134,6 +134,6 @@ pub record StepSaid : Type 0 where
   pub gap : (s : Settings) (c : Common) (dsm : Float) (work : List Float) → GapSaid c (acceptOf s c dsm work)
   pub between : (g : Given) (x : State) → BetweenSaid g x
   pub opened : (g : Given) (x : State) → OpenedSaid x (predicted g x)
-  pub report : (g : Given) (x : State) → ReportSaid x (reportedState g x) (reportOf g (reportedState g x))
+  pub report : (g : Given) (x : State) → ReportSaid x (reportedState g x) (reportAt g (reportedState g x))
   pub modified-run : (g : Given) (y f : List Float) (x : State)
       → ModifiedSaid x (modified g y x) (restarted g f (modified g y x))

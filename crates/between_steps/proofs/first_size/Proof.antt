@@ -38,8 +38,10 @@ returns c =
     ⊎-elim (λ w. w .4 ∙ rw (w .0 .taken, w .3 .ensures, w .1 .ensures)) (λ w. w .1 ∙ rw (w .0 .left)) (j .if1 .came)
     in
     let h2 : k .if2 .h2 ≡ cond (Ieee.lt (absOf d) (absOf (j .if1 .h1))) d (j .if1 .h1) =
-    ⊎-elim (λ w. w .3 ∙ rw (← k .before .abs3 .ensures, ← k .before .before .before .before .abs2 .ensures, w .0 .taken))
-    (λ w. w .1 ∙ rw (← k .before .abs3 .ensures, ← k .before .before .before .before .abs2 .ensures, w .0 .left)) (k .if2 .came)
+    ⊎-elim (λ w. w .3 ∙ rw (← k .before .abs3 .ensures, ← k .before .before .before .before .abs2 .ensures,
+      w .0 .taken))
+    (λ w. w .1 ∙ rw (← k .before .abs3 .ensures, ← k .before .before .before .before .abs2 .ensures,
+      w .0 .left)) (k .if2 .came)
     in
     rw (← h1, ← h2, ← c .before .before .before .before .abs4 .ensures, c .before .before .if3 .taken)
 
@@ -54,8 +56,10 @@ returns-2 c =
     ⊎-elim (λ w. w .4 ∙ rw (w .0 .taken, w .3 .ensures, w .1 .ensures)) (λ w. w .1 ∙ rw (w .0 .left)) (j .if1 .came)
     in
     let h2 : k .if2 .h2 ≡ cond (Ieee.lt (absOf d) (absOf (j .if1 .h1))) d (j .if1 .h1) =
-    ⊎-elim (λ w. w .3 ∙ rw (← k .before .abs3 .ensures, ← k .before .before .before .before .abs2 .ensures, w .0 .taken))
-    (λ w. w .1 ∙ rw (← k .before .abs3 .ensures, ← k .before .before .before .before .abs2 .ensures, w .0 .left)) (k .if2 .came)
+    ⊎-elim (λ w. w .3 ∙ rw (← k .before .abs3 .ensures, ← k .before .before .before .before .abs2 .ensures,
+      w .0 .taken))
+    (λ w. w .1 ∙ rw (← k .before .abs3 .ensures, ← k .before .before .before .before .abs2 .ensures,
+      w .0 .left)) (k .if2 .came)
     in
     rw (← h1, ← h2, ← c .before .before .abs4 .ensures, c .if3 .left)
 

@@ -19,7 +19,8 @@ same-length : tie.Need-same-length
 same-length c = search needs
 
 returns : tie.Need-returns
-returns c = rw (← c .before .before .before .before .before .before .store .ensures) (c .before .before .copy-part .ensures)
+returns c =
+    rw (← c .before .before .before .before .before .before .store .ensures) (c .before .before .copy-part .ensures)
 
 pub take-first-spec : {M : Type 1} → statement M
 take-first-spec =

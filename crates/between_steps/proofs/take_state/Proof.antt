@@ -16,7 +16,8 @@ same-length : tie.Need-same-length
 same-length c = search needs
 
 returns : tie.Need-returns
-returns c = rw (← c .before .before .before .before .before .before .store .ensures) (c .before .before .store2 .ensures)
+returns c =
+    rw (← c .before .before .before .before .before .before .store .ensures) (c .before .before .store2 .ensures)
 
 pub take-state-spec : {M : Type 1} → statement M
 take-state-spec =

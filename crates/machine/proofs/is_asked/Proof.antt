@@ -13,9 +13,9 @@ use Rattle.between_steps.specs.declared.Kind.{Kind}
 use Rattle.between_steps.specs.declared.Kind.the-variants.{Derivative, Jacobian, Report}
 use Rattle.between_steps.specs.Replies.{isDerivative, isJacobian, isAnswer}
 use Rattle.between_steps.proofs.Kind.{the-type as kinds}
-use Rattle.turns.specs.declared.Phase.{Phase}
-use Rattle.turns.specs.declared.Phase.the-variants as Phase
-use Rattle.turns.proofs.Phase.{the-type as phases}
+use Rattle.questions.specs.declared.Phase.{Phase}
+use Rattle.questions.specs.declared.Phase.the-variants as Phase
+use Rattle.questions.proofs.Phase.{the-type as phases}
 use Rattle.machine.specs.Resume.{isAsked}
 use Rattle.machine.proofs.is_asked.Statement.{statement}
 use Rattle.machine.proofs.is_asked.Tie as tie

@@ -6,9 +6,9 @@ use borrow.Author.Needs.{needs}
 use borrow.Author.Tests.{not-true, not-false}
 use Rattle.between_steps.specs.declared.Kind.{Kind}
 use Rattle.between_steps.proofs.Inside.{inside-ranges}
-use Rattle.turns.specs.Turns.{leaving}
-use Rattle.turns.specs.declared.Phase.the-variants as Phase
-use Rattle.machine.specs.Resume.{With, firstAnsweredOf, answeredOf, takenOf}
+use Rattle.questions.specs.Turns.{withPivots}
+use Rattle.questions.specs.declared.Phase.the-variants as Phase
+use Rattle.machine.specs.Resume.{With, firstAnsweredOf, answeredOf, dealtOf}
 use denote.Ref.{now}
 use Rattle.machine.proofs.Replies.{derivative-length, jacobian-length, answer-length, held, asked-in}
 use Rattle.machine.proofs.Replies.{resume-asked, resume-unasked, first-unasked, report-unasked}
@@ -45,8 +45,8 @@ enum-told-2 c = search needs
 enum-known-kind : tie.Need-enum-known-kind
 enum-known-kind c = search needs
 
-first-report-requires : tie.Need-first-report-requires
-first-report-requires c κs =
+after-first-report-requires : tie.Need-after-first-report-requires
+after-first-report-requires c κs =
     let e = c .before .before .before .before in
     let t = e .enum-told2 .given .1 in
     let a = e .before .before .before .before .before .before .before .before .before .before .before in
@@ -75,8 +75,8 @@ first-modified-requires c κs =
 enum-told-4 : tie.Need-enum-told-4
 enum-told-4 c = search needs
 
-opened-requires : tie.Need-opened-requires
-opened-requires c κs =
+opened-reply-requires : tie.Need-opened-reply-requires
+opened-reply-requires c κs =
     let e = c .before .before in
     let t = e .enum-told4 .given .1 in
     let a = e .before .before .before .before .before .before .before .before .before .before .before in
@@ -90,8 +90,8 @@ opened-requires c κs =
 enum-told-5 : tie.Need-enum-told-5
 enum-told-5 c = search needs
 
-jacobian-requires : tie.Need-jacobian-requires
-jacobian-requires c κs =
+jacobian-reply-requires : tie.Need-jacobian-reply-requires
+jacobian-reply-requires c κs =
     let e = c .before .before in
     let t = e .enum-told5 .given .1 in
     let a = e .before .before .before .before .before .before .before .before .before .before .before in
@@ -105,8 +105,8 @@ jacobian-requires c κs =
 enum-told-6 : tie.Need-enum-told-6
 enum-told-6 c = search needs
 
-column-requires : tie.Need-column-requires
-column-requires c κs =
+column-reply-requires : tie.Need-column-reply-requires
+column-reply-requires c κs =
     let e = c .before .before in
     let t = e .enum-told6 .given .1 in
     let a = e .before .before .before .before .before .before .before .before .before .before .before in
@@ -120,8 +120,8 @@ column-requires c κs =
 enum-told-7 : tie.Need-enum-told-7
 enum-told-7 c = search needs
 
-further-requires : tie.Need-further-requires
-further-requires c κs =
+further-reply-requires : tie.Need-further-reply-requires
+further-reply-requires c κs =
     let e = c .before .before in
     let t = e .enum-told7 .given .1 in
     let a = e .before .before .before .before .before .before .before .before .before .before .before in
@@ -135,8 +135,8 @@ further-requires c κs =
 enum-told-8 : tie.Need-enum-told-8
 enum-told-8 c = search needs
 
-restep-requires : tie.Need-restep-requires
-restep-requires c κs =
+restep-reply-requires : tie.Need-restep-reply-requires
+restep-reply-requires c κs =
     let e = c .before in
     let t = e .enum-told8 .given .1 in
     let a = e .before .before .before .before .before .before .before .before .before .before .before in
@@ -187,33 +187,33 @@ same-length : tie.Need-same-length
 same-length c = search needs
 
 returns-2 : tie.Need-returns-2
-unfolding takenOf
+unfolding dealtOf
 returns-2 c =
     let e = c .before .before .before .before in
     let i = e .before .before in
     let x = e .before .before .before .before .before .before .before .before .before .before .before .args in
     let yes = sym (i .before .is-asked .ensures) ∙ not-false _ (i .if1 .left) in
-    ap (leaving _) (c .before .before .first-derivative .ensures)
+    ap (withPivots _) (c .before .before .first-derivative .ensures)
     ∙ sym (resume-asked (x .x) (x .kind) _ (x .time) _ Phase.FirstDerivative (e .enum-told .given .1) yes)
 
 same-length-2 : tie.Need-same-length-2
 same-length-2 c = search needs
 
 returns-3 : tie.Need-returns-3
-unfolding takenOf
+unfolding dealtOf
 returns-3 c =
     let e = c .before .before .before .before .before .before .before in
     let i = e .before .before in
     let x = e .before .before .before .before .before .before .before .before .before .before .before .args in
     let yes = sym (i .before .is-asked .ensures) ∙ not-false _ (i .if1 .left) in
     let w : With = record { rtol = now (x .rtol); atol = now (x .atol); work = now (x .work); ipiv = now (x .ipiv) } in
-    ap (leaving _) (c .before .before .first-report .ensures)
+    ap (withPivots _) (c .before .before .after-first-report .ensures)
     ∙ sym (ap (λ (k : Kind). firstAnsweredOf (x .x) k (now (x .reply)) (x .time) w)
       (c .before .before .before .before .before .kind .given .1))
     ∙ sym (resume-asked (x .x) (x .kind) _ (x .time) _ Phase.FirstReport (e .enum-told2 .given .1) yes)
 
 returns-4 : tie.Need-returns-4
-unfolding takenOf
+unfolding dealtOf
 returns-4 c =
     let e = c .before in
     let i = e .before .before in
@@ -226,13 +226,13 @@ same-length-3 : tie.Need-same-length-3
 same-length-3 c = search needs
 
 returns-5 : tie.Need-returns-5
-unfolding takenOf
+unfolding dealtOf
 returns-5 c =
     let e = c .before .before .before .before in
     let i = e .before .before in
     let x = e .before .before .before .before .before .before .before .before .before .before .before .args in
     let yes = sym (i .before .is-asked .ensures) ∙ not-false _ (i .if1 .left) in
-    ap (leaving _) (c .before .before .first-modified .ensures)
+    ap (withPivots _) (c .before .before .first-modified .ensures)
     ∙ sym (resume-asked (x .x) (x .kind) _ (x .time) _ Phase.FirstModified (e .enum-told3 .given .1) yes)
 
 same-length-4 : tie.Need-same-length-4
@@ -242,13 +242,13 @@ same-length-5 : tie.Need-same-length-5
 same-length-5 c = search needs
 
 returns-6 : tie.Need-returns-6
-unfolding takenOf
+unfolding dealtOf
 returns-6 c =
     let e = c .before .before .before .before .before in
     let i = e .before .before in
     let x = e .before .before .before .before .before .before .before .before .before .before .before .args in
     let yes = sym (i .before .is-asked .ensures) ∙ not-false _ (i .if1 .left) in
-    ap (leaving _) (c .before .before .opened .ensures)
+    ap (withPivots _) (c .before .before .opened-reply .ensures)
     ∙ sym (resume-asked (x .x) (x .kind) _ (x .time) _ Phase.Opened (e .enum-told4 .given .1) yes)
 
 same-length-6 : tie.Need-same-length-6
@@ -258,13 +258,13 @@ same-length-7 : tie.Need-same-length-7
 same-length-7 c = search needs
 
 returns-7 : tie.Need-returns-7
-unfolding takenOf
+unfolding dealtOf
 returns-7 c =
     let e = c .before .before .before .before .before .before .before in
     let i = e .before .before in
     let x = e .before .before .before .before .before .before .before .before .before .before .before .args in
     let yes = sym (i .before .is-asked .ensures) ∙ not-false _ (i .if1 .left) in
-    c .before .before .before .before .jacobian .ensures
+    c .before .before .before .before .jacobian-reply .ensures
     ∙ sym (resume-asked (x .x) (x .kind) _ (x .time) _ Phase.JacobianAsked (e .enum-told5 .given .1) yes)
 
 same-length-8 : tie.Need-same-length-8
@@ -274,13 +274,13 @@ same-length-9 : tie.Need-same-length-9
 same-length-9 c = search needs
 
 returns-8 : tie.Need-returns-8
-unfolding takenOf
+unfolding dealtOf
 returns-8 c =
     let e = c .before .before .before .before .before .before .before in
     let i = e .before .before in
     let x = e .before .before .before .before .before .before .before .before .before .before .before .args in
     let yes = sym (i .before .is-asked .ensures) ∙ not-false _ (i .if1 .left) in
-    c .before .before .before .before .column .ensures
+    c .before .before .before .before .column-reply .ensures
     ∙ sym (resume-asked (x .x) (x .kind) _ (x .time) _ Phase.DifferenceColumn (e .enum-told6 .given .1) yes)
 
 same-length-10 : tie.Need-same-length-10
@@ -290,46 +290,46 @@ same-length-11 : tie.Need-same-length-11
 same-length-11 c = search needs
 
 returns-9 : tie.Need-returns-9
-unfolding takenOf
+unfolding dealtOf
 returns-9 c =
     let e = c .before .before .before .before .before in
     let i = e .before .before in
     let x = e .before .before .before .before .before .before .before .before .before .before .before .args in
     let yes = sym (i .before .is-asked .ensures) ∙ not-false _ (i .if1 .left) in
-    ap (leaving _) (c .before .before .further .ensures)
+    ap (withPivots _) (c .before .before .further-reply .ensures)
     ∙ sym (resume-asked (x .x) (x .kind) _ (x .time) _ Phase.FurtherDerivative (e .enum-told7 .given .1) yes)
 
 same-length-12 : tie.Need-same-length-12
 same-length-12 c = search needs
 
 returns-10 : tie.Need-returns-10
-unfolding takenOf
+unfolding dealtOf
 returns-10 c =
     let e = c .before .before .before .before in
     let i = e .before .before in
     let x = e .before .before .before .before .before .before .before .before .before .before .before .args in
     let yes = sym (i .before .is-asked .ensures) ∙ not-false _ (i .if1 .left) in
-    ap (leaving _) (c .before .before .restep .ensures)
+    ap (withPivots _) (c .before .before .restep-reply .ensures)
     ∙ sym (resume-asked (x .x) (x .kind) _ (x .time) _ Phase.Restep (e .enum-told8 .given .1) yes)
 
 same-length-13 : tie.Need-same-length-13
 same-length-13 c = search needs
 
 returns-11 : tie.Need-returns-11
-unfolding takenOf
+unfolding dealtOf
 returns-11 c =
     let e = c .before .before .before .before .before .before .before in
     let i = e .before .before in
     let x = e .before .before .before .before .before .before .before .before .before .before .before .args in
     let yes = sym (i .before .is-asked .ensures) ∙ not-false _ (i .if1 .left) in
     let w : With = record { rtol = now (x .rtol); atol = now (x .atol); work = now (x .work); ipiv = now (x .ipiv) } in
-    ap (leaving _) (c .before .before .after-report .ensures)
+    ap (withPivots _) (c .before .before .after-report .ensures)
     ∙ sym (ap (λ (k : Kind). answeredOf (x .x) k (now (x .reply)) (x .time) w)
       (c .before .before .before .before .before .kind2 .given .1))
     ∙ sym (resume-asked (x .x) (x .kind) _ (x .time) _ Phase.Report (e .enum-told9 .given .1) yes)
 
 returns-12 : tie.Need-returns-12
-unfolding takenOf
+unfolding dealtOf
 returns-12 c =
     let e = c .before in
     let i = e .before .before in
@@ -342,17 +342,17 @@ same-length-14 : tie.Need-same-length-14
 same-length-14 c = search needs
 
 returns-13 : tie.Need-returns-13
-unfolding takenOf
+unfolding dealtOf
 returns-13 c =
     let e = c .before .before .before .before in
     let i = e .before .before in
     let x = e .before .before .before .before .before .before .before .before .before .before .before .args in
     let yes = sym (i .before .is-asked .ensures) ∙ not-false _ (i .if1 .left) in
-    ap (leaving _) (c .before .before .modified .ensures)
+    ap (withPivots _) (c .before .before .modified .ensures)
     ∙ sym (resume-asked (x .x) (x .kind) _ (x .time) _ Phase.Modified (e .enum-told10 .given .1) yes)
 
 returns-14 : tie.Need-returns-14
-unfolding takenOf
+unfolding dealtOf
 returns-14 c =
     let e = c in
     let i = e .before .before in
@@ -371,19 +371,19 @@ resume-spec =
     first-derivative-requires
     enum-told-2
     enum-known-kind
-    first-report-requires
+    after-first-report-requires
     enum-told-3
     first-modified-requires
     enum-told-4
-    opened-requires
+    opened-reply-requires
     enum-told-5
-    jacobian-requires
+    jacobian-reply-requires
     enum-told-6
-    column-requires
+    column-reply-requires
     enum-told-7
-    further-requires
+    further-reply-requires
     enum-told-8
-    restep-requires
+    restep-reply-requires
     enum-told-9
     enum-known-kind-2
     after-report-requires

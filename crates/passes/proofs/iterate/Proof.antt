@@ -27,8 +27,8 @@ judge-requires c κs = search needs
 enum-told : tie.Need-enum-told
 enum-told c = search needs
 
-converged-requires : tie.Need-converged-requires
-converged-requires c κs =
+error-test-requires : tie.Need-error-test-requires
+error-test-requires c κs =
     let j = c .before .before .before .before in
     let x = j .before .before .before .before .before in
     let a = x .before .before .before .before .before .before in
@@ -55,8 +55,8 @@ open-pass-requires c κs =
 enum-told-3 : tie.Need-enum-told-3
 enum-told-3 c = search needs
 
-unconverged-requires : tie.Need-unconverged-requires
-unconverged-requires c κs =
+pass-failed-requires : tie.Need-pass-failed-requires
+pass-failed-requires c κs =
     let j = c .before .before .before .before in
     let x = j .before .before .before .before .before in
     let a = x .before .before .before .before .before .before in
@@ -83,9 +83,10 @@ returns : tie.Need-returns
 unfolding iterateOf concludedAt
 returns c =
     let j = c .before .before .before .before .before .before .before in
-    rw (← j .before .before .before .before .before .correct .ensures, ← j .before .norm-at .ensures, ← j .judge .ensures,
+    rw (← j .before .before .before .before .before .correct .ensures, ← j .before .norm-at .ensures,
+      ← j .judge .ensures,
       c .before .before .before .before .enum-told .given .1)
-    (c .before .before .converged .ensures)
+    (c .before .before .error-test .ensures)
 
 same-length-2 : tie.Need-same-length-2
 same-length-2 c = search needs
@@ -94,7 +95,8 @@ returns-2 : tie.Need-returns-2
 unfolding iterateOf concludedAt
 returns-2 c =
     let j = c .before .before .before .before .before .before .before in
-    rw (← j .before .before .before .before .before .correct .ensures, ← j .before .norm-at .ensures, ← j .judge .ensures,
+    rw (← j .before .before .before .before .before .correct .ensures, ← j .before .norm-at .ensures,
+      ← j .judge .ensures,
       c .before .before .before .before .enum-told2 .given .1)
     (c .before .before .open-pass .ensures)
 
@@ -105,9 +107,10 @@ returns-3 : tie.Need-returns-3
 unfolding iterateOf concludedAt
 returns-3 c =
     let j = c .before .before .before .before .before .before .before in
-    rw (← j .before .before .before .before .before .correct .ensures, ← j .before .norm-at .ensures, ← j .judge .ensures,
+    rw (← j .before .before .before .before .before .correct .ensures, ← j .before .norm-at .ensures,
+      ← j .judge .ensures,
       c .before .before .before .before .enum-told3 .given .1)
-    (c .before .before .unconverged .ensures)
+    (c .before .before .pass-failed .ensures)
 
 same-length-4 : tie.Need-same-length-4
 same-length-4 c = search needs
@@ -116,7 +119,8 @@ returns-4 : tie.Need-returns-4
 unfolding iterateOf concludedAt
 returns-4 c =
     let j = c .before .before .before .before in
-    rw (← j .before .before .before .before .before .correct .ensures, ← j .before .norm-at .ensures, ← j .judge .ensures, c .before .enum-told4 .given .1,
+    rw (← j .before .before .before .before .before .correct .ensures, ← j .before .norm-at .ensures,
+      ← j .judge .ensures, c .before .enum-told4 .given .1,
       c .ask-in-step .ensures)
 
 pub iterate-spec : {M : Type 1} → statement M
@@ -127,11 +131,11 @@ iterate-spec =
     norm-at-requires
     judge-requires
     enum-told
-    converged-requires
+    error-test-requires
     enum-told-2
     open-pass-requires
     enum-told-3
-    unconverged-requires
+    pass-failed-requires
     enum-told-4
     ask-in-step-requires
     same-length

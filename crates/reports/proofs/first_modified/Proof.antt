@@ -23,7 +23,8 @@ same-length c = search needs
 returns : tie.Need-returns
 unfolding firstModifiedOf
 returns c =
-    rw (← c .before .before .before .before .before .before .before .before .before .before .store .ensures, ← c .before .before .before .before .before .before .set-slope .ensures)
+    rw (← c .before .before .before .before .before .before .before .before .before .before .store .ensures,
+      ← c .before .before .before .before .before .before .set-slope .ensures)
     (c .before .before .go-on .ensures)
 
 pub first-modified-spec : {M : Type 1} → statement M

@@ -24,8 +24,10 @@ restart-requires c κs = search needs
 
 go-on-requires : tie.Need-go-on-requires
 go-on-requires c κs =
-    let a = c .before .before .before .before .before .before .before .before .before .before .before .before .before .before .before .before in
-    (rw (c .before .restart .ensures) (inside-restart (a .pre .0)), omega (arith, a .pre .1 .1, c .before .before .before .before .before .before .before .before .before .before .before .work .given))
+    let a = c .before .before .before .before .before .before .before .before .before .before .before .before .before
+      .before .before .before in
+    (rw (c .before .restart .ensures) (inside-restart (a .pre .0)), omega (arith, a .pre .1 .1,
+      c .before .before .before .before .before .before .before .before .before .before .before .work .given))
 
 same-length : tie.Need-same-length
 same-length c = search needs
@@ -34,7 +36,8 @@ returns : tie.Need-returns
 unfolding modifiedOf
 returns c =
     let w = c .before .before .before .before .before .before .before in
-    rw (← w .before .before .before .before .before .before .before .before .store .ensures, ← w .before .before .before .before .set-slope .ensures, ← w .state-weights .ensures,
+    rw (← w .before .before .before .before .before .before .before .before .store .ensures,
+      ← w .before .before .before .before .set-slope .ensures, ← w .state-weights .ensures,
       ← c .before .before .before .before .restart .ensures)
     (c .before .before .go-on .ensures)
 

@@ -1,4 +1,0 @@
-pub mod Seen
-pub mod Stands
-pub mod Follows
-pub mod InRun

@@ -1,0 +1,93 @@
+-- `accepted` meets its contract: the coefficient gap ends the run, and every other branch closes the step.
+-- Assumes nothing.
+use mathlib.Core.Path.{_≡_, refl, sym, _∙_}
+use mathlib.Core.List.{List, [], _∷_}
+use Prim.Native.Nat.{ℕ}
+use native.Mathlib.Omega.{arith}
+use lib.Ieee.{Float}
+use denote.Enum.Declared.{tagOf}
+use types.Run.{OneOf, miss}
+use borrow.Author.Needs.{needs}
+use Rattle.common.specs.declared.Settings.{Settings}
+use Rattle.common.specs.declared.Common.{Common}
+use Rattle.acceptance.specs.declared.Branch.{Branch}
+use Rattle.acceptance.specs.declared.Branch.the-variants.{Unchanged, SmallGain, Lowered, Kept as KeptOrder, Raised}
+use Rattle.acceptance.specs.declared.Branch.the-variants.{HeldBySm1, FamilyChanged, CoefficientGap}
+use Rattle.acceptance.proofs.Branch.{the-type}
+use Rattle.acceptance.proofs.Laws.{accept-keeps}
+use Rattle.between_steps.proofs.Inside.{ready}
+use Rattle.passes.specs.Pass.{endStepOf, acceptedOf, acceptedAt}
+use Rattle.passes.proofs.accepted.Statement.{statement}
+use Rattle.passes.proofs.accepted.Tie as tie
+
+-- every branch but the gap
+closes : (s : Settings) (order : ℕ) (rtol atol : List Float) (b : Branch) (c : Common) (work : List Float)
+    → OneOf (0 ∷ 1 ∷ 2 ∷ 3 ∷ 4 ∷ 5 ∷ 6 ∷ []) (tagOf the-type b)
+    → acceptedAt s order rtol atol b c work ≡ endStepOf s c order rtol atol work
+unfolding acceptedAt
+closes s order rtol atol Unchanged c work h = refl
+closes s order rtol atol SmallGain c work h = refl
+closes s order rtol atol Lowered c work h = refl
+closes s order rtol atol KeptOrder c work h = refl
+closes s order rtol atol Raised c work h = refl
+closes s order rtol atol HeldBySm1 c work h = refl
+closes s order rtol atol FamilyChanged c work h = refl
+closes s order rtol atol CoefficientGap c work h = absurd (miss (0 ∷ 1 ∷ 2 ∷ 3 ∷ 4 ∷ 5 ∷ 6 ∷ []) 7 tt h)
+
+accept-requires : tie.Need-accept-requires
+accept-requires c κs = search needs
+
+enum-told : tie.Need-enum-told
+enum-told c = search needs
+
+finish-requires : tie.Need-finish-requires
+finish-requires c κs = search needs
+
+end-step-requires : tie.Need-end-step-requires
+end-step-requires c κs =
+    let e = c .before .before .before .before .before in
+    let a = e .before .before .before .before .before in
+    let p = a .pre .0 in
+    let x = a .args in
+    let k = rw (← e .accept .ensures) at (accept-keeps (x .s) (x .c) (x .dsm) (x .work .now)) in
+    (
+      k .ready (ready p) .range,
+      (
+        p .orders .nq,
+        (
+          (omega (arith, k .nst, p .steps), omega (arith, k .rejected, p .counts)),
+          (a .pre .1 .0, (a .pre .1 .1 .0, omega arith)),
+        ),
+      ),
+    )
+
+same-length : tie.Need-same-length
+same-length c = search needs
+
+returns : tie.Need-returns
+unfolding acceptedOf acceptedAt
+returns c =
+    rw (← c .before .before .before .before .before .before .accept .ensures, c .before .enum-told .given .1,
+      c .finish .ensures)
+
+same-length-2 : tie.Need-same-length-2
+same-length-2 c = search needs
+
+returns-2 : tie.Need-returns-2
+unfolding acceptedOf
+returns-2 c =     rw (← c .before .before .before .before .before .before .before .before .accept .ensures)
+    (c .before .before .end-step .ensures
+      ∙ sym (closes _ _ _ _ _ _ _ (c .before .before .before .before .match .keys2)))
+
+pub accepted-spec : {M : Type 1} → statement M
+accepted-spec =
+    tie.close
+    (tie.spec
+    accept-requires
+    enum-told
+    finish-requires
+    end-step-requires
+    same-length
+    returns
+    same-length-2
+    returns-2)

@@ -1,0 +1,72 @@
+-- `ask_jacobian` meets its contract: the host is asked where it supplies Jacobians and the family is the second.
+-- Assumes nothing.
+use mathlib.Core.Path.{_≡_}
+use mathlib.Core.Bool.{false}
+use mathlib.Core.Logic.{⊎-elim}
+use native.Mathlib.Omega.{arith}
+use borrow.Author.Needs.{needs}
+use Rattle.jacobian.specs.Jacobian.{beginOf}
+use Rattle.between_steps.specs.Pass.{isSupplied}
+use Rattle.passes.specs.Pass.{askJacobianOf, askJacobianAt}
+use Rattle.passes.proofs.ask_jacobian.Statement.{statement}
+use Rattle.passes.proofs.ask_jacobian.Tie as tie
+
+begin-jacobian-requires : tie.Need-begin-jacobian-requires
+begin-jacobian-requires c κs = search needs
+
+is-bdf-requires : tie.Need-is-bdf-requires
+is-bdf-requires c κs = search needs
+
+returns : tie.Need-returns
+unfolding askJacobianOf askJacobianAt beginOf
+returns c =
+    let b = c .before .before in
+    rw (← b .is-bdf .ensures, c .before .if1 .taken, c .if2 .taken, b .before .begin-jacobian .ensures)
+
+mul-copy-part : tie.Need-mul-copy-part
+mul-copy-part c = search needs
+
+mul-copy-part-2 : tie.Need-mul-copy-part-2
+mul-copy-part-2 c = search needs
+
+copy-part-requires : tie.Need-copy-part-requires
+copy-part-requires c κs = search needs
+
+ask-column-requires : tie.Need-ask-column-requires
+unfolding beginOf
+ask-column-requires c κs =
+    let b = c .before .before .before .before .before .before .before in
+    let p = b .before .before .pre .0 in
+    rw (b .begin-jacobian .ensures) (
+      (p .settings .n .1, p .settings .n .0),
+      ((p .counts .0, p .counts .1), omega arith),
+    )
+
+same-length : tie.Need-same-length
+same-length c = search needs
+
+returns-2 : tie.Need-returns-2
+unfolding askJacobianOf askJacobianAt
+returns-2 c =
+    let i = c .before .before .before .before .before .before .before .before in
+    let a = i .before .before .before .before .args in
+    let b = i .before .is-bdf .ensures in
+    let none : isSupplied (a .s) (a .c) ≡ false =
+    ⊎-elim (λ w. rw (← b, w .0 .taken, w .1 .left)) (λ w. rw (← b, w .left)) (i .if1 .came)
+    in
+    rw (none, ← i .before .before .begin-jacobian .ensures,
+      ← c .before .before .before .before .before .before .copy-part .ensures) (c .before .before .ask-column .ensures)
+
+pub ask-jacobian-spec : {M : Type 1} → statement M
+ask-jacobian-spec =
+    tie.close
+    (tie.spec
+    begin-jacobian-requires
+    is-bdf-requires
+    returns
+    mul-copy-part
+    mul-copy-part-2
+    copy-part-requires
+    ask-column-requires
+    same-length
+    returns-2)

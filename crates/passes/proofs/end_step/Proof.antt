@@ -1,0 +1,47 @@
+-- `end_step` meets its contract: a weight at most 0 is refused, else the report.
+-- Assumes nothing.
+use borrow.Author.Needs.{needs}
+use Rattle.passes.specs.Pass.{endStepOf, closedAt}
+use Rattle.passes.proofs.end_step.Statement.{statement}
+use Rattle.passes.proofs.end_step.Tie as tie
+
+close-requires : tie.Need-close-requires
+close-requires c κs = search needs
+
+enum-known-i : tie.Need-enum-known-i
+enum-known-i c = search needs
+
+enum-told : tie.Need-enum-told
+enum-told c = search needs
+
+report-requires : tie.Need-report-requires
+report-requires c κs = search needs
+
+same-length : tie.Need-same-length
+same-length c = search needs
+
+returns : tie.Need-returns
+unfolding endStepOf closedAt
+returns c = rw (← c .before .before .before .before .before .close .ensures, c .before .i .given .1)
+
+same-length-2 : tie.Need-same-length-2
+same-length-2 c = search needs
+
+returns-2 : tie.Need-returns-2
+unfolding endStepOf closedAt
+returns-2 c =
+    rw (← c .before .before .before .before .before .before .before .before .close .ensures,
+      c .before .before .before .before .enum-told .given .1) (c .before .before .report .ensures)
+
+pub end-step-spec : {M : Type 1} → statement M
+end-step-spec =
+    tie.close
+    (tie.spec
+    close-requires
+    enum-known-i
+    enum-told
+    report-requires
+    same-length
+    returns
+    same-length-2
+    returns-2)

@@ -1,0 +1,77 @@
+-- `matrix_done` meets its contract: the factoring, then the iterations or no convergence.
+-- Assumes nothing.
+use mathlib.Core.Path.{ap}
+use native.Mathlib.Omega.{arith}
+use borrow.Author.Needs.{needs}
+use Rattle.between_steps.proofs.Inside.{inside-factored, lent-factored}
+use Rattle.questions.specs.Turns.{withPivots}
+use Rattle.passes.specs.Pass.{matrixDoneOf, matrixDoneAt}
+use Rattle.passes.proofs.matrix_done.Statement.{statement}
+use Rattle.passes.proofs.matrix_done.Tie as tie
+
+finish-jacobian-requires : tie.Need-finish-jacobian-requires
+finish-jacobian-requires c κs = search needs
+
+iterations-requires : tie.Need-iterations-requires
+iterations-requires c κs =
+    let f = c .before .before .before .before .before .before .before .before in
+    let a = f .before .before .before .before .before .before .before in
+    let p = a .pre in
+    let x = a .args in
+    let l = p .1 .1 .1 .1 in
+    let inside = rw (← f .finish-jacobian .ensures) at
+      (inside-factored (p .0) (x .work .now) (x .ipiv .now)) in
+    let lent = rw (← f .finish-jacobian .ensures) at (lent-factored (x .s) (x .c) (x .work .now) (x .ipiv .now) l) in
+    (inside, (p .1 .1 .0, (p .1 .1 .1 .0, lent)))
+
+same-length : tie.Need-same-length
+same-length c = search needs
+
+same-length-2 : tie.Need-same-length-2
+same-length-2 c = search needs
+
+returns : tie.Need-returns
+unfolding matrixDoneOf matrixDoneAt
+returns c =
+    let f = c .before .before .before .before .before .before .before .before .before .before
+      .before .finish-jacobian in
+    rw (← f .ensures, c .before .before .before .before .before .if1 .taken)
+      (ap (withPivots _) (c .before .before .iterations .ensures))
+
+pass-failed-requires : tie.Need-pass-failed-requires
+pass-failed-requires c κs =
+    let f = c .before .before .before .before .before .before .before in
+    let a = f .before .before .before .before .before .before .before in
+    let p = a .pre in
+    let x = a .args in
+    let l = p .1 .1 .1 .1 .sized in
+    let inside = rw (← f .finish-jacobian .ensures) at
+      (inside-factored (p .0) (x .work .now) (x .ipiv .now)) in
+    (inside, omega arith)
+
+same-length-3 : tie.Need-same-length-3
+same-length-3 c = search needs
+
+same-length-4 : tie.Need-same-length-4
+same-length-4 c = search needs
+
+returns-2 : tie.Need-returns-2
+unfolding matrixDoneOf matrixDoneAt
+returns-2 c =
+    let f = c .before .before .before .before .before .before .before .before .before .before .finish-jacobian in
+    rw (← f .ensures, c .before .before .before .before .if1 .left)
+      (ap (withPivots _) (c .before .before .pass-failed .ensures))
+
+pub matrix-done-spec : {M : Type 1} → statement M
+matrix-done-spec =
+    tie.close
+    (tie.spec
+    finish-jacobian-requires
+    iterations-requires
+    same-length
+    same-length-2
+    returns
+    pass-failed-requires
+    same-length-3
+    same-length-4
+    returns-2)

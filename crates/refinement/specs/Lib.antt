@@ -1,0 +1,4 @@
+pub mod Shown
+pub mod AtNode
+pub mod Follows
+pub mod InRun
