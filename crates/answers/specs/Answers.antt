@@ -5,10 +5,10 @@ use lib.Ieee.{Float}
 use Rattle.numbers.specs.Float.{zeroF}
 use Rattle.between_steps.specs.declared.Status.{Status}
 use Rattle.between_steps.specs.declared.Status.the-variants as Status
-use Rattle.turns.specs.declared.Step.{Step}
-use Rattle.turns.specs.declared.End.{End}
-use Rattle.turns.specs.declared.Question.{Question}
-use Rattle.turns.specs.declared.Question.the-variants as Question
+use Rattle.questions.specs.declared.Step.{Step}
+use Rattle.questions.specs.declared.End.{End}
+use Rattle.questions.specs.declared.Question.{Question}
+use Rattle.questions.specs.declared.Question.the-variants as Question
 use Rattle.refusals.specs.declared.Refusal.{Refusal}
 use Rattle.answers.specs.declared.Reply.{Reply}
 

@@ -1,13 +1,14 @@
 // What a call answers, as one struct of numbers: each case of the machine's question has its number and its values.
 ghost use mathlib.Core.Path.{_≡_};
 ghost use Rattle.numbers.specs.Float.{zeroF};
-ghost use Rattle.answers.specs.Answers.{plainOf, statusNumber, firstReportOf, reportOf, endOf, answerOf, refusedOf};
+ghost use Rattle.answers.specs.Answers.{plainOf, statusNumber, firstReportOf, reportOf, endOf, answerOf};
+ghost use Rattle.answers.specs.Answers.{refusedOf};
 
 use refusals::Refusal;
-use turns::End;
-use turns::Question;
+use questions::End;
+use questions::Question;
 use between_steps::Status;
-use turns::Step;
+use questions::Step;
 
 // Fields that a case has no use for are 0.
 #[repr(C)]

@@ -33,8 +33,8 @@ use Rattle.attempt.specs.Attempt as Attempt
 use Rattle.acceptance.specs.Size.{sizeOf}
 use Rattle.acceptance.specs.Order as Order
 use Rattle.acceptance.specs.Accept as Accept
-use Rattle.turns.specs.declared.Phase.{Phase}
-use Rattle.turns.specs.declared.Phase.the-variants as Phase
+use Rattle.questions.specs.declared.Phase.{Phase}
+use Rattle.questions.specs.declared.Phase.the-variants as Phase
 use Rattle.between_steps.specs.Begin as Begin
 use Rattle.between_steps.specs.Start as Start
 use Rattle.reports.specs.Reports as Reports
@@ -46,7 +46,7 @@ use Rattle.rules.specs.Play.{Play}
 use Rattle.rules.specs.Steps.{Step}
 use Rattle.rules.specs.Pass.{iterated, turns, iterations, passAt, pass}
 use Rattle.rules.specs.Rules as Rules
-use Rattle.follows.specs.Seen.{step}
+use Rattle.refinement.specs.Shown.{treeNext}
 use Rattle.invariants.specs.Host.{IsF64}
 use Rattle.invariants.proofs.Floats.{literal}
 use Rattle.invariants.proofs.Host.{fits-is-f64}
@@ -174,7 +174,8 @@ computed : Computed
 unfolding toldBy standsAt kindOf settingsOf firstStepOf Refusals.smallestOf Refusals.largestOf Refusals.inverseOf
     Refusals.inverseLargestOf
     Rules.start Rules.beginning Rules.started Rules.weighted Rules.sized Rules.firstAnswered Rules.solveAt Rules.step
-    Rules.attempts Rules.decide Rules.tested Rules.stepped Rules.settled Rules.closed Rules.answered Rules.follow
+    Rules.attempts Rules.decide Rules.tested Rules.stepped Rules.afterAcceptance Rules.closed Rules.afterReport
+      Rules.follow
     Rules.attempted iterated turns iterations passAt pass
     Begin.setupOf Begin.preparedAt Begin.preparedOf Begin.predictedAt Reports.initialOf Start.firstSizeOf
     Attempt.retractedOf Attempt.repredictOf Attempt.errorOf Attempt.shrunkOf Attempt.missedAt
@@ -222,7 +223,7 @@ steps-same f (r ∷ rs) t xs x y e =
     let v = answeredBy ours y r in
     let same : u .reply ≡ v .reply = ap (λ (l : List Said). headIn l (saidBy x) .reply) e in
     let rest : map saidBy (callsBy f u rs) ≡ map saidBy (callsBy ours v rs) = ap tailIn e in
-    let on = step t (fedAs r) in
+    let on = treeNext t (fedAs r) in
     rw (
       same,
       steps-same f rs t xs u v rest,

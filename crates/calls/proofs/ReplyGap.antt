@@ -16,7 +16,7 @@ use Rattle.acceptance.specs.declared.Branch.{Branch}
 use Rattle.acceptance.specs.declared.Branch.the-variants as Branch
 use Rattle.acceptance.specs.Accept.{correctedOf, tookBranch, testedOf, testFamilyOf, acceptOf}
 use Rattle.between_steps.specs.declared.Status.the-variants as Status
-use Rattle.turns.specs.Turns.{finishedOf}
+use Rattle.questions.specs.Turns.{finishedOf}
 use Rattle.passes.specs.Pass.{acceptedAt, acceptedOf}
 use Rattle.rules.proofs.Said.{step-said}
 use Rattle.calls.specs.ReplyMeans.{GapExactly}

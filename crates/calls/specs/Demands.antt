@@ -14,7 +14,7 @@ use Rattle.rules.specs.Play.{derivativeAt, Play, ret, ask, tell, say}
 use Rattle.rules.specs.Steps.{Step, noted, marked, isEnded, isEndedKeeping, number}
 use Rattle.rules.specs.Caps.{Capped, Every}
 use Rattle.rules.specs.Demands.{latest, repliesOf}
-use Rattle.follows.specs.Seen.{step}
+use Rattle.refinement.specs.Shown.{treeNext}
 use Rattle.answers.specs.declared.Reply.{Reply}
 use Rattle.answers.specs.Called.{Buffers, Called}
 use Rattle.raimsklo.specs.Calls.{Problem, startOf}
@@ -78,7 +78,7 @@ stepsBy f t xs x [] = xs
 stepsBy f t xs x (r ∷ rs) =
     let y = answeredBy f x r in
     cond (isRefusal (y .reply)) (stepsBy f t xs y rs)
-    (stepsBy f (step t (fedAs r)) (countedBy (y .reply) (marks (step t (fedAs r)) xs)) y rs)
+    (stepsBy f (treeNext t (fedAs r)) (countedBy (y .reply) (marks (treeNext t (fedAs r)) xs)) y rs)
 
 -- the steps of a run of a solver, and of ours
 abbrev pub stepsSeen : Solver → Problem → Buffers → List ReplyCall → List Step

@@ -15,7 +15,7 @@ use Rattle.numbers.specs.Sign.{refused}
 use Rattle.vectors.specs.Weights.{ewsetOf}
 use Rattle.common.specs.Layout.{ewtAt, yAt, ewt}
 use Rattle.history.specs.Columns.{copyOf}
-use Rattle.turns.specs.declared.Phase.the-variants as Phase
+use Rattle.questions.specs.declared.Phase.the-variants as Phase
 use Rattle.between_steps.specs.Start.{withDerivative}
 use Rattle.between_steps.specs.Start.{firstStepOf}
 use Rattle.between_steps.specs.Start.{inverted}

@@ -7,7 +7,7 @@ use mathlib.Core.List.{List, [], _∷_}
 use Prim.Native.Nat.{ℕ}
 use lib.Dec.{eqb}
 use lib.Ieee.{Float}
-use Rattle.follows.specs.Seen.{keepIf}
+use Rattle.refinement.specs.Shown.{keepIf}
 use Rattle.invariants.specs.Host.{IsF64, AreF64}
 use Rattle.answers.specs.declared.Reply.{Reply}
 use Rattle.answers.specs.Called.{Buffers, Called}

@@ -9,9 +9,9 @@ use lib.Ieee.{ofBits, fits}
 use Rattle.numbers.specs.Float.{zeroF}
 use Rattle.common.specs.declared.MethodFamily.{MethodFamily}
 use Rattle.common.specs.declared.MethodFamily.the-variants.{Adams, Bdf}
-use Rattle.turns.specs.declared.Phase.{Phase}
-use Rattle.turns.specs.declared.Phase.the-variants as Phase
-use Rattle.turns.specs.declared.Session.{Session}
+use Rattle.questions.specs.declared.Phase.{Phase}
+use Rattle.questions.specs.declared.Phase.the-variants as Phase
+use Rattle.questions.specs.declared.Session.{Session}
 use Rattle.fields.specs.States.{flagNumber, familyNumber, phaseNumber}
 use Rattle.fields.specs.Fields.{countsOf, floatsOf, CountsFit, FloatsFit, Fit}
 

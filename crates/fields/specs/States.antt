@@ -4,8 +4,8 @@ use Prim.Native.Nat.{ℕ}
 use lib.Dec.{eqb}
 use Rattle.common.specs.declared.MethodFamily.{MethodFamily}
 use Rattle.common.specs.declared.MethodFamily.the-variants.{Adams, Bdf}
-use Rattle.turns.specs.declared.Phase.{Phase}
-use Rattle.turns.specs.declared.Phase.the-variants as Phase
+use Rattle.questions.specs.declared.Phase.{Phase}
+use Rattle.questions.specs.declared.Phase.the-variants as Phase
 
 abbrev pub flagNumber : Bool → ℕ
 flagNumber false = 0

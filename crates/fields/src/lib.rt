@@ -13,7 +13,7 @@ use crate::states::phase_number;
 use common::Common;
 use common::MethodFamily;
 use common::Settings;
-use turns::Session;
+use questions::Session;
 
 // The least value of each word. A table is answered whole, to be bound once: an index into the constant writes all of it anew.
 const LOWEST: [usize; 34] = [

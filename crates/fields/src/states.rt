@@ -2,7 +2,7 @@
 ghost use mathlib.Core.Path.{_≡_};
 ghost use Rattle.fields.specs.States.{flagNumber, familyNumber, familyOf, phaseNumber, phaseOf};
 use common::MethodFamily;
-use turns::Phase;
+use questions::Phase;
 
 pub fn flag_number(flag: bool) -> usize
     ensures { λ r. ⌜ r ≡ flagNumber flag ⌝ }

@@ -12,9 +12,9 @@ use lib.Dec.{eqb, ltb}
 use lib.ListN.{length}
 use Rattle.refusals.specs.Refusal.{plain, inOrder, orElse}
 use Rattle.refusals.proofs.Accepted.{also-none, else-none, same, not-false}
-use Rattle.turns.specs.declared.Phase.{Phase}
-use Rattle.turns.specs.declared.Phase.the-variants as Phase
-use Rattle.turns.specs.Requires.{UnlessFinished}
+use Rattle.questions.specs.declared.Phase.{Phase}
+use Rattle.questions.specs.declared.Phase.the-variants as Phase
+use Rattle.questions.specs.Requires.{UnlessFinished}
 use Rattle.session.specs.Session.{storedN, finishedIn, inRangeOf}
 use Rattle.replies.specs.Replies.{isKind, lengthsRefusal, storedRefusal, replyRefusalOf}
 

@@ -14,12 +14,12 @@ use Rattle.interpolation.specs.Snapshot.{snapshotOf}
 use Rattle.between_steps.specs.declared.Answer.the-variants as Answer
 use Rattle.between_steps.specs.declared.Kind.{Kind}
 use Rattle.between_steps.specs.declared.Kind.the-variants as Kind
-use Rattle.turns.specs.declared.Phase.{Phase}
-use Rattle.turns.specs.declared.Phase.the-variants as Phase
-use Rattle.turns.specs.declared.Question.{Question}
-use Rattle.turns.specs.declared.Question.the-variants as Question
-use Rattle.turns.specs.declared.Turn.{Turn}
-use Rattle.turns.specs.Turns.{Left}
+use Rattle.questions.specs.declared.Phase.{Phase}
+use Rattle.questions.specs.declared.Phase.the-variants as Phase
+use Rattle.questions.specs.declared.Question.{Question}
+use Rattle.questions.specs.declared.Question.the-variants as Question
+use Rattle.questions.specs.declared.Turn.{Turn}
+use Rattle.questions.specs.Turns.{RunState}
 use Rattle.machine.specs.Resume.{resumeOf}
 use Rattle.session.specs.Session.{encodeOf, decodeOf, rtolOf, atolOf, storedN, finishedIn, inRangeOf}
 use Rattle.refusals.specs.declared.Refusal.{Refusal}
@@ -115,13 +115,13 @@ settledOf s t work bytes q =
       question = questionOf s (t .phase) (t .common) work q;
     })
 
-abbrev pub turned : Kind → List Float → Float → Buffers → Left
+abbrev pub turned : Kind → List Float → Float → Buffers → RunState
 turned kind numbers time b =
     resumeOf (decodeOf (b .session)) kind numbers time (record {
       rtol = rtolOf (b .session); atol = atolOf (b .session); work = b .work; ipiv = b .pivots;
     })
 
-abbrev pub written : Settings → Left → Buffers → Called
+abbrev pub written : Settings → RunState → Buffers → Called
 written s l b =
     let x = settledOf s (l .turn) (l .work) (b .session) (b .question) in
     record {

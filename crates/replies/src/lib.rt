@@ -15,10 +15,10 @@ use common::Settings;
 use refusals::Refusal;
 use between_steps::Answer;
 use between_steps::Kind;
-use turns::Phase;
-use turns::Question;
-use turns::Session;
-use turns::Turn;
+use questions::Phase;
+use questions::Question;
+use questions::Session;
+use questions::Turn;
 
 // 1 derivative, 2 Jacobian, 3 continue, 4 interrupt, 5 modified.
 fn is_kind(kind: usize) -> bool

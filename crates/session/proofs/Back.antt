@@ -22,9 +22,9 @@ use Rattle.loops.specs.Part.{part}
 use Rattle.numbers.specs.Float.{zeroF}
 use Rattle.common.specs.declared.MethodFamily.{MethodFamily}
 use Rattle.common.specs.declared.MethodFamily.the-variants.{Adams, Bdf}
-use Rattle.turns.specs.declared.Phase.{Phase}
-use Rattle.turns.specs.declared.Phase.the-variants as Phase
-use Rattle.turns.specs.declared.Session.{Session}
+use Rattle.questions.specs.declared.Phase.{Phase}
+use Rattle.questions.specs.declared.Phase.the-variants as Phase
+use Rattle.questions.specs.declared.Session.{Session}
 use Rattle.words.specs.Words.{word, float, countsIn, floatsIn, slotOf, putCountsOf, putFloatsOf}
 use Rattle.fields.specs.States.{flagNumber, flagOf, familyNumber, familyOf, phaseNumber, phaseOf}
 use Rattle.fields.specs.Fields.{countsOf, floatsOf, sessionOf, Fit, Fits}

@@ -18,7 +18,7 @@ use borrow.Author.Tests.{ltb-true}
 use Rattle.loops.specs.Test.{both}
 use Rattle.vectors.specs.Tolerance.{List1OrN}
 use Rattle.between_steps.specs.Ranges.{Accepted, Counts, Orders, Ranges}
-use Rattle.turns.specs.Requires.{Resumes}
+use Rattle.questions.specs.Requires.{Resumes}
 use Rattle.words.specs.Words.{countsIn, floatsIn}
 use Rattle.fields.specs.States.{flagNumber, flagOf, familyNumber, familyOf, phaseNumber, phaseOf}
 use Rattle.fields.specs.Fields.{countsOf, settingsOf, commonOf, sessionOf, lowest, highest}

@@ -15,7 +15,7 @@ use Rattle.numbers.specs.Float.{zeroF}
 use Rattle.common.specs.declared.Settings.{Settings}
 use Rattle.common.specs.declared.Common.{Common}
 use Rattle.common.specs.Limits.{mxncfOf}
-use Rattle.turns.specs.declared.Session.{Session}
+use Rattle.questions.specs.declared.Session.{Session}
 use Rattle.words.specs.Words.{word, float, countsIn, putCountsOf, floatsIn, slotsOver, putFloatsOf}
 use Rattle.fields.specs.Fields.{countsOf, floatsOf, sessionOf, lowest, highest, Fit}
 

@@ -12,7 +12,7 @@ ghost use Rattle.session.specs.Session.{storedN, finishedIn, inRangeOf};
 
 mod ranges;
 
-use turns::Session;
+use questions::Session;
 
 // The bytes of a session: 181 words.
 pub const LENGTH: usize = 1448;

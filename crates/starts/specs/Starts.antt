@@ -8,8 +8,8 @@ use Rattle.loops.specs.Part.{putPart}
 use Rattle.numbers.specs.Float.{zeroF}
 use Rattle.common.specs.declared.Settings.{Settings}
 use Rattle.common.specs.declared.Common.{Common}
-use Rattle.turns.specs.declared.Phase.the-variants as Phase
-use Rattle.turns.specs.declared.Question.the-variants as Question
+use Rattle.questions.specs.declared.Phase.the-variants as Phase
+use Rattle.questions.specs.declared.Question.the-variants as Question
 use Rattle.reports.specs.Reports.{initialOf}
 use Rattle.session.specs.Session.{encodeOf, putTolerancesOf}
 use Rattle.answers.specs.Answers.{answerOf}

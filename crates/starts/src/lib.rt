@@ -10,10 +10,10 @@ ghost use Rattle.starts.specs.Starts.{laidOf, beganOf, clearedOf, keptOf
 use answers::Reply;
 use common::Common;
 use common::Settings;
-use turns::At;
-use turns::Phase;
-use turns::Question;
-use turns::Session;
+use questions::At;
+use questions::Phase;
+use questions::Question;
+use questions::Session;
 
 fn clear(pivots: &mut [usize])
     ensures { λ _. ⌜ now (pivots .exit) ≡ clearedOf (now (pivots .entry)) ⌝ }

@@ -8,8 +8,8 @@ use native.Mathlib.Omega.{arith}
 use lib.ListN.{length, replicate}
 use borrow.Author.Needs.{needs}
 use Rattle.numbers.specs.Float.{zeroF}
-use Rattle.turns.specs.declared.Session.{Session}
-use Rattle.turns.specs.Turns.{Left}
+use Rattle.questions.specs.declared.Session.{Session}
+use Rattle.questions.specs.Turns.{RunState}
 use Rattle.machine.specs.Resume.{With}
 use Rattle.invariants.proofs.Ranges.{order-after}
 use Rattle.invariants.proofs.Lent.{resume-lent}
@@ -124,8 +124,8 @@ settle-requires c κs =
     let w : With = record { rtol = rtolOf b; atol = atolOf b; work = x .work .now; ipiv = x .pivots .now } in
     let order = order-after (decodeOf b) (x .kind) (x .numbers .now) (x .time) w (r .ranges) in
     let room = resume-lent (decodeOf b) (x .numbers .now) (x .time) w (r .lent) (x .kind) .sized in
-    let low = ap (λ (l : Left). l .turn .common .nq) turned in
-    let long = ap (λ (l : Left). length (l .work)) turned in
+    let low = ap (λ (l : RunState). l .turn .common .nq) turned in
+    let long = ap (λ (l : RunState). length (l .work)) turned in
     rw (a .pre .1 .0 .1)
     (
       (z .states .0, z .states .1, omega (arith, low, order)),
@@ -169,7 +169,7 @@ returns c =
     let lent : Buffers = record {
       work = x .work .now; pivots = x .pivots .now; session = b; question = x .question .now;
     } in
-    ap (put _ _) settled ∙ ap (λ (l : Left). written s l lent) turned
+    ap (put _ _) settled ∙ ap (λ (l : RunState). written s l lent) turned
 
 pub go-spec : {M : Type 1} → statement M
 go-spec =

@@ -7,9 +7,9 @@ use mathlib.Core.Path.{_≡_, refl}
 use denote.Enum.Declared.{tagOf}
 use borrow.Author.Needs.{needs}
 use types.Run.{OneOf, miss}
-use Rattle.turns.specs.declared.Question.{Question}
-use Rattle.turns.specs.declared.Question.the-variants as Question
-use Rattle.turns.proofs.Question.{the-type}
+use Rattle.questions.specs.declared.Question.{Question}
+use Rattle.questions.specs.declared.Question.the-variants as Question
+use Rattle.questions.proofs.Question.{the-type}
 use Rattle.replies.specs.Replies.{isUnasked}
 use Rattle.replies.proofs.is_unasked.Statement.{statement}
 use Rattle.replies.proofs.is_unasked.Tie as tie

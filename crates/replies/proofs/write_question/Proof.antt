@@ -11,9 +11,9 @@ use borrow.Author.Needs.{needs}
 use types.Run.{OneOf, miss}
 use Rattle.common.specs.declared.Settings.{Settings}
 use Rattle.common.specs.declared.Common.{Common}
-use Rattle.turns.specs.declared.Phase.{Phase}
-use Rattle.turns.specs.declared.Phase.the-variants as Phase
-use Rattle.turns.proofs.Phase.{the-type}
+use Rattle.questions.specs.declared.Phase.{Phase}
+use Rattle.questions.specs.declared.Phase.the-variants as Phase
+use Rattle.questions.proofs.Phase.{the-type}
 use Rattle.replies.specs.Replies.{questionOf, withY}
 use Rattle.replies.proofs.write_question.Statement.{statement}
 use Rattle.replies.proofs.write_question.Tie as tie

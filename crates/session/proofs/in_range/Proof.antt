@@ -7,7 +7,7 @@ use Prim.Native.Nat.{ℕ}
 use lib.ListN.{getD}
 use borrow.Author.Needs.{needs}
 use borrow.Author.Tests.{not-true, not-false}
-use Rattle.turns.specs.declared.Session.{Session}
+use Rattle.questions.specs.declared.Session.{Session}
 use Rattle.words.specs.Words.{countsIn}
 use Rattle.session.specs.Session.{decodeOf, fieldsInRange, tolerancesInRange, pivotsBelow, inRangeOf}
 use Rattle.session.proofs.Within.{lists-small}
