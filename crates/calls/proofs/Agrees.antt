@@ -3,7 +3,7 @@
 --     not-refusal, asking   such a question is answered by none of 3, 13, 14
 --     status-number, status-not   the numbers of the ends
 -- Assumes nothing.
-use mathlib.Core.Bool.{Bool, false}
+use mathlib.Core.Bool.{Bool, true, false}
 use mathlib.Core.Path.{_≡_, refl}
 use Prim.Native.Nat.{ℕ, _≤_, _<_}
 use native.Mathlib.Omega.{arith}
@@ -20,27 +20,20 @@ use Rattle.fields.specs.States.{phaseNumber}
 use Rattle.answers.specs.Answers.{statusNumber, answerOf}
 use Rattle.replies.specs.Replies.{isUnasked}
 use Rattle.calls.specs.Run.{isRefusal}
+use Rattle.calls.specs.ReplyRefused.{Awaited, derivative, jacobian, answer, nothing, awaits}
 
 -- the run has ended
 abbrev pub isOver : Phase → Bool
 isOver phase = eqb (phaseNumber phase) 10
 
--- the phases in which a derivative is wanted
-abbrev pub WantsDerivative : Phase → Type 0
-WantsDerivative Phase.FirstDerivative = Unit {0}
-WantsDerivative Phase.FirstReport = ⊥
-WantsDerivative Phase.FirstModified = Unit {0}
-WantsDerivative Phase.Opened = Unit {0}
-WantsDerivative Phase.JacobianAsked = ⊥
-WantsDerivative Phase.DifferenceColumn = Unit {0}
-WantsDerivative Phase.FurtherDerivative = Unit {0}
-WantsDerivative Phase.Restep = Unit {0}
-WantsDerivative Phase.Report = ⊥
-WantsDerivative Phase.Modified = Unit {0}
-WantsDerivative Phase.Finished = ⊥
+abbrev pub forDerivative : Awaited → Bool
+forDerivative derivative = true
+forDerivative jacobian = false
+forDerivative answer = false
+forDerivative nothing = false
 
 abbrev pub Agrees : Question → Phase → Common → Type 0
-Agrees (Question.Derivative a) phase c = WantsDerivative phase
+Agrees (Question.Derivative a) phase c = awaits phase ≡ derivative
 Agrees (Question.Jacobian a) phase c = phase ≡ Phase.JacobianAsked
 Agrees (Question.FirstReport a) phase c = (phase ≡ Phase.FirstReport) × (a .time ≡ c .tn)
 Agrees (Question.Report r) phase c = (phase ≡ Phase.Report) × (r .order ≡ c .nq) × (r .time ≡ c .tn)

@@ -12,7 +12,6 @@ use lib.ListN.{length}
 use borrow.Author.Tests.{eqb-true, eqb-false, ne-eqb}
 use Rattle.refusals.specs.declared.Refusal.{Refusal}
 use Rattle.refusals.specs.Rows.{Row, ExactlyFirst}
-use Rattle.refusals.specs.Table.{startRows}
 use Rattle.refusals.proofs.Rows.{Each}
 use Rattle.refusals.proofs.Table.{each-row, exactly-first}
 use Rattle.answers.specs.Answers.{refusedOf}
@@ -20,7 +19,7 @@ use Rattle.answers.specs.Called.{Buffers, Called}
 use Rattle.starts.specs.Starts.{beganOf}
 use Rattle.raimsklo.specs.Calls.{Problem, lengthsOf, startAt, startOf}
 use Rattle.calls.specs.Start.{Returned, StartsExactly}
-use Rattle.calls.proofs.WellFormed.{refusalOf, some-start, start-number-is}
+use Rattle.calls.proofs.WellFormed.{refusalOf, refusalRows, some-start, start-number-is}
 use Rattle.calls.proofs.Refused.{empty-start, starts}
 
 -- ---- the same claim of other words
@@ -53,9 +52,6 @@ exactly-never A X x (r ∷ rows) None n g = (
 -- ---- a start
 
 module _ (p : Problem) (b : Buffers) where
-  abbrev rows : List Row
-  rows = startRows (p .x0) (p .xend) (p .options) (lengthsOf p b) (p .rtol) (p .atol)
-
   module _ (some : 1 ≤ length (p .y0)) where
     at-some : (r : Refusal) (t : Bool) → eqb (refusalOf p b .number) 0 ≡ t → r .number ≤ 11
         → startAt p b (refusalOf p b) ≡ record { reply = refusedOf r; lent = b } → refusalOf p b ≡ r
@@ -85,7 +81,7 @@ module _ (p : Problem) (b : Buffers) where
         (λ h. (tt, none), λ h. is),
         exactly-never (Returned p b) _
         (λ h. let q : _≡_ {A = ℕ} 110 100 = ap (λ (x : Called). x .reply .number) (sym is) ∙ h in omega (arith, q))
-        rows (Unit {0} × (length (p .y0) ≡ 0 → ⊥)) (λ h. h .1 none)
+        (refusalRows p b) (Unit {0} × (length (p .y0) ≡ 0 → ⊥)) (λ h. h .1 none)
         (each-row (λ r. Returned p b r → ⊥)
         (λ r low small h.
         let q : 110 ≡ r .number = ap (λ (x : Called). x .reply .number) (sym is ∙ h) in omega (arith, q, small))
@@ -98,7 +94,7 @@ module _ (p : Problem) (b : Buffers) where
         (λ h. absurd (no-end (ap (λ (x : Called). x .reply .number) h) (starts p b some)), λ h. absurd (z (h .1))),
         exactly-as (λ r. refusalOf p b ≡ r) (Returned p b) _ _
         (λ h. start-number-is p b .1 (some, h), λ h. start-number-is p b .0 h .1)
-        rows (Unit {0}) (Unit {0} × (length (p .y0) ≡ 0 → ⊥)) (λ h. (tt, z), λ h. tt)
+        (refusalRows p b) (Unit {0}) (Unit {0} × (length (p .y0) ≡ 0 → ⊥)) (λ h. (tt, z), λ h. tt)
         (each-row (λ r. (refusalOf p b ≡ r) ↔ Returned p b r) (some-returned some)
         (p .x0) (p .xend) (p .options) (lengthsOf p b) (p .rtol) (p .atol))
         (exactly-first (p .x0) (p .xend) (p .options) (lengthsOf p b) (p .rtol) (p .atol)),

@@ -3,7 +3,7 @@
 --     first-exactly
 -- Assumes nothing.
 use mathlib.Core.Bool.{Bool, true, false, cond, not}
-use mathlib.Core.List.{List, [], _∷_, _++_}
+use mathlib.Core.List.{List, [], _∷_}
 use mathlib.Core.Logic.{_⊎_, inl, inr, _↔_}
 use mathlib.Core.Path.{_≡_, refl, sym, ap, _∙_}
 use Prim.Native.Nat.{ℕ, zero, suc, _+_, _*_, _≤_, _<_}
@@ -11,10 +11,9 @@ use native.Mathlib.Omega.{arith}
 use lib.Dec.{eqb, lit≤}
 use lib.Ieee as Ieee
 use lib.Ieee.{Float, nan}
-use lib.ListN.{length, getD, take, drop, replicate, length-replicate}
-use lib.Seq.{getD-append-add, getD-drop, length-take-le}
+use lib.ListN.{length, getD, replicate, length-replicate}
 use borrow.Author.Tests.{eqb-true, eqb-false, eq-eqb}
-use Rattle.loops.specs.Part.{putPart, getD-part, length-part, length-putPart}
+use Rattle.loops.specs.Part.{putPart, getD-part, length-part, length-putPart, part-put, getD-beyond}
 use Rattle.loops.specs.Stores.{stores}
 use Rattle.loops.specs.Test.{differs}
 use Rattle.numbers.specs.Float.{_⊖_, zeroF}
@@ -47,23 +46,12 @@ use Rattle.calls.specs.First.{weightOf, weightRows, firstStepSize, sizeR
 use Rattle.calls.specs.ReplyRefused.{phaseIn, replyRows}
 use Rattle.calls.specs.ReplyFirst.{FirstBad, AllGood, storedWeights, storedStep, isRefused}
 use Rattle.calls.proofs.Start.{begun-run}
-use Rattle.calls.proofs.Walk.{At, isFitting, call, is-refusal, part-put, begun-at}
+use Rattle.calls.proofs.Walk.{At, isFitting, call, is-refusal, begun-at}
 use Rattle.calls.proofs.Exactly.{exactly-as}
 use Rattle.calls.proofs.ReplyRefused.{stored-phase, reply-refused}
 use Rattle.calls.proofs.ReplyFirst.{Says, weighty, says}
 use Rattle.rules.specs.Rules.{stepped}
 use Rattle.calls.specs.Fakes.{reported}
-
--- ---- lists
-
--- beyond a part that is put, what was there stays
-put-beyond : (a n k : ℕ) (l s : List Float) → a ≤ length l → length s ≡ n
-    → getD (putPart a n l s) (a + (n + k)) nan ≡ getD l (a + (n + k)) nan
-put-beyond a n k l s h e =
-    let m : length (take a l) ≡ a = length-take-le a l h in
-    let first = getD-append-add (take a l) (s ++ drop n (drop a l)) (n + k) nan in
-    let second = getD-append-add s (drop n (drop a l)) k nan in
-    (rw m at first) ∙ (rw e at second) ∙ getD-drop n (drop a l) k nan ∙ getD-drop a l (n + k) nan
 
 -- ---- the rows of the weights
 
@@ -188,7 +176,7 @@ module _ (p : Problem) (b : Buffers) (begins : Begins p b) (r : ReplyCall) (time
       let here : 0 + i ≡ i = omega arith in
       let first : getD u i nan ≡ getD v (17 * n + i) nan = rw here at (copied .made i m) in
       let second : getD v (17 * n + i) nan ≡ getD y (17 * n + i) nan =
-          rw at17 at (put-beyond (14 * n) (length f) (2 * n + i) y f (omega arith) refl) in
+          rw at17 at (getD-beyond (14 * n) (length f) y f (omega arith) refl (2 * n + i) nan) in
       let third : getD y (17 * n + i) nan ≡ getD (p .y0) i nan =
           sym (getD-part (17 * n) n y (omega arith) i nan m)
           ∙ ap (λ (l : List Float). getD l i nan) (part-put (17 * n) n zeros (p .y0) (omega arith) refl) in

@@ -3,9 +3,10 @@
 -- Assumes nothing.
 use mathlib.Core.Bool.{cond}
 use mathlib.Core.List.{List}
-use mathlib.Core.Path.{_≡_, refl, subst}
+use mathlib.Core.Path.{_≡_, refl, ap, subst}
 use Prim.Native.Nat.{ℕ}
 use lib.Ieee.{Float}
+use Rattle.loops.specs.Test.{differs}
 use Rattle.common.specs.declared.Common.{Common}
 use Rattle.turns.specs.declared.Phase.{Phase}
 use Rattle.turns.specs.declared.Phase.the-variants as Phase
@@ -19,20 +20,21 @@ use Rattle.follows.specs.Seen.{Shown, wantsDerivative, wantsJacobian, reports, 
 use Rattle.follows.specs.Seen.{refuses, stuck, wantedAt, shownAs}
 use Rattle.follows.specs.Stands.{Stands}
 use Rattle.calls.specs.Follow.{isStep, TakesDerivative, PhaseAt}
-use Rattle.calls.proofs.Agrees.{WantsDerivative, Agrees}
+use Rattle.calls.specs.ReplyRefused.{derivative, awaits}
+use Rattle.calls.proofs.Agrees.{forDerivative, Agrees}
 
-takes-derivative : (phase : Phase) → WantsDerivative phase → TakesDerivative phase
+takes-derivative : (phase : Phase) → awaits phase ≡ derivative → TakesDerivative phase
 takes-derivative Phase.FirstDerivative h = λ len n. refl
-takes-derivative Phase.FirstReport h = absurd h
+takes-derivative Phase.FirstReport h = differs (ap forDerivative h)
 takes-derivative Phase.FirstModified h = λ len n. refl
 takes-derivative Phase.Opened h = λ len n. refl
-takes-derivative Phase.JacobianAsked h = absurd h
+takes-derivative Phase.JacobianAsked h = differs (ap forDerivative h)
 takes-derivative Phase.DifferenceColumn h = λ len n. refl
 takes-derivative Phase.FurtherDerivative h = λ len n. refl
 takes-derivative Phase.Restep h = λ len n. refl
-takes-derivative Phase.Report h = absurd h
+takes-derivative Phase.Report h = differs (ap forDerivative h)
 takes-derivative Phase.Modified h = λ len n. refl
-takes-derivative Phase.Finished h = absurd h
+takes-derivative Phase.Finished h = differs (ap forDerivative h)
 
 -- the phase of what is shown, w being the work
 abbrev ShownIn : ℕ → Phase → List Float → Shown → Type 0

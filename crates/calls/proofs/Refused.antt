@@ -1,7 +1,7 @@
 -- Refused calls leave all that was lent: a start by cases of its definition, a reply by its rows (`reply-refused`).
 --     refused-unchanged
 -- Assumes nothing.
-use mathlib.Core.Bool.{Bool, true, false, _||_}
+use mathlib.Core.Bool.{Bool, true, false}
 use mathlib.Core.List.{List}
 use mathlib.Core.Logic.{_⊎_, inl, inr}
 use mathlib.Core.Path.{_≡_, refl, ap}
@@ -11,7 +11,6 @@ use lib.Dec.{eqb}
 use lib.Ieee.{Float}
 use lib.ListN.{length}
 use borrow.Author.Tests.{eqb-true, eqb-false}
-use Rattle.loops.specs.Test.{one-of}
 use Rattle.numbers.specs.Float.{zeroF}
 use Rattle.refusals.specs.Rows.{FirstIs}
 use Rattle.answers.specs.Answers.{plainOf}
@@ -22,7 +21,7 @@ use Rattle.calls.specs.Run.{isRefusal}
 use Rattle.calls.specs.Refused.{RefusedUnchanged}
 use Rattle.calls.specs.ReplyRefused.{replyRows, ReplyRefused}
 use Rattle.calls.proofs.WellFormed.{refusalOf, at-most-11, some-start}
-use Rattle.calls.proofs.ReplyRefused.{reply-refused}
+use Rattle.calls.proofs.ReplyRefused.{refusing, reply-refused}
 
 -- ---- start
 
@@ -65,7 +64,7 @@ module _ (kind : ℕ) (numbers : List Float) (time : Float) (b : Buffers) where
   x = replyOf kind numbers time b
 
   reply-leaves : isRefusal (x .reply) ≡ true → x .lent ≡ b
-  reply-leaves h = by (one-of _ _ h)
+  reply-leaves h = by (refusing (x .reply .number) h)
     where
       r : ReplyRefused kind numbers time b
       r = reply-refused kind numbers time b
@@ -73,14 +72,10 @@ module _ (kind : ℕ) (numbers : List Float) (time : Float) (b : Buffers) where
       left : (k : ℕ) → FirstIs k (replyRows kind numbers b) → x .lent ≡ b
       left k f = ap (λ (y : Called). y .lent) (r .unchanged k f)
 
-      rest : (eqb (x .reply .number) 13 ≡ true) ⊎ (eqb (x .reply .number) 14 ≡ true) → x .lent ≡ b
-      rest (inl e) = left 13 (r .thirteen .0 (eqb-true _ _ e))
-      rest (inr e) = left 14 (r .fourteen .0 (eqb-true _ _ e))
-
-      by : (eqb (x .reply .number) 3 ≡ true) ⊎ (eqb (x .reply .number) 13 || eqb (x .reply .number) 14 ≡ true)
-          → x .lent ≡ b
-      by (inl e) = left 3 (r .three .0 (eqb-true _ _ e))
-      by (inr e) = rest (one-of _ _ e)
+      by : (x .reply .number ≡ 3) ⊎ ((x .reply .number ≡ 13) ⊎ (x .reply .number ≡ 14)) → x .lent ≡ b
+      by (inl e) = left 3 (r .three .0 e)
+      by (inr (inl e)) = left 13 (r .thirteen .0 e)
+      by (inr (inr e)) = left 14 (r .fourteen .0 e)
 
 pub refused-unchanged : RefusedUnchanged
 refused-unchanged = record {

@@ -2,7 +2,7 @@
 --     kinds, numbers     the literal numbers of kinds, questions and ends
 --     reply-means
 -- Assumes nothing.
-use mathlib.Core.Bool.{Bool, true, false, cond, _||_}
+use mathlib.Core.Bool.{Bool, true, false, cond}
 use mathlib.Core.List.{List}
 use mathlib.Core.Logic.{_⊎_, inl, inr}
 use mathlib.Core.Path.{_≡_, refl, sym, ap, _∙_, subst}
@@ -10,7 +10,7 @@ use Prim.Native.Nat.{ℕ, _≤_, _<_}
 use lib.Dec.{eqb, lit≤}
 use lib.Ieee.{Float}
 use borrow.Author.Tests.{eqb-true, le-leb, lt-leb}
-use Rattle.loops.specs.Test.{differs, one-of}
+use Rattle.loops.specs.Test.{differs}
 use Rattle.numbers.specs.Float.{_⊕_, zeroF}
 use Rattle.common.specs.declared.Settings.{Settings}
 use Rattle.common.specs.declared.Common.{Common}
@@ -44,7 +44,7 @@ use Rattle.calls.specs.ReplyMeans.{Kinds, Numbers, Listed, endedBy, AtRe
 use Rattle.calls.proofs.Agrees.{status-number, asking}
 use Rattle.calls.proofs.Turns.{resume-means}
 use Rattle.calls.proofs.ReplyRefused.{isRefusing, withIn, stored-phase, gone, is-now, agreed, went}
-use Rattle.calls.proofs.ReplyRefused.{reply-refused}
+use Rattle.calls.proofs.ReplyRefused.{refusing, reply-refused}
 
 pub kinds : Kinds
 unfolding kindOf
@@ -171,17 +171,13 @@ module _ (kind : ℕ) (numbers : List Float) (time : Float) (b : Buffers) where
       ∙ rw (asking (turn .question) (turn .phase) (turn .common) (agreed kind numbers time b h))
 
   listed-at : (r : Bool) → isRefusal (reply .reply) ≡ r → Listed (reply .reply .number)
-  listed-at true e = by (one-of _ _ e)
+  listed-at true e = by (refusing (reply .reply .number) e)
     where
-      rest : (eqb (reply .reply .number) 13 ≡ true) ⊎ (eqb (reply .reply .number) 14 ≡ true)
+      by : (reply .reply .number ≡ 3) ⊎ ((reply .reply .number ≡ 13) ⊎ (reply .reply .number ≡ 14))
           → Listed (reply .reply .number)
-      rest (inl i) = subst Listed (sym (eqb-true (reply .reply .number) 13 i)) (inr (inl (lit≤ tt, lit≤ tt)))
-      rest (inr i) = subst Listed (sym (eqb-true (reply .reply .number) 14 i)) (inr (inl (lit≤ tt, lit≤ tt)))
-
-      by : (eqb (reply .reply .number) 3 ≡ true)
-          ⊎ ((eqb (reply .reply .number) 13 || eqb (reply .reply .number) 14) ≡ true) → Listed (reply .reply .number)
-      by (inl i) = inl (eqb-true _ _ i)
-      by (inr i) = rest (one-of _ _ i)
+      by (inl i) = inl i
+      by (inr (inl i)) = subst Listed (sym i) (inr (inl (lit≤ tt, lit≤ tt)))
+      by (inr (inr i)) = subst Listed (sym i) (inr (inl (lit≤ tt, lit≤ tt)))
   listed-at false e =
       let h = reply-refused kind numbers time b .taken .0 e in
       subst (λ (a : Reply). Listed (a .number)) (sym (went kind numbers time b h))

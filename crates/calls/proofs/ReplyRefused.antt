@@ -6,7 +6,7 @@
 -- Assumes nothing.
 use mathlib.Core.Bool.{Bool, true, false, cond, not, _&&_, _||_, true≢false}
 use mathlib.Core.List.{List, [], _∷_}
-use mathlib.Core.Logic.{inl, inr, ⊎-elim, _↔_}
+use mathlib.Core.Logic.{inl, inr, ⊎-elim, _↔_, _⊎_, ⊎-map}
 use mathlib.Core.Path.{_≡_, refl, sym, ap, _∙_, subst}
 use Prim.Native.Nat.{ℕ, zero, suc, _+_, _*_}
 use native.Mathlib.Omega.{arith}
@@ -14,7 +14,7 @@ use lib.Dec.{eqb, ltb, lit<}
 use lib.Ieee.{Float}
 use lib.ListN.{length}
 use borrow.Author.Tests.{eqb-true, eqb-false, lt-leb}
-use Rattle.loops.specs.Test.{differs, both}
+use Rattle.loops.specs.Test.{differs, both, one-of}
 use Rattle.numbers.specs.Float.{zeroF}
 use Rattle.common.specs.declared.Settings.{Settings}
 use Rattle.turns.specs.declared.Phase.{Phase}
@@ -75,6 +75,10 @@ numbered P (r ∷ rs) k ns (inr f) = numbered P rs k (ns .1) (f .1)
 -- a number that refuses
 abbrev pub isRefusing : ℕ → Bool
 isRefusing k = eqb k 3 || (eqb k 13 || eqb k 14)
+
+pub refusing : (k : ℕ) → isRefusing k ≡ true → (k ≡ 3) ⊎ ((k ≡ 13) ⊎ (k ≡ 14))
+refusing k e =
+    ⊎-map (eqb-true k 3) (λ f. ⊎-map (eqb-true k 13) (eqb-true k 14) (one-of _ _ f)) (one-of (eqb k 3) _ e)
 
 -- ---- what is asked
 

@@ -12,6 +12,7 @@ use lib.Ieee.{Float}
 use lib.ListN.{length, take, drop, take-append-drop}
 use lib.Seq.{length-take-le, drop-drop}
 use Rattle.loops.specs.Part.{putPart, length-part, length-putPart}
+use Rattle.loops.specs.Test.{differs}
 use Rattle.common.specs.declared.Settings.{Settings}
 use Rattle.common.specs.declared.Common.{Common}
 use Rattle.common.specs.Layout.{y}
@@ -31,7 +32,7 @@ use Rattle.sqrt.specs.Rounded.{fits}
 use Rattle.answers.specs.Answers.{answerOf}
 use Rattle.replies.specs.Replies.{withY, questionOf}
 use Rattle.calls.specs.Follow.{says, saidOf, saidAt}
-use Rattle.calls.proofs.Agrees.{isOver, Agrees}
+use Rattle.calls.proofs.Agrees.{isOver, forDerivative, Agrees}
 use Rattle.calls.proofs.Turns.{Well}
 
 -- ---- the question slice
@@ -81,16 +82,16 @@ module _ (s : Settings) (c : Common) (work q : List Float) (history : 19 * s .n 
       → Says v phase
   unfolding questionOf shownAs
   says-question (Question.Derivative a) Phase.FirstDerivative g o = refl
-  says-question (Question.Derivative a) Phase.FirstReport g o = absurd g
+  says-question (Question.Derivative a) Phase.FirstReport g o = differs (ap forDerivative g)
   says-question (Question.Derivative a) Phase.FirstModified g o = refl
   says-question (Question.Derivative a) Phase.Opened g o = refl
-  says-question (Question.Derivative a) Phase.JacobianAsked g o = absurd g
+  says-question (Question.Derivative a) Phase.JacobianAsked g o = differs (ap forDerivative g)
   says-question (Question.Derivative a) Phase.DifferenceColumn g o = refl
   says-question (Question.Derivative a) Phase.FurtherDerivative g o = refl
   says-question (Question.Derivative a) Phase.Restep g o = refl
-  says-question (Question.Derivative a) Phase.Report g o = absurd g
+  says-question (Question.Derivative a) Phase.Report g o = differs (ap forDerivative g)
   says-question (Question.Derivative a) Phase.Modified g o = refl
-  says-question (Question.Derivative a) Phase.Finished g o = absurd g
+  says-question (Question.Derivative a) Phase.Finished g o = differs (ap forDerivative g)
   says-question (Question.Jacobian a) phase g o = rw g
   says-question (Question.FirstReport a) phase g o =
       rw (g .0) (ap (says (answerOf (Question.FirstReport a))) (sym (put-none (s .n) (withY s work q))))

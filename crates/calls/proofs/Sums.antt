@@ -171,7 +171,7 @@ module _ (r : SumRow) (accepted : Accepted (r .problem)) (floats : FloatsGiven (
     question = b .question;
     said = begun-says p b begins;
     answer = ap (λ (y : Called). y .reply) (begun-is p b (begins .formed));
-    agrees = tt;
+    agrees = refl;
   }
 
   asked-is : allowed g (startedAt g a) (r .acts) ≡ true

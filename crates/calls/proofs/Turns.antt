@@ -83,7 +83,7 @@ module _ (B : ℕ) (s : Settings) (before : Phase) (kind : Kind) where
 
   open-pass : (n : ℕ) (c : Common) (work : List Float) → Low B c → Good (openPassOf n c work .turn)
   unfolding openPassOf askedInStepOf
-  open-pass n c work f = record { low = f; agrees = tt; means = (refl, refl) }
+  open-pass n c work f = record { low = f; agrees = refl; means = (refl, refl) }
 
   prepared-at : (cut due : Bool) (c : Common) (work : List Float) → Low B c
       → Low B (preparedAt s cut due c work .common)
@@ -133,7 +133,7 @@ module _ (B : ℕ) (s : Settings) (before : Phase) (kind : Kind) where
   missed-at false true last c dsm work e g f = open-pass (s .n) _ _ f
   missed-at false false true c dsm work e g f =
       record { low = f; agrees = refl; means = (refl, refl, inr (eqb-true _ _ g)) }
-  missed-at false false false c dsm work e g f = record { low = f; agrees = tt; means = (refl, refl) }
+  missed-at false false false c dsm work e g f = record { low = f; agrees = refl; means = (refl, refl) }
 
   failed : (c : Common) (dsm : Float) (work : List Float) → Low B c
       → Good (attemptedOf (s .n) (failedOf s c dsm work) .turn)
@@ -187,7 +187,7 @@ module _ (B : ℕ) (s : Settings) (before : Phase) (kind : Kind) where
         converged-at dsm (Ieee.lt oneF dsm) c work f
     concluded-at Pass.Retry c del work f = open-pass (s .n) c work f
     concluded-at Pass.NoConvergence c del work f = unconverged c work f
-    concluded-at Pass.Further c del work f = record { low = f; agrees = tt; means = (refl, refl) }
+    concluded-at Pass.Further c del work f = record { low = f; agrees = refl; means = (refl, refl) }
 
     iterate : (c : Common) (ipiv : List ℕ) (work : List Float) → Low B c
         → Good (iterateOf s c rtol atol ipiv work .turn)
@@ -217,7 +217,7 @@ module _ (B : ℕ) (s : Settings) (before : Phase) (kind : Kind) where
 
     ask-column : (c : Common) (j : ℕ) (work : List Float) → Low B c → Good (askColumnOf s c j work .turn)
     unfolding askColumnOf askedInStepOf
-    ask-column c j work f = record { low = f; agrees = tt; means = (refl, refl) }
+    ask-column c j work f = record { low = f; agrees = refl; means = (refl, refl) }
 
     begin-at : (supplied : Bool) (c : Common) (work : List Float) → isSupplied s c ≡ supplied → Low B c
         → Good (beginJacobianAt s supplied (beginOf c) work .turn)
@@ -273,13 +273,13 @@ module _ (B : ℕ) (x : Session) (reply : List Float) (time : Float) (w : With) 
   unfolding takenOf firstReportOf askedOf finishedOf
   first-report Continue = go-on B s Phase.FirstReport (Kind.Report Continue) (with-tn time c) _ low
   first-report Interrupt = record { low = low; agrees = refl; means = (refl, refl, (inl refl, refl)) }
-  first-report Modified = record { low = low; agrees = tt; means = (refl, refl) }
+  first-report Modified = record { low = low; agrees = refl; means = (refl, refl) }
 
   after-report : (a : Answer) → Taken Phase.Report (Kind.Report a)
   unfolding takenOf afterReportOf askedOf finishedOf
   after-report Continue = go-on B s Phase.Report (Kind.Report Continue) (with-tn time c) _ low
   after-report Interrupt = record { low = low; agrees = refl; means = (refl, refl, (inr refl, refl)) }
-  after-report Modified = record { low = low; agrees = tt; means = (refl, refl) }
+  after-report Modified = record { low = low; agrees = refl; means = (refl, refl) }
 
   taken : (phase : Phase) (kind : Kind) → Asked phase kind → Taken phase kind
   unfolding takenOf firstDerivativeOf firstModifiedOf openedOf jacobianOf columnOf furtherOf restepOf modifiedOf

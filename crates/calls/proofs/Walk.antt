@@ -8,14 +8,13 @@ use mathlib.Core.Bool.{Bool, true, false, cond, not, _&&_, true≢false}
 use mathlib.Core.List.{List, [], _∷_, _++_}
 use mathlib.Core.Logic.{_⊎_, inl, inr}
 use mathlib.Core.Path.{_≡_, refl, sym, ap, _∙_}
-use Prim.Native.Nat.{ℕ, _+_, _*_, _≤_}
+use Prim.Native.Nat.{ℕ, _+_, _*_}
 use native.Mathlib.Omega.{arith}
 use lib.Ieee.{Float}
-use lib.ListN.{length, take, drop, replicate, length-replicate}
-use lib.Seq.{take-at, drop-at, length-take-le}
+use lib.ListN.{length, replicate, length-replicate}
 use borrow.Author.Tests.{eqb-true}
 use Rattle.loops.specs.Test.{both}
-use Rattle.loops.specs.Part.{part, putPart}
+use Rattle.loops.specs.Part.{part-put}
 use Rattle.numbers.specs.Float.{zeroF}
 use Rattle.between_steps.specs.declared.Kind.{Kind}
 use Rattle.turns.specs.declared.Phase.{Phase}
@@ -259,11 +258,6 @@ module _ (g : Given) (a : Start) (run : Runs g a) where
 
 -- ---- the start
 
-pub part-put : (at n : ℕ) (l s : List Float) → at ≤ length l → length s ≡ n → part at n (putPart at n l s) ≡ s
-part-put at n l s h e =
-    let rest = drop n (drop at l) in
-    ap (take n) (drop-at (take at l) (s ++ rest) at (length-take-le at l h)) ∙ take-at s rest n e
-
 module _ (p : Problem) (b : Buffers) (begins : Begins p b) where
   abbrev g : Given
   g = givenOf p b
@@ -282,7 +276,7 @@ module _ (p : Problem) (b : Buffers) (begins : Begins p b) where
         work = refl;
         pivots = refl;
         keeps = begun-keeps p b begins;
-        phased = phase-node g (startedAt g a) tt (treeOf p b) stands;
+        phased = phase-node g (startedAt g a) refl (treeOf p b) stands;
       })
 
   pub begun-says : saidBy (startOf p b) ≡ saidAt (g .s .n) (treeOf p b) (b .question)
