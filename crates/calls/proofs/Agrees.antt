@@ -10,10 +10,10 @@ use native.Mathlib.Omega.{arith}
 use lib.Dec.{eqb, lit≤, lit<}
 use borrow.Author.Tests.{ne-eqb}
 use Rattle.common.specs.declared.Common.{Common}
-use Rattle.turns.specs.declared.Phase.{Phase}
-use Rattle.turns.specs.declared.Phase.the-variants as Phase
-use Rattle.turns.specs.declared.Question.{Question}
-use Rattle.turns.specs.declared.Question.the-variants as Question
+use Rattle.questions.specs.declared.Phase.{Phase}
+use Rattle.questions.specs.declared.Phase.the-variants as Phase
+use Rattle.questions.specs.declared.Question.{Question}
+use Rattle.questions.specs.declared.Question.the-variants as Question
 use Rattle.between_steps.specs.declared.Status.{Status}
 use Rattle.between_steps.specs.declared.Status.the-variants as Status
 use Rattle.fields.specs.States.{phaseNumber}

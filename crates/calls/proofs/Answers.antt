@@ -14,9 +14,9 @@ use lib.Ieee.{Float}
 use lib.ListN.{length}
 use borrow.Author.Tests.{eqb-true, eqb-false}
 use Rattle.numbers.specs.Float.{zeroF}
-use Rattle.turns.specs.declared.Phase.{Phase}
-use Rattle.turns.specs.declared.Phase.the-variants as Phase
-use Rattle.turns.specs.Turns.{Left}
+use Rattle.questions.specs.declared.Phase.{Phase}
+use Rattle.questions.specs.declared.Phase.the-variants as Phase
+use Rattle.questions.specs.Turns.{RunState}
 use Rattle.session.specs.Session.{encodeOf, decodeOf}
 use Rattle.session.specs.Names as Word
 use Rattle.session.specs.InRange.{InRange}
@@ -24,7 +24,7 @@ use Rattle.session.proofs.InRange.{in-range}
 use Rattle.refusals.specs.Rows.{Row, NoneHolds, FirstIs}
 use Rattle.common.specs.State.{Given}
 use Rattle.rules.specs.Rules.{Start}
-use Rattle.follows.specs.Seen.{sessionOf, next, isTaken}
+use Rattle.refinement.specs.Shown.{sessionOf, resumed, isTaken}
 use Rattle.answers.specs.Answers.{plainOf, answerOf}
 use Rattle.answers.specs.Called.{Buffers, Called}
 use Rattle.replies.specs.Replies.{isKind, kindOf, questionOf, settledOf, turned, written, goOf}
@@ -37,10 +37,10 @@ use Rattle.calls.proofs.Turns.{Well}
 use Rattle.calls.proofs.Keeps.{over-or-not, Runs, Keeps}
 use Rattle.calls.proofs.ReplyRefused.{asked-now, gone, reply-refused}
 
-abbrev pub lentOf : Left → List ℕ → List Float → Buffers
+abbrev pub lentOf : RunState → List ℕ → List Float → Buffers
 lentOf l bytes q = record { work = l .work; pivots = l .ipiv; session = bytes; question = q }
 
-module _ (g : Given) (a : Start) (run : Runs g a) (l : Left) (bytes : List ℕ) (k : Keeps g l bytes)
+module _ (g : Given) (a : Start) (run : Runs g a) (l : RunState) (bytes : List ℕ) (k : Keeps g l bytes)
     (r : ReplyCall) where
   abbrev lent : Buffers
   lent = lentOf l bytes (r .question)
@@ -111,27 +111,27 @@ module _ (g : Given) (a : Start) (run : Runs g a) (l : Left) (bytes : List ℕ) 
         (λ no. no (asked-now (r .kind) (r .numbers) (r .time) lent .0 (rw (k .decoded) on)), tt))))))
 
     -- the reply finds the machine
-    turned-is : turned (kindOf (r .kind)) (r .numbers) (r .time) lent ≡ next g l (fedAs r)
+    turned-is : turned (kindOf (r .kind)) (r .numbers) (r .time) lent ≡ resumed g l (fedAs r)
     turned-is = rw (k .decoded, k .rtol, k .atol)
 
-    go-is : goOf (kindOf (r .kind)) (r .numbers) (r .time) lent ≡ written (g .s) (next g l (fedAs r)) lent
+    go-is : goOf (kindOf (r .kind)) (r .numbers) (r .time) lent ≡ written (g .s) (resumed g l (fedAs r)) lent
     unfolding goOf
     go-is =
-        ap (λ (x : Left). written (decodeOf bytes .settings) x lent) turned-is
+        ap (λ (x : RunState). written (decodeOf bytes .settings) x lent) turned-is
         ∙ rw (k .decoded)
 
-    abbrev taken : Left → Called
+    abbrev taken : RunState → Called
     taken m = record {
       reply = answerOf (m .turn .question);
       lent = lentOf m (encodeOf (sessionOf g m) bytes)
           (questionOf (g .s) (m .turn .phase) (m .turn .common) (m .work) (r .question));
     }
 
-    write : (m : Left) → Well 0 (m .turn) → written (g .s) m lent ≡ taken m
+    write : (m : RunState) → Well 0 (m .turn) → written (g .s) m lent ≡ taken m
     unfolding settledOf
     write m w = rw (asking (m .turn .question) (m .turn .phase) (m .turn .common) (w .agrees))
 
-    pub reply-taken : isOver (l .turn .phase) ≡ false → Asks true → Well 0 (next g l (fedAs r) .turn)
-        → answer ≡ taken (next g l (fedAs r))
+    pub reply-taken : isOver (l .turn .phase) ≡ false → Asks true → Well 0 (resumed g l (fedAs r) .turn)
+        → answer ≡ taken (resumed g l (fedAs r))
     reply-taken e on w =
-        gone (r .kind) (r .numbers) (r .time) lent (none e on) ∙ go-is ∙ write (next g l (fedAs r)) w
+        gone (r .kind) (r .numbers) (r .time) lent (none e on) ∙ go-is ∙ write (resumed g l (fedAs r)) w

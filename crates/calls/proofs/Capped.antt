@@ -14,10 +14,10 @@ use Rattle.loops.specs.Test.{differs, both}
 use Rattle.numbers.specs.Float.{zeroF}
 use Rattle.common.specs.declared.Common.{Common}
 use Rattle.between_steps.specs.declared.Answer.{Answer}
-use Rattle.turns.specs.declared.Question.{Question}
-use Rattle.turns.specs.declared.Question.the-variants as Question
-use Rattle.turns.specs.declared.Session.{Session}
-use Rattle.turns.specs.Turns.{Left}
+use Rattle.questions.specs.declared.Question.{Question}
+use Rattle.questions.specs.declared.Question.the-variants as Question
+use Rattle.questions.specs.declared.Session.{Session}
+use Rattle.questions.specs.Turns.{RunState}
 use Rattle.session.specs.Session.{decodeOf}
 use Rattle.rules.specs.Play.{derivativeAt, jacobianAt, Ending, Play, ret, ask, tell, say}
 use Rattle.common.specs.State.{Given}
@@ -25,11 +25,11 @@ use Rattle.rules.specs.Play.{finished, stepRefused, weightRefused, exhausted}
 use Rattle.rules.specs.Rules.{Start}
 use Rattle.rules.specs.Steps.{Step, Tally, requested, put-tally, noted, marked}
 use Rattle.rules.specs.Replies.{Reply as Fed}
-use Rattle.rules.specs.Demands.{Throughout, latest, Kept, Demand3At}
+use Rattle.rules.specs.Demands.{Throughout, latest, CapsKept, Demand3At}
 use Rattle.rules.proofs.Demands.{demand-3-tree}
-use Rattle.follows.specs.Seen.{next, asks, step}
-use Rattle.follows.specs.Stands.{startedAt}
-use Rattle.follows.specs.Follows.{stateAt}
+use Rattle.refinement.specs.Shown.{resumed, asks, treeNext}
+use Rattle.refinement.specs.AtNode.{startedAt}
+use Rattle.refinement.specs.Follows.{stateAt}
 use Rattle.sqrt.specs.Rounded.{fits}
 use Rattle.answers.specs.declared.Reply.{Reply}
 use Rattle.answers.specs.Answers.{plainOf, answerOf}
@@ -99,7 +99,7 @@ module _ (P : Play → List Step → Type 0) where
       → Waits t (countedBy (x .reply) (marks t xs))
   arrives n t x xs k h = rw (reply-of n t x k) (arrives-at n t (k .question) xs h)
 
-  leads : (n : ℕ) (t : Play) (r : Fed) (zs : List Step) → asks n t r ≡ true → Waits t zs → Throughout P (step t r) zs
+  leads : (n : ℕ) (t : Play) (r : Fed) (zs : List Step) → asks n t r ≡ true → Waits t zs → Throughout P (treeNext t r) zs
   leads n (ret e) r zs h w = differs h
   leads n (ask q x k) r zs h w = w .1 (r .numbers)
   leads n (tell p x k) r zs h w = w .1 _ (r .numbers) (r .time)
@@ -111,7 +111,7 @@ module _ (g : Given) where
   abbrev Here : Play → List Step → Type 0
   Here t zs = Waits (Demand3At g) t zs
 
-  kept-here : (t : Play) (zs : List Step) → Here t zs → Kept (stateAt t) zs
+  kept-here : (t : Play) (zs : List Step) → Here t zs → CapsKept (stateAt t) zs
   kept-here (ret e) zs h = h .0
   kept-here (ask q x k) zs h = h .0
   kept-here (tell r x k) zs h = h .0 .0
@@ -166,35 +166,35 @@ module _ (g : Given) (a : Start) (run : Runs g a) where
 
   record Stood (x : Called) (zs : List Step) : Type 0 where
     node : Play
-    left : Left
+    left : RunState
     at : At g a run node left x
     last : Last node x
     here : Here g node zs
 
   abbrev Stands : List ReplyCall → Type 0
-  Stands rs = (t : Play) (l : Left) (x : Called) (zs : List Step) → At g a run t l x → Last t x → Here g t zs
+  Stands rs = (t : Play) (l : RunState) (x : Called) (zs : List Step) → At g a run t l x → Last t x → Here g t zs
       → Stood (lastOf x rs) (stepsBy ours t zs x rs)
 
   -- a refused reply leaves the node and the steps, one that is taken goes on
-  stands-left : (r : ReplyCall) (rs : List ReplyCall) → Stands rs → (t : Play) (l : Left) (x : Called) (zs : List Step)
+  stands-left : (r : ReplyCall) (rs : List ReplyCall) → Stands rs → (t : Play) (l : RunState) (x : Called) (zs : List Step)
       → At g a run t l (replied x r) → Last t (replied x r) → Here g t zs → isRefusal (replied x r .reply) ≡ true
       → Stood (lastOf x (r ∷ rs)) (stepsBy ours t zs x (r ∷ rs))
   unfolding lastBy stepsBy
   stands-left r rs ih t l x zs at k h i = rw i (ih t l (replied x r) zs at k h)
 
-  stands-on : (r : ReplyCall) (rs : List ReplyCall) → Stands rs → (t : Play) (l : Left) (x : Called) (zs : List Step)
+  stands-on : (r : ReplyCall) (rs : List ReplyCall) → Stands rs → (t : Play) (l : RunState) (x : Called) (zs : List Step)
       → asks n t (fedAs r) ≡ true → Went g a run t l x r → Here g t zs → isRefusal (replied x r .reply) ≡ false
       → Stood (lastOf x (r ∷ rs)) (stepsBy ours t zs x (r ∷ rs))
   unfolding lastBy stepsBy
   stands-on r rs ih t l x zs asked w h i =
       let y = replied x r in
-      let u = step t (fedAs r) in
+      let u = treeNext t (fedAs r) in
       let k = spoken g a run t l x r w in
       rw i
-      (ih u (next g l (fedAs r)) y (countedBy (y .reply) (marks u zs)) (w .at) (inl k)
+      (ih u (resumed g l (fedAs r)) y (countedBy (y .reply) (marks u zs)) (w .at) (inl k)
       (arrives (Demand3At g) n u y zs k (leads (Demand3At g) n t (fedAs r) zs asked h)))
 
-  stands-by : (r : ReplyCall) (rs : List ReplyCall) → Stands rs → (t : Play) (l : Left) (x : Called) (zs : List Step)
+  stands-by : (r : ReplyCall) (rs : List ReplyCall) → Stands rs → (t : Play) (l : RunState) (x : Called) (zs : List Step)
       → Moves g a run t x r → Here g t zs → isRefusal (replied x r .reply) ≡ not (isFitting g a run t r)
       → Outcome g a run t l x r → Stood (lastOf x (r ∷ rs)) (stepsBy ours t zs x (r ∷ rs))
   stands-by r rs ih t l x zs m h i (refused e q) =
@@ -215,7 +215,7 @@ module _ (g : Given) (a : Start) (run : Runs g a) where
   -- ---- the claim at the last call
 
   module _ (x : Called) (zs : List Step) (z : Stood x zs) where
-    kept : Kept (stateAt (z .node)) zs
+    kept : CapsKept (stateAt (z .node)) zs
     kept = kept-here g (z .node) zs (z .here)
 
     -- the session's accepted count is the node's

@@ -9,8 +9,8 @@ use native.Mathlib.Omega.{arith}
 use lib.ListN.{length}
 use Rattle.loops.specs.Test.{differs, both}
 use Rattle.numbers.specs.Float.{zeroF}
-use Rattle.turns.specs.declared.Question.the-variants as Question
-use Rattle.turns.specs.Turns.{Left}
+use Rattle.questions.specs.declared.Question.the-variants as Question
+use Rattle.questions.specs.Turns.{RunState}
 use Rattle.refusals.specs.Start.{settingsOf}
 use Rattle.invariants.specs.Host.{IsF64}
 use Rattle.rules.specs.Play.{Play, ret, ask, tell, say}
@@ -20,8 +20,8 @@ use Rattle.rules.specs.Steps.{Step, noted, marked}
 use Rattle.rules.specs.Replies.{Reply as Fed, waits, fed, AllAsked}
 use Rattle.rules.specs.Demands.{HasEnded}
 use Rattle.rules.proofs.Demands.{demand-1}
-use Rattle.follows.specs.Seen.{next, asks, step}
-use Rattle.follows.specs.Stands.{startedAt}
+use Rattle.refinement.specs.Shown.{resumed, asks, treeNext}
+use Rattle.refinement.specs.AtNode.{startedAt}
 use Rattle.answers.specs.Answers.{plainOf}
 use Rattle.answers.specs.Called.{Buffers, Called}
 use Rattle.replies.specs.Replies.{isKind}
@@ -50,7 +50,7 @@ module _ (n : ℕ) where
   asked-ended (tell r x k) rs h = absurd h
   asked-ended (say e p) rs h = asked-ended p rs h
 
-  asked-one : (t : Play) (r : Fed) (rs : List Fed) → asks n t r ≡ true → AllAsked n (step t r) rs
+  asked-one : (t : Play) (r : Fed) (rs : List Fed) → asks n t r ≡ true → AllAsked n (treeNext t r) rs
       → AllAsked n t (r ∷ rs)
   asked-one (ret e) r rs h on = tt
   asked-one (ask q x k) r rs h on = (h, on)
@@ -65,7 +65,7 @@ module _ (n : ℕ) where
   fed-none (say e p) xs h = fed-none p (marked e xs) h
 
   fed-one : (t : Play) (xs : List Step) (r : Fed) (rs : List Fed) → asks n t r ≡ true
-      → (ys : List Step) × (fed n t xs (r ∷ rs) ≡ fed n (step t r) ys rs)
+      → (ys : List Step) × (fed n t xs (r ∷ rs) ≡ fed n (treeNext t r) ys rs)
   unfolding fed waits
   fed-one (ret e) xs r rs h = differs h
   fed-one (ask q x k) xs r rs h = (noted q xs, rw h)
@@ -83,17 +83,17 @@ module _ (g : Given) (a : Start) (run : Runs g a) where
   abbrev feds : List ReplyCall → List Fed
   feds rs = map fedAs rs
 
-  pub spoken : (t : Play) (l : Left) (x : Called) (r : ReplyCall) → Went g a run t l x r
-      → Spoken n (step t (fedAs r)) (replied x r)
+  pub spoken : (t : Play) (l : RunState) (x : Called) (r : ReplyCall) → Went g a run t l x r
+      → Spoken n (treeNext t (fedAs r)) (replied x r)
   spoken t l x r w = record {
     question = r .question;
     said = w .said;
-    asked = next g l (fedAs r) .turn .question;
+    asked = resumed g l (fedAs r) .turn .question;
     answer = w .answer;
   }
 
   -- a wanted reply is taken
-  wanted : (t : Play) (l : Left) (x : Called) (r : ReplyCall) → IsF64 (r .time) → At g a run t l x → Spoken n t x
+  wanted : (t : Play) (l : RunState) (x : Called) (r : ReplyCall) → IsF64 (r .time) → At g a run t l x → Spoken n t x
       → wants n (x .reply .number) r ≡ true → isSized n r ≡ true → (asks n t (fedAs r) ≡ true) × Went g a run t l x r
   wanted t l x r f at k w s =
       let h = wants-asks n r t x k w in
@@ -113,21 +113,21 @@ module _ (g : Given) (a : Start) (run : Runs g a) where
       AllAsked n t (feds rs) × ((xs : List Step) → HasEnded (fed n t xs (feds rs) .play) → Ended x rs)
 
   asked-by : (r : ReplyCall) (rs : List ReplyCall) → IsF64 (r .time)
-      → ((t : Play) (l : Left) (x : Called) → At g a run t l x → Spoken n t x → AllWanted n x rs → Asked t x rs)
-      → (t : Play) (l : Left) (x : Called) → At g a run t l x → Spoken n t x → (b : Bool) → isEnd (x .reply) ≡ b
+      → ((t : Play) (l : RunState) (x : Called) → At g a run t l x → Spoken n t x → AllWanted n x rs → Asked t x rs)
+      → (t : Play) (l : RunState) (x : Called) → At g a run t l x → Spoken n t x → (b : Bool) → isEnd (x .reply) ≡ b
       → Unless b ((wants n (x .reply .number) r ≡ true) × (isSized n r ≡ true) × AllWanted n (replied x r) rs)
       → Asked t x (r ∷ rs)
   unfolding callsBy hasEnd
   asked-by r rs f ih t l x at k true e w = (asked-ended n t (feds (r ∷ rs)) (end-node n t x k e), λ xs h. rw e)
   asked-by r rs f ih t l x at k false e w =
       let o = wanted t l x r f at k (w .0) (w .1) in
-      let on = ih (step t (fedAs r)) (next g l (fedAs r)) (replied x r) (o .1 .at) (spoken t l x r (o .1)) (w .2) in
+      let on = ih (treeNext t (fedAs r)) (resumed g l (fedAs r)) (replied x r) (o .1 .at) (spoken t l x r (o .1)) (w .2) in
       (asked-one n t (fedAs r) (feds rs) (o .0) (on .0),
       λ xs h.
       let y = fed-one n t xs (fedAs r) (feds rs) (o .0) in
       rw (on .1 (y .0) (rw (y .1) at h)) (or-right (isEnd (x .reply))))
 
-  asked-all : (rs : List ReplyCall) → TimesF64 rs → (t : Play) (l : Left) (x : Called) → At g a run t l x
+  asked-all : (rs : List ReplyCall) → TimesF64 rs → (t : Play) (l : RunState) (x : Called) → At g a run t l x
       → Spoken n t x → AllWanted n x rs → Asked t x rs
   unfolding callsBy hasEnd
   asked-all [] f t l x at k w =
@@ -150,7 +150,7 @@ module _ (g : Given) (a : Start) (run : Runs g a) where
   stays-ended [] t h = h
   stays-ended (r ∷ rs) t h = rw (ended-unfit t r h) (stays-ended rs t h)
 
-  end-next : (t : Play) (l : Left) (x : Called) (r : ReplyCall) → Outcome g a run t l x r
+  end-next : (t : Play) (l : RunState) (x : Called) (r : ReplyCall) → Outcome g a run t l x r
       → isEnd (replied x r .reply) ≡ true → EndedAt (nextOf n t r)
   end-next t l x r (refused e q) i =
       differs (sym (none (isSized n r)) ∙ ap (λ (y : Called). isEnd (y .reply)) (sym q) ∙ i)
@@ -158,14 +158,14 @@ module _ (g : Given) (a : Start) (run : Runs g a) where
       none : (b : Bool) → isEnd (plainOf (cond b 14 3) 0 zeroF zeroF) ≡ false
       none true = refl
       none false = refl
-  end-next t l x r (taken e w) i = rw e (end-node n (step t (fedAs r)) (replied x r) (spoken t l x r w) i)
+  end-next t l x r (taken e w) i = rw e (end-node n (treeNext t (fedAs r)) (replied x r) (spoken t l x r w) i)
 
   over-one : (rs : List ReplyCall) (t : Play) (b c : Bool) → (b ≡ true → EndedAt t)
       → (c ≡ true → EndedAt (standsAt n t rs)) → b || c ≡ true → EndedAt (standsAt n t rs)
   over-one rs t true c e on h = stays-ended rs t (e refl)
   over-one rs t false c e on h = on h
 
-  over-all : (rs : List ReplyCall) → TimesF64 rs → (t : Play) (l : Left) (x : Called) → At g a run t l x
+  over-all : (rs : List ReplyCall) → TimesF64 rs → (t : Play) (l : RunState) (x : Called) → At g a run t l x
       → hasEnd (callsOf x rs) ≡ true → EndedAt (standsAt n t rs)
   unfolding callsBy hasEnd standsAt
   over-all [] f t l x at h = differs h

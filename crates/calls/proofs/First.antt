@@ -22,8 +22,8 @@ use Rattle.vectors.proofs.Laws.{length-ewset, ewset-written}
 use Rattle.common.specs.Layout.{ewt}
 use Rattle.history.specs.Columns.{copyOf}
 use Rattle.history.proofs.Laws.{length-copy}
-use Rattle.turns.specs.declared.Phase.the-variants as Phase
-use Rattle.turns.specs.declared.Session.{Session}
+use Rattle.questions.specs.declared.Phase.the-variants as Phase
+use Rattle.questions.specs.declared.Session.{Session}
 use Rattle.between_steps.specs.Start.{withDerivative}
 use Rattle.refusals.specs.declared.Refusal.{Refusal}
 use Rattle.refusals.specs.Refusal.{none}
@@ -33,7 +33,7 @@ use Rattle.refusals.proofs.FirstStep.{step-decides}
 use Rattle.refusals.proofs.Rows.{IsFirst, After, exactly, Each, numbered}
 use Rattle.common.specs.State.{Given, State}
 use Rattle.rules.specs.Rules.{start, beginning, firstWeights}
-use Rattle.follows.specs.Stands.{startedAt}
+use Rattle.refinement.specs.AtNode.{startedAt}
 use Rattle.invariants.specs.Host.{IsF64}
 use Rattle.answers.specs.declared.Reply.{Reply}
 use Rattle.answers.specs.Answers.{plainOf, refusedOf}

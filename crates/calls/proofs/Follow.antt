@@ -8,13 +8,13 @@ use mathlib.Core.Path.{_≡_, refl, sym, ap, _∙_}
 use Prim.Native.Nat.{ℕ}
 use native.Mathlib.Omega.{arith}
 use Rattle.loops.specs.Test.{differs}
-use Rattle.turns.specs.declared.Session.{Session}
-use Rattle.turns.specs.Turns.{Left}
+use Rattle.questions.specs.declared.Session.{Session}
+use Rattle.questions.specs.Turns.{RunState}
 use Rattle.refusals.specs.Start.{settingsOf}
 use Rattle.rules.specs.Play.{Play}
 use Rattle.common.specs.State.{Given}
 use Rattle.rules.specs.Rules.{Start}
-use Rattle.follows.specs.Stands.{startedAt}
+use Rattle.refinement.specs.AtNode.{startedAt}
 use Rattle.sqrt.specs.Rounded.{fits}
 use Rattle.answers.specs.Called.{Buffers, Called}
 use Rattle.raimsklo.specs.Calls.{Problem, startOf}
@@ -31,10 +31,10 @@ module _ (g : Given) (a : Start) (run : Runs g a) where
   abbrev n : ℕ
   n = g .s .n
 
-  abbrev Run : Play → Left → Called → Type 0
+  abbrev Run : Play → RunState → Called → Type 0
   Run t l x = At g a run t l x
 
-  answers-all : (rs : List ReplyCall) → TimesF64 rs → (t : Play) (l : Left) (x : Called) → Run t l x
+  answers-all : (rs : List ReplyCall) → TimesF64 rs → (t : Play) (l : RunState) (x : Called) → Run t l x
       → map saidBy (callsOf x rs) ≡ toldBy n t rs
   unfolding callsBy toldBy
   answers-all [] f t l x at = refl
@@ -44,7 +44,7 @@ module _ (g : Given) (a : Start) (run : Runs g a) where
 
   -- ---- without the refused ones
 
-  taken-one : (r : ReplyCall) (rs : List ReplyCall) (t : Play) (l : Left) (x : Called) → Outcome g a run t l x r
+  taken-one : (r : ReplyCall) (rs : List ReplyCall) (t : Play) (l : RunState) (x : Called) → Outcome g a run t l x r
       → heardOf (replied x r) rs ≡ fedTo n (nextOf n t r) (takenReplies (replied x r) rs)
       → heardOf x (r ∷ rs) ≡ fedTo n t (takenReplies x (r ∷ rs))
   unfolding heardOf fedTo takenReplies
@@ -52,7 +52,7 @@ module _ (g : Given) (a : Start) (run : Runs g a) where
   taken-one r rs t l x (taken e w) on =
       rw (is-refusal g a run t l x r (taken e w), e, w .said, rw e at on)
 
-  taken-all : (rs : List ReplyCall) → TimesF64 rs → (t : Play) (l : Left) (x : Called) → Run t l x
+  taken-all : (rs : List ReplyCall) → TimesF64 rs → (t : Play) (l : RunState) (x : Called) → Run t l x
       → heardOf x rs ≡ fedTo n t (takenReplies x rs)
   unfolding heardOf fedTo takenReplies
   taken-all [] f t l x at = refl
@@ -63,8 +63,8 @@ module _ (g : Given) (a : Start) (run : Runs g a) where
 
   -- ---- where a run stands after a list
 
-  pub stays-all : (rs : List ReplyCall) → TimesF64 rs → (t : Play) (l : Left) (x : Called) → Run t l x
-      → (m : Left) × Run (standsAt n t rs) m (lastOf x rs)
+  pub stays-all : (rs : List ReplyCall) → TimesF64 rs → (t : Play) (l : RunState) (x : Called) → Run t l x
+      → (m : RunState) × Run (standsAt n t rs) m (lastOf x rs)
   unfolding standsAt lastBy
   stays-all [] f t l x at = (l, at)
   stays-all (r ∷ rs) f t l x at =
@@ -78,7 +78,7 @@ module _ (g : Given) (a : Start) (run : Runs g a) where
   three-or-14 false = inl refl
 
   -- one that does not fit is refused: by 14 where the question's length is right
-  pub refused-one : (t : Play) (l : Left) (x : Called) (r : ReplyCall) → Outcome g a run t l x r
+  pub refused-one : (t : Play) (l : RunState) (x : Called) (r : ReplyCall) → Outcome g a run t l x r
       → isFitting g a run t r ≡ false → Refused x r × (isSized n r ≡ true → replied x r .reply .number ≡ 14)
   refused-one t l x r (refused e q) off =
       (record {
@@ -88,7 +88,7 @@ module _ (g : Given) (a : Start) (run : Runs g a) where
       λ s. rw (q, s))
   refused-one t l x r (taken e w) off = differs (sym off ∙ e)
 
-  refused-so : (t : Play) (l : Left) (x : Called) (r : ReplyCall) → Outcome g a run t l x r
+  refused-so : (t : Play) (l : RunState) (x : Called) (r : ReplyCall) → Outcome g a run t l x r
       → isRefusal (replied x r .reply) ≡ true → Refused x r
   refused-so t l x r o i =
       refused-one t l x r o (off (isFitting g a run t r) (sym (is-refusal g a run t l x r o) ∙ i)) .0
@@ -97,7 +97,7 @@ module _ (g : Given) (a : Start) (run : Runs g a) where
       off true e = differs e
       off false e = refl
 
-  no-13 : (t : Play) (l : Left) (x : Called) (r : ReplyCall) → Outcome g a run t l x r
+  no-13 : (t : Play) (l : RunState) (x : Called) (r : ReplyCall) → Outcome g a run t l x r
       → replied x r .reply .number ≡ 13 → ⊥
   no-13 t l x r o e = by (refused-so t l x r o (rw e) .number)
     where

@@ -15,16 +15,16 @@ use lib.ListN.{length, getD, set, length-set}
 use lib.Seq.{getD-set-same, getD-set-other, ext-getD}
 use borrow.Author.Tests.{eqb-true, eqb-false}
 use Rattle.loops.specs.For.{times}
-use Rattle.turns.specs.declared.Session.{Session}
-use Rattle.turns.specs.Turns.{Left}
+use Rattle.questions.specs.declared.Session.{Session}
+use Rattle.questions.specs.Turns.{RunState}
 use Rattle.words.specs.Words.{putWord, putCountAt, putCountsOf, slotOf, putFloatAt, putFloatsOf}
 use Rattle.fields.specs.Fields.{countsOf, floatsOf}
 use Rattle.session.specs.Session.{encodeOf, putTolerancesOf}
 use Rattle.session.proofs.Back.{length-encode, length-put-tolerances}
 use Rattle.refusals.specs.Start.{settingsOf}
 use Rattle.common.specs.State.{Given}
-use Rattle.follows.specs.Seen.{sessionOf}
-use Rattle.follows.specs.Stands.{startedAt}
+use Rattle.refinement.specs.Shown.{sessionOf}
+use Rattle.refinement.specs.AtNode.{startedAt}
 use Rattle.answers.specs.Called.{Buffers, Called}
 use Rattle.raimsklo.specs.Calls.{Problem}
 use Rattle.calls.specs.WellFormed.{WellFormed}
@@ -107,7 +107,7 @@ kept-fresh x rtol atol a b p q =
 
 module _ (p : Problem) (b c : Buffers) (v : WellFormed p b) (w : WellFormed p c) where
   -- what the start makes of its arguments, whatever is lent
-  abbrev left : Given → Left
+  abbrev left : Given → RunState
   left g = startedAt g (fromOf p)
 
   same-left : left (givenOf p b) ≡ left (givenOf p c)
@@ -126,9 +126,9 @@ module _ (p : Problem) (b c : Buffers) (v : WellFormed p b) (w : WellFormed p c)
       let is' = begun-is p c w in
       record {
         reply = ap (λ (x : Called). x .reply) is ∙ sym (ap (λ (x : Called). x .reply) is');
-        work = ap (λ (x : Called). x .lent .work) is ∙ ap (λ (l : Left). l .work) same-left
+        work = ap (λ (x : Called). x .lent .work) is ∙ ap (λ (l : RunState). l .work) same-left
             ∙ sym (ap (λ (x : Called). x .lent .work) is');
-        pivots = ap (λ (x : Called). x .lent .pivots) is ∙ ap (λ (l : Left). l .ipiv) same-left
+        pivots = ap (λ (x : Called). x .lent .pivots) is ∙ ap (λ (l : RunState). l .ipiv) same-left
             ∙ sym (ap (λ (x : Called). x .lent .pivots) is');
         session = ap (λ (x : Called). x .lent .session) is ∙ same-bytes
             ∙ sym (ap (λ (x : Called). x .lent .session) is');

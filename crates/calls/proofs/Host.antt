@@ -17,16 +17,16 @@ use Rattle.numbers.specs.Float.{zeroF}
 use Rattle.common.specs.declared.Common.{Common}
 use Rattle.common.specs.Layout.{y}
 use Rattle.between_steps.specs.declared.Answer.the-variants.{Continue}
-use Rattle.turns.specs.declared.Phase.{Phase}
-use Rattle.turns.specs.declared.Question.{Question}
-use Rattle.turns.specs.declared.Question.the-variants as Question
-use Rattle.turns.specs.Turns.{Left}
+use Rattle.questions.specs.declared.Phase.{Phase}
+use Rattle.questions.specs.declared.Question.{Question}
+use Rattle.questions.specs.declared.Question.the-variants as Question
+use Rattle.questions.specs.Turns.{RunState}
 use Rattle.rules.specs.Play.{Play}
 use Rattle.common.specs.State.{Given}
 use Rattle.rules.specs.Rules.{Start}
-use Rattle.follows.specs.Seen.{Shown, snapshotOf, shownAs, isTaken, next, step}
-use Rattle.follows.specs.Stands.{derivative, answer}
-use Rattle.follows.specs.Follows.{stateAt}
+use Rattle.refinement.specs.Shown.{Shown, snapshotShown, shownAs, isTaken, resumed, treeNext}
+use Rattle.refinement.specs.AtNode.{derivative, answer}
+use Rattle.refinement.specs.Follows.{stateAt}
 use Rattle.sqrt.specs.Rounded.{fits}
 use Rattle.answers.specs.declared.Reply.{Reply}
 use Rattle.answers.specs.Answers.{answerOf}
@@ -44,11 +44,11 @@ use Rattle.calls.proofs.Walk.{At, Outcome, refused, taken, call}
 
 -- ---- the acts
 
-abbrev pub acted : Given → Left → Act → Left
-acted g l (gives f) = next g l (derivative (f ∷ []) zeroF)
-acted g l continues = next g l (answer Continue (y (g .s .n) (l .work)) (l .turn .common .tn))
+abbrev pub acted : Given → RunState → Act → RunState
+acted g l (gives f) = resumed g l (derivative (f ∷ []) zeroF)
+acted g l continues = resumed g l (answer Continue (y (g .s .n) (l .work)) (l .turn .common .tn))
 
-unfoldable pub hosted : Given → Left → List Act → Left
+unfoldable pub hosted : Given → RunState → List Act → RunState
 hosted g l [] = l
 hosted g l (a ∷ acts) = hosted g (acted g l a) acts
 
@@ -62,12 +62,12 @@ isReported (Question.StepRefused h) = false
 isReported (Question.WeightRefused i) = false
 isReported Question.Unasked = false
 
-abbrev pub isFine : Given → Left → Act → Bool
+abbrev pub isFine : Given → RunState → Act → Bool
 isFine g l (gives f) = isTaken g l (derivative (f ∷ []) zeroF)
 isFine g l continues =
     isReported (l .turn .question) && isTaken g l (answer Continue (y (g .s .n) (l .work)) (l .turn .common .tn))
 
-unfoldable pub allowed : Given → Left → List Act → Bool
+unfoldable pub allowed : Given → RunState → List Act → Bool
 allowed g l [] = true
 allowed g l (a ∷ acts) = isFine g l a && allowed g (acted g l a) acts
 
@@ -86,7 +86,7 @@ module _ (n order : ℕ) (c : Common) (work q : List Float) (room : 19 * n ≤ l
   reads-state (Question.FirstReport a) phase h =
       put-first n 0 q (y n work) [] (length-part (17 * n) n work (omega arith))
   reads-state (Question.Report r) phase h =
-      let s = snapshotOf n (r .order) c work in
+      let s = snapshotShown n (r .order) c work in
       put-first n (length s) q (y n work) s (length-part (17 * n) n work (omega arith))
   reads-state (Question.Derivative a) phase h = differs h
   reads-state (Question.Jacobian a) phase h = differs h
@@ -109,7 +109,7 @@ reads-time Question.Unasked phase c h g = differs h
 -- ---- along the acts
 
 module _ (g : Given) (a : Start) (run : Runs g a) (one : g .s .n ≡ 1) where
-  pub record Host (l : Left) (x : Called) : Type 0 where
+  pub record Host (l : RunState) (x : Called) : Type 0 where
     pub node : Play
     pub at : At g a run node l x
     pub question : List Float
@@ -118,7 +118,7 @@ module _ (g : Given) (a : Start) (run : Runs g a) (one : g .s .n ≡ 1) where
     pub agrees : Agrees (l .turn .question) (l .turn .phase) (l .turn .common)
 
   -- what was said is what the machine shows
-  pub said-shown : (l : Left) (x : Called) (h : Host l x)
+  pub said-shown : (l : RunState) (x : Called) (h : Host l x)
       → saidBy x ≡ saidOf (g .s .n) (stateAt (h .node) .c .nq)
       (shownAs (g .s .n) (l .turn .question) (l .turn .phase) (l .turn .common) (l .work)) (h .question)
   said-shown l x h =
@@ -130,15 +130,15 @@ module _ (g : Given) (a : Start) (run : Runs g a) (one : g .s .n ≡ 1) where
       → isSized (g .s .n) (replyWith kind numbers time q) ≡ true
   sized kind numbers time q long = rw (one, long) refl
 
-  goes-by : (l : Left) (x : Called) (r : ReplyCall) (h : Host l x) → isSized (g .s .n) r ≡ true
+  goes-by : (l : RunState) (x : Called) (r : ReplyCall) (h : Host l x) → isSized (g .s .n) r ≡ true
       → isKind (r .kind) ≡ true → isTaken g l (fedAs r) ≡ true → Outcome g a run (h .node) l x r
-      → Host (next g l (fedAs r)) (replied x r)
+      → Host (resumed g l (fedAs r)) (replied x r)
   goes-by l x r h s k t (refused e q) =
       let i = fits g (h .node) l (h .at .stands) .holds .takes (fedAs r) in
       let asked = sym i ∙ t in
       differs (sym e ∙ rw (s, k, asked))
   goes-by l x r h s k t (taken e w) = record {
-    node = step (h .node) (fedAs r);
+    node = treeNext (h .node) (fedAs r);
     at = w .at;
     question = r .question;
     said = w .said;
@@ -146,11 +146,11 @@ module _ (g : Given) (a : Start) (run : Runs g a) (one : g .s .n ≡ 1) where
     agrees = w .agrees;
   }
 
-  goes : (l : Left) (x : Called) (r : ReplyCall) → IsF64 (r .time) → Host l x → isSized (g .s .n) r ≡ true
-      → isKind (r .kind) ≡ true → isTaken g l (fedAs r) ≡ true → Host (next g l (fedAs r)) (replied x r)
+  goes : (l : RunState) (x : Called) (r : ReplyCall) → IsF64 (r .time) → Host l x → isSized (g .s .n) r ≡ true
+      → isKind (r .kind) ≡ true → isTaken g l (fedAs r) ≡ true → Host (resumed g l (fedAs r)) (replied x r)
   goes l x r f h s k t = goes-by l x r h s k t (call g a run (h .node) l x r f (h .at))
 
-  acts : (l : Left) (x : Called) (v : Act) (q : List Float) → length q ≡ 20 → Host l x → isFine g l v ≡ true
+  acts : (l : RunState) (x : Called) (v : Act) (q : List Float) → length q ≡ 20 → Host l x → isFine g l v ≡ true
       → Host (acted g l v) (actedBy x v q)
   unfolding kindOf
   acts l x (gives f) q long h e =
@@ -170,7 +170,7 @@ module _ (g : Given) (a : Start) (run : Runs g a) (one : g .s .n ≡ 1) where
       (goes l x (replyWith 3 state (c .tn) q) (fits-is-f64 _ (h .at .keeps .floats .tn)) h
       (sized 3 state (c .tn) q long) refl (w .1))
 
-  pub hosts : (q : ℕ → List Float) → ((i : ℕ) → length (q i) ≡ 20) → (vs : List Act) (i : ℕ) (l : Left) (x : Called)
+  pub hosts : (q : ℕ → List Float) → ((i : ℕ) → length (q i) ≡ 20) → (vs : List Act) (i : ℕ) (l : RunState) (x : Called)
       → Host l x → allowed g l vs ≡ true → Host (hosted g l vs) (hostedBy x i q vs)
   unfolding allowed hosted hostedBy
   hosts q long [] i l x h e = h

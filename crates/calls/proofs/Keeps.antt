@@ -16,11 +16,11 @@ use lib.Ieee.{Float}
 use lib.ListN.{length, getD}
 use Rattle.loops.specs.Part.{part}
 use Rattle.loops.specs.Test.{differs}
-use Rattle.turns.specs.declared.Phase.{Phase}
-use Rattle.turns.specs.declared.Phase.the-variants as Phase
+use Rattle.questions.specs.declared.Phase.{Phase}
+use Rattle.questions.specs.declared.Phase.the-variants as Phase
 use Rattle.between_steps.specs.Ranges.{Counts, Lent}
-use Rattle.turns.specs.Requires.{Resumes, UnlessFinished}
-use Rattle.turns.specs.Turns.{Left}
+use Rattle.questions.specs.Requires.{Resumes, UnlessFinished}
+use Rattle.questions.specs.Turns.{RunState}
 use Rattle.invariants.proofs.Lent.{resume-lent}
 use Rattle.fields.specs.Fields.{Fit, CountsFit, FloatsFit, Fits}
 use Rattle.session.specs.Session.{encodeOf, decodeOf, rtolSlots, atolSlots, storedN, finishedIn, OneOrN}
@@ -30,8 +30,8 @@ use Rattle.session.proofs.Passes.{passes, tolerances-kept}
 use Rattle.common.specs.State.{Given}
 use Rattle.rules.specs.Rules.{Start}
 use Rattle.rules.specs.Replies.{Reply as Fed}
-use Rattle.follows.specs.Seen.{sessionOf, withOf, next}
-use Rattle.follows.specs.InRun.{Accepts, InRun}
+use Rattle.refinement.specs.Shown.{sessionOf, withOf, resumed}
+use Rattle.refinement.specs.InRun.{Accepts, InRun}
 use Rattle.between_steps.proofs.Within.{coreOf}
 use Rattle.invariants.proofs.Ranges.{Closing}
 use Rattle.invariants.proofs.Fits.{floats-kept}
@@ -69,11 +69,11 @@ pub record Runs (g : Given) (a : Start) : Type 0 where
   pub natol : OneOrN (g .s .n) (g .s .natol)
 
 -- of a run that has not ended
-pub record Found (g : Given) (l : Left) (bytes : List ℕ) : Type 0 where
+pub record Found (g : Given) (l : RunState) (bytes : List ℕ) : Type 0 where
   pub passed : inRangeOf bytes (l .ipiv) ≡ true
   pub ialth : l .turn .common .ialth ≤ 13
 
-pub record Keeps (g : Given) (l : Left) (bytes : List ℕ) : Type 0 where
+pub record Keeps (g : Given) (l : RunState) (bytes : List ℕ) : Type 0 where
   pub long : length bytes ≡ 1448
   pub lent : Lent (g .s .n) (l .work) (l .ipiv)
   pub states : storedN bytes ≡ g .s .n
@@ -98,12 +98,12 @@ pivots-below p k h = p .below k (omega (arith, p .pivots))
 
 module _ (g : Given) (a : Start) (run : Runs g a) where
   -- a run's counts, whether it has ended or not
-  pub record Bounded (l : Left) : Type 0 where
+  pub record Bounded (l : RunState) : Type 0 where
     pub closing : Closing (g .s) (coreOf (l .turn .common))
     pub counts : Counts (l .turn .common) (2 ^ 62 - 1)
     pub low : Low 0 (l .turn .common)
 
-  pub counts-fit-of : (l : Left) → Bounded l → CountsFit (sessionOf g l)
+  pub counts-fit-of : (l : RunState) → Bounded l → CountsFit (sessionOf g l)
   counts-fit-of l h =
       let s = run .ok .settings in
       let c = l .turn .common in
@@ -139,7 +139,7 @@ module _ (g : Given) (a : Start) (run : Runs g a) where
         column = omega (arith, o .column, s .n);
       }
 
-  pub found-after : (l : Left) (bytes : List ℕ) → 1448 ≤ length bytes → Fits (sessionOf g l)
+  pub found-after : (l : RunState) (bytes : List ℕ) → 1448 ≤ length bytes → Fits (sessionOf g l)
       → tolerancesInRange bytes (g .s) ≡ true → Low 0 (l .turn .common)
       → Resumes (sessionOf g l) (g .rtol) (g .atol) (l .work) (l .ipiv)
       → Found g l (encodeOf (sessionOf g l) bytes)
@@ -153,10 +153,10 @@ module _ (g : Given) (a : Start) (run : Runs g a) where
 
   -- ---- after a reply
 
-  module _ (l : Left) (bytes : List ℕ) (k : Keeps g l bytes) (r : Fed) (time : Fit (r .time))
-      (bounded : Bounded (next g l r)) (inRun : InRun g (next g l r)) where
-    abbrev after : Left
-    after = next g l r
+  module _ (l : RunState) (bytes : List ℕ) (k : Keeps g l bytes) (r : Fed) (time : Fit (r .time))
+      (bounded : Bounded (resumed g l r)) (inRun : InRun g (resumed g l r)) where
+    abbrev after : RunState
+    after = resumed g l r
 
     abbrev written : List ℕ
     written = encodeOf (sessionOf g after) bytes

@@ -8,17 +8,17 @@ use Prim.Native.Nat.{ℕ}
 use lib.Ieee.{Float}
 use Rattle.loops.specs.Test.{differs}
 use Rattle.common.specs.declared.Common.{Common}
-use Rattle.turns.specs.declared.Phase.{Phase}
-use Rattle.turns.specs.declared.Phase.the-variants as Phase
-use Rattle.turns.specs.declared.Question.{Question}
-use Rattle.turns.specs.declared.Question.the-variants as Question
-use Rattle.turns.specs.Turns.{Left}
+use Rattle.questions.specs.declared.Phase.{Phase}
+use Rattle.questions.specs.declared.Phase.the-variants as Phase
+use Rattle.questions.specs.declared.Question.{Question}
+use Rattle.questions.specs.declared.Question.the-variants as Question
+use Rattle.questions.specs.Turns.{RunState}
 use Rattle.rules.specs.Play.{derivativeAt, jacobianAt}
 use Rattle.common.specs.State.{Given}
 use Rattle.rules.specs.Play.{finished, stepRefused, weightRefused, exhausted, Play, ret, ask, tell, say}
-use Rattle.follows.specs.Seen.{Shown, wantsDerivative, wantsJacobian, reports, ends, refusesStep, refusesWeight}
-use Rattle.follows.specs.Seen.{refuses, stuck, wantedAt, shownAs}
-use Rattle.follows.specs.Stands.{Stands}
+use Rattle.refinement.specs.Shown.{Shown, wantsDerivative, wantsJacobian, reports, ends, refusesStep, refusesWeight}
+use Rattle.refinement.specs.Shown.{refuses, stuck, wantedAt, shownAs}
+use Rattle.refinement.specs.AtNode.{AtNode}
 use Rattle.calls.specs.Follow.{isStep, TakesDerivative, PhaseAt}
 use Rattle.calls.specs.ReplyRefused.{derivative, awaits}
 use Rattle.calls.proofs.Agrees.{forDerivative, Agrees}
@@ -59,7 +59,7 @@ shown-in n phase c w (Question.StepRefused h) g = g
 shown-in n phase c w (Question.WeightRefused i) g = g
 shown-in n phase c w Question.Unasked g = absurd g
 
-module _ (g : Given) (l : Left) (a : Agrees (l .turn .question) (l .turn .phase) (l .turn .common)) where
+module _ (g : Given) (l : RunState) (a : Agrees (l .turn .question) (l .turn .phase) (l .turn .common)) where
   abbrev n : ℕ
   n = g .s .n
 
@@ -69,7 +69,7 @@ module _ (g : Given) (l : Left) (a : Agrees (l .turn .question) (l .turn .phase)
       subst (ShownIn n (l .turn .phase) (l .work)) e
       (shown-in n (l .turn .phase) (l .turn .common) (l .work) (l .turn .question) a)
 
-  pub phase-node : (t : Play) → Stands g t l → PhaseAt n t (l .turn .phase)
+  pub phase-node : (t : Play) → AtNode g t l → PhaseAt n t (l .turn .phase)
   phase-node (ret (finished status x)) s = shows _ (s .shows)
   phase-node (ret (stepRefused h x)) s = shows _ (s .shows)
   phase-node (ret (weightRefused i x)) s = shows _ (s .shows)

@@ -18,11 +18,11 @@ use Rattle.vectors.specs.declared.Weights.{Weights}
 use Rattle.vectors.specs.declared.Weights.the-variants.{Inverted, Refused}
 use Rattle.vectors.specs.Weights.{invertOf, weightsOutcome}
 use Rattle.vectors.proofs.Laws.{inverted as inverts, stopped}
-use Rattle.turns.specs.declared.Phase.the-variants as Phase
-use Rattle.turns.specs.declared.Session.{Session}
+use Rattle.questions.specs.declared.Phase.the-variants as Phase
+use Rattle.questions.specs.declared.Session.{Session}
 use Rattle.reports.specs.Reports.{sizedAt, sizedOf, weightedAt, firstDerivativeOf}
 use Rattle.between_steps.specs.Start.{inverted}
-use Rattle.machine.specs.Resume.{takenOf}
+use Rattle.machine.specs.Resume.{dealtOf}
 use Rattle.session.specs.Session.{decodeOf, rtolOf, atolOf}
 use Rattle.answers.specs.declared.Reply.{Reply}
 use Rattle.answers.specs.Answers.{plainOf, answerOf}
@@ -146,7 +146,7 @@ module _ (kind : ℕ) (numbers : List Float) (time : Float) (b : Buffers) where
 
   module _ (h : NoneHolds (replyRows kind numbers b)) (e : phaseIn b ≡ Phase.FirstDerivative) where
     reply-is : reply ≡ said (weightsOutcome (invertOf weights))
-    unfolding takenOf firstDerivativeOf
+    unfolding dealtOf firstDerivativeOf
     reply-is = answer-at kind numbers time b Phase.FirstDerivative (kindOf kind) h e refl
 
     pub says : Says

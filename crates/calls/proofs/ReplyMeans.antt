@@ -18,19 +18,19 @@ use Rattle.common.specs.Record.{with-tn}
 use Rattle.between_steps.specs.declared.Answer.the-variants.{Continue, Interrupt, Modified}
 use Rattle.between_steps.specs.declared.Kind.{Kind}
 use Rattle.between_steps.specs.declared.Kind.the-variants as Kind
-use Rattle.turns.specs.declared.Phase.{Phase}
-use Rattle.turns.specs.declared.Phase.the-variants as Phase
-use Rattle.turns.specs.declared.Question.{Question}
-use Rattle.turns.specs.declared.Question.the-variants as Question
-use Rattle.turns.specs.declared.Session.{Session}
+use Rattle.questions.specs.declared.Phase.{Phase}
+use Rattle.questions.specs.declared.Phase.the-variants as Phase
+use Rattle.questions.specs.declared.Question.{Question}
+use Rattle.questions.specs.declared.Question.the-variants as Question
+use Rattle.questions.specs.declared.Session.{Session}
 use Rattle.between_steps.specs.declared.Status.{Status}
 use Rattle.between_steps.specs.declared.Status.the-variants as Status
-use Rattle.turns.specs.declared.Turn.{Turn}
-use Rattle.turns.specs.Turns.{askedOf, askedInStepOf, finishedOf}
-use Rattle.turns.specs.Begin.{openPassOf, beganOf, goOnAt, goOnOf}
+use Rattle.questions.specs.declared.Turn.{Turn}
+use Rattle.questions.specs.Turns.{askedOf, askedInStepOf, finishedOf}
+use Rattle.questions.specs.Begin.{openPassOf, beganOf, goOnAt, goOnOf}
 use Rattle.between_steps.specs.Begin.{isGoing}
-use Rattle.reports.specs.Reports.{firstReportOf, afterReportOf}
-use Rattle.machine.specs.Resume.{takenOf, resumeOf}
+use Rattle.reports.specs.Reports.{afterFirstReportOf, afterReportOf}
+use Rattle.machine.specs.Resume.{dealtOf, resumeOf}
 use Rattle.session.specs.Session.{decodeOf, encodeOf}
 use Rattle.answers.specs.declared.Reply.{Reply}
 use Rattle.answers.specs.Answers.{plainOf, statusNumber, answerOf}
@@ -185,20 +185,20 @@ module _ (kind : ℕ) (numbers : List Float) (time : Float) (b : Buffers) where
 
   -- the answer, of a phase and a kind that are known
   pub answer-at : (p : Phase) (k : Kind) → NoneHolds rows → phaseIn b ≡ p → kindOf kind ≡ k
-      → reply .reply ≡ answerOf (takenOf x p k numbers time (withIn b) .turn .question)
+      → reply .reply ≡ answerOf (dealtOf x p k numbers time (withIn b) .turn .question)
   unfolding resumeOf
   answer-at p k h e f =
       went kind numbers time b h
       ∙ rw (is-now kind numbers time b h)
-      (ap (λ (q : Phase). answerOf (takenOf x q (kindOf kind) numbers time (withIn b) .turn .question))
+      (ap (λ (q : Phase). answerOf (dealtOf x q (kindOf kind) numbers time (withIn b) .turn .question))
       (stored-phase (b .session) ∙ e)
-      ∙ ap (λ (j : Kind). answerOf (takenOf x p j numbers time (withIn b) .turn .question)) f)
+      ∙ ap (λ (j : Kind). answerOf (dealtOf x p j numbers time (withIn b) .turn .question)) f)
 
   kind-is : (k : ℕ) → kind ≡ k → kindOf kind ≡ kindOf k
   kind-is k e = ap kindOf e
 
   interruption : NoneHolds rows → AtReport (phaseIn b) → kind ≡ 4 → reply .reply ≡ endedBy 111 (x .common)
-  unfolding takenOf firstReportOf afterReportOf finishedOf
+  unfolding dealtOf afterFirstReportOf afterReportOf finishedOf
   interruption h (inl e) f = answer-at Phase.FirstReport (Kind.Report Interrupt) h e (kind-is 4 f ∙ kinds .interrupts)
   interruption h (inr e) f = answer-at Phase.Report (Kind.Report Interrupt) h e (kind-is 4 f ∙ kinds .interrupts)
 
@@ -211,12 +211,12 @@ module _ (kind : ℕ) (numbers : List Float) (time : Float) (b : Buffers) where
 
   first-modified : NoneHolds rows → phaseIn b ≡ Phase.FirstReport → kind ≡ 5
       → reply .reply ≡ plainOf 100 0 zeroF time
-  unfolding takenOf firstReportOf askedOf
+  unfolding dealtOf afterFirstReportOf askedOf
   first-modified h e f = answer-at Phase.FirstReport (Kind.Report Modified) h e (kind-is 5 f ∙ kinds .modifies)
 
   modified : NoneHolds rows → phaseIn b ≡ Phase.Report → kind ≡ 5
       → reply .reply ≡ plainOf 100 0 zeroF (x .common .told ⊕ x .common .hu)
-  unfolding takenOf afterReportOf askedOf
+  unfolding dealtOf afterReportOf askedOf
   modified h e f = answer-at Phase.Report (Kind.Report Modified) h e (kind-is 5 f ∙ kinds .modifies)
 
   abbrev given : Common
@@ -225,7 +225,7 @@ module _ (kind : ℕ) (numbers : List Float) (time : Float) (b : Buffers) where
   -- continue goes on, from one work or another
   continued : NoneHolds rows → AtReport (phaseIn b) → kind ≡ 3
       → (work : List Float) × (reply .reply ≡ next (x .settings) given work)
-  unfolding takenOf firstReportOf afterReportOf
+  unfolding dealtOf afterFirstReportOf afterReportOf
   continued h (inl e) f =
       (_, answer-at Phase.FirstReport (Kind.Report Continue) h e (kind-is 3 f ∙ kinds .continues))
   continued h (inr e) f = (_, answer-at Phase.Report (Kind.Report Continue) h e (kind-is 3 f ∙ kinds .continues))

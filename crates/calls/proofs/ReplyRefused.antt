@@ -17,9 +17,9 @@ use borrow.Author.Tests.{eqb-true, eqb-false, lt-leb}
 use Rattle.loops.specs.Test.{differs, both, one-of}
 use Rattle.numbers.specs.Float.{zeroF}
 use Rattle.common.specs.declared.Settings.{Settings}
-use Rattle.turns.specs.declared.Phase.{Phase}
-use Rattle.turns.specs.declared.Phase.the-variants as Phase
-use Rattle.turns.specs.declared.Turn.{Turn}
+use Rattle.questions.specs.declared.Phase.{Phase}
+use Rattle.questions.specs.declared.Phase.the-variants as Phase
+use Rattle.questions.specs.declared.Turn.{Turn}
 use Rattle.machine.specs.Resume.{With, isAsked}
 use Rattle.between_steps.specs.Replies.{isDerivative, isJacobian, isAnswer}
 use Rattle.words.proofs.Rows.{counts-at}

@@ -18,16 +18,16 @@ use Rattle.common.specs.declared.Common.{Common}
 use Rattle.common.specs.Layout.{y}
 use Rattle.interpolation.specs.Snapshot.{snapshotOf}
 use Rattle.interpolation.proofs.Roundtrip.{header, size, snapshot-is}
-use Rattle.turns.specs.declared.Phase.{Phase}
-use Rattle.turns.specs.declared.Phase.the-variants as Phase
-use Rattle.turns.specs.declared.Question.{Question}
-use Rattle.turns.specs.declared.Question.the-variants as Question
-use Rattle.turns.specs.Turns.{Left}
+use Rattle.questions.specs.declared.Phase.{Phase}
+use Rattle.questions.specs.declared.Phase.the-variants as Phase
+use Rattle.questions.specs.declared.Question.{Question}
+use Rattle.questions.specs.declared.Question.the-variants as Question
+use Rattle.questions.specs.Turns.{RunState}
 use Rattle.rules.specs.Play.{Play}
 use Rattle.common.specs.State.{Given}
-use Rattle.follows.specs.Seen.{shownAs}
-use Rattle.follows.specs.Seen as Seen
-use Rattle.follows.specs.Stands.{Stands}
+use Rattle.refinement.specs.Shown.{shownAs}
+use Rattle.refinement.specs.Shown as Seen
+use Rattle.refinement.specs.AtNode.{AtNode}
 use Rattle.sqrt.specs.Rounded.{fits}
 use Rattle.answers.specs.Answers.{answerOf}
 use Rattle.replies.specs.Replies.{withY, questionOf}
@@ -44,7 +44,7 @@ put-none n q = take-append-drop n q
 module _ (s : Settings) (c : Common) (work q : List Float) (order : c .nq ≤ 12) (history : 19 * s .n ≤ length work)
     (room : length q ≡ 14 * s .n + 6) where
   abbrev shot : List Float
-  shot = Seen.snapshotOf (s .n) (c .nq) c work
+  shot = Seen.snapshotShown (s .n) (c .nq) c work
 
   length-shot : length shot ≡ 6 + size s c
   length-shot =
@@ -105,7 +105,7 @@ module _ (s : Settings) (c : Common) (work q : List Float) (history : 19 * s .n 
 -- ---- what the tree says
 
 module _ (g : Given) where
-  pub says-node : (t : Play) (l : Left) (q : List Float) → Stands g t l → Well 0 (l .turn)
+  pub says-node : (t : Play) (l : RunState) (q : List Float) → AtNode g t l → Well 0 (l .turn)
       → (isOver (l .turn .phase) ≡ false → l .turn .common .nq ≤ 12) → 19 * g .s .n ≤ length (l .work)
       → length q ≡ 14 * g .s .n + 6
       → says (answerOf (l .turn .question)) (questionOf (g .s) (l .turn .phase) (l .turn .common) (l .work) q)

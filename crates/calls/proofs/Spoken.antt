@@ -13,14 +13,14 @@ use lib.Ieee.{Float}
 use lib.ListN.{length}
 use borrow.Author.Tests.{eqb-true, eqb-false, leb-true, le-leb}
 use Rattle.loops.specs.Test.{differs, both}
-use Rattle.turns.specs.declared.Question.{Question}
+use Rattle.questions.specs.declared.Question.{Question}
 use Rattle.between_steps.specs.declared.Status.{Status}
-use Rattle.turns.specs.Turns.{Left}
+use Rattle.questions.specs.Turns.{RunState}
 use Rattle.rules.specs.Play.{derivativeAt, jacobianAt, Play, ret, ask, tell, say}
 use Rattle.common.specs.State.{Given}
 use Rattle.rules.specs.Play.{finished, stepRefused, weightRefused, exhausted}
-use Rattle.follows.specs.Seen.{asks}
-use Rattle.follows.specs.Stands.{Stands}
+use Rattle.refinement.specs.Shown.{asks}
+use Rattle.refinement.specs.AtNode.{AtNode}
 use Rattle.answers.specs.declared.Reply.{Reply}
 use Rattle.answers.specs.Answers.{statusNumber, answerOf}
 use Rattle.answers.specs.Called.{Called}
@@ -67,7 +67,7 @@ module _ (n : ℕ) where
   pub end-node : (t : Play) (x : Called) → Spoken n t x → isEnd (x .reply) ≡ true → EndedAt t
   end-node t x s h = end-at t (s .question) (ap isEnd (sym (reply-of n t x s)) ∙ h)
 
-  at-end : (g : Given) (t : Play) (l : Left) (q : List Float) → Stands g t l → EndedAt t
+  at-end : (g : Given) (t : Play) (l : RunState) (q : List Float) → AtNode g t l → EndedAt t
       → isEnd (saidAt n t q .reply) ≡ true
   at-end g (ret (finished status x)) l q s h = rw (le-leb 110 (statusNumber status) (status-number status .0))
   at-end g (ret (stepRefused v x)) l q s h = refl
@@ -77,7 +77,7 @@ module _ (n : ℕ) where
   at-end g (tell r x k) l q s h = absurd h
   at-end g (say e p) l q s h = at-end g p l q s h
 
-  pub node-end : (g : Given) (t : Play) (l : Left) (x : Called) → Stands g t l → Spoken n t x → EndedAt t
+  pub node-end : (g : Given) (t : Play) (l : RunState) (x : Called) → AtNode g t l → Spoken n t x → EndedAt t
       → isEnd (x .reply) ≡ true
   node-end g t l x s k h = ap isEnd (reply-of n t x k) ∙ at-end g t l (k .question) s h
 

@@ -17,8 +17,8 @@ use Rattle.loops.specs.Part.{putPart}
 use Rattle.numbers.specs.Float.{zeroF}
 use Rattle.vectors.specs.Tolerance.{List1OrN}
 use Rattle.history.proofs.Filled.{filled}
-use Rattle.turns.specs.declared.Session.{Session}
-use Rattle.turns.specs.Requires.{Resumes}
+use Rattle.questions.specs.declared.Session.{Session}
+use Rattle.questions.specs.Requires.{Resumes}
 use Rattle.reports.specs.Reports.{initialOf}
 use Rattle.refusals.specs.Start.{settingsOf}
 use Rattle.fields.specs.Fields.{countsOf, FloatsFit, Fits}
@@ -30,9 +30,9 @@ use Rattle.session.proofs.Back.{rtol-slot, atol-slot}
 use Rattle.session.proofs.Passes.{assembled, counts-fit, fields-in-range, pivots-in-range, tolerances-put}
 use Rattle.common.specs.State.{Given}
 use Rattle.rules.specs.Rules.{Start, beginning}
-use Rattle.follows.specs.Seen.{sessionOf, after}
-use Rattle.follows.specs.Stands.{startedAt}
-use Rattle.follows.proofs.Kept.{session-kept}
+use Rattle.refinement.specs.Shown.{sessionOf, reachedAfter}
+use Rattle.refinement.specs.AtNode.{startedAt}
+use Rattle.refinement.proofs.Kept.{session-kept}
 use Rattle.invariants.proofs.Fits.{start-fits}
 use Rattle.invariants.proofs.Host.{is-f64-fits}
 use Rattle.answers.specs.Answers.{plainOf}
@@ -138,7 +138,7 @@ module _ (p : Problem) (b : Buffers) (begins : Begins p b) where
   atol-fits i h = is-f64-fits _ (begins .floats .atol i h)
 
   resumes : Resumes x (p .rtol) (p .atol) (startedAt g a .work) (startedAt g a .ipiv)
-  unfolding after
+  unfolding reachedAfter
   resumes = session-kept g a (begun-run .ok) []
 
   fits : Fits x

@@ -33,13 +33,13 @@ use Rattle.corrector.specs.Verdict.{judgeOf, ratedOf, dconOf, estimatedOf, judg
 use Rattle.corrector.specs.Iterate.{openOf, adamsResidualOf, adamsUpdateOf, adamsOf, correctOf}
 use Rattle.attempt.specs.Attempt as Attempt
 use Rattle.acceptance.specs.Accept as Accept
-use Rattle.turns.specs.Turns.{askedInStepOf, finishedOf}
+use Rattle.questions.specs.Turns.{askedInStepOf, finishedOf}
 use Rattle.between_steps.specs.Begin as Begin
 use Rattle.between_steps.specs.Start as Start
-use Rattle.turns.specs.Begin as Turns
+use Rattle.questions.specs.Begin as Turns
 use Rattle.passes.specs.Pass as Pass
 use Rattle.reports.specs.Reports as Reports
-use Rattle.machine.specs.Resume.{takenOf, resumeOf}
+use Rattle.machine.specs.Resume.{dealtOf, resumeOf}
 use Rattle.refusals.specs.declared.Lengths.{Lengths}
 use Rattle.refusals.specs.Refusal.{alsoOf, inOrder, orElse}
 use Rattle.refusals.specs.Start as Refusals
@@ -48,11 +48,11 @@ use Rattle.fields.specs.Fields.{Fit}
 use Rattle.session.specs.Session.{ListFits}
 use Rattle.common.specs.State.{Given}
 use Rattle.rules.specs.Rules.{Start, beginning}
-use Rattle.turns.specs.Turns.{Left}
-use Rattle.follows.specs.Seen.{Shown, wantsDerivative, wantsJacobian, reports, ends, refusesStep, refusesWeight}
-use Rattle.follows.specs.Seen.{refuses, stuck, shownAs, shownBy}
-use Rattle.follows.specs.Stands.{startedAt}
-use Rattle.follows.specs.Follows.{stateAt}
+use Rattle.questions.specs.Turns.{RunState}
+use Rattle.refinement.specs.Shown.{Shown, wantsDerivative, wantsJacobian, reports, ends, refusesStep, refusesWeight}
+use Rattle.refinement.specs.Shown.{refuses, stuck, shownAs, shownBy}
+use Rattle.refinement.specs.AtNode.{startedAt}
+use Rattle.refinement.specs.Follows.{stateAt}
 use Rattle.invariants.proofs.Floats.{literal}
 use Rattle.invariants.proofs.Host.{fits-is-f64}
 use Rattle.answers.specs.declared.Reply.{Reply}
@@ -86,11 +86,11 @@ setOf r = record {
   atol = r .problem .atol ∷ [];
 }
 
-abbrev begunOf : SumRow → Left
+abbrev begunOf : SumRow → RunState
 begunOf r = startedAt (setOf r) (fromOf (problemOf (r .problem)))
 
 -- what the machine leaves after the row's acts
-abbrev leftOf : SumRow → Left
+abbrev leftOf : SumRow → RunState
 leftOf r = hosted (setOf r) (begunOf r) (r .acts)
 
 abbrev isEnded : Shown → Bool
@@ -199,7 +199,7 @@ module _ (r : SumRow) (accepted : Accepted (r .problem)) (floats : FloatsGiven (
       ∙ ended-said (g .s .n) order (last .question) (shownBy 1 (leftOf r)) (x .over) ∙ x .reply
 
   state-is : column 1 0 (finally .lent .work) ≡ r .result .y
-  state-is = ap (column 1 0) (last .at .work) ∙ ap (λ (m : Left). column 1 0 (m .work)) same-left ∙ x .y
+  state-is = ap (column 1 0) (last .at .work) ∙ ap (λ (m : RunState). column 1 0 (m .work)) same-left ∙ x .y
 
   result-is : resultOf b q r ≡ r .result
   unfolding resultOf
@@ -239,12 +239,12 @@ accepted = (refl, refl, refl, refl)
 
 computed : Ends row8 × Ends row9 × Ends row10 × Ends row11 × Ends row12
 unfolding allowed hosted shownAs settingsOf firstStepOf Refusals.smallestOf Refusals.largestOf Refusals.inverseOf
-    Refusals.inverseLargestOf beginning takenOf resumeOf askedInStepOf finishedOf
+    Refusals.inverseLargestOf beginning dealtOf resumeOf askedInStepOf finishedOf
     Begin.setupOf Begin.preparedAt Begin.preparedOf Begin.predictedAt Begin.firstPredictionOf Turns.openPassOf
-    Turns.beganOf Turns.goOnAt Turns.goOnOf Pass.attemptedAt Pass.reportedOf Pass.closedAt Pass.closeOf Pass.acceptedAt
-    Pass.acceptedOf Pass.convergedAt Pass.convergedOf Pass.unconvergedOf Pass.concludedAt Pass.iterateOf
-    Pass.iterationsOf Pass.openedAt Pass.openedOf Pass.furtherOf Reports.initialOf Start.firstSizeOf
-    Reports.sizedAt Reports.sizedOf Reports.weightedAt Reports.firstDerivativeOf Reports.firstReportOf
+    Turns.beganOf Turns.goOnAt Turns.goOnOf Pass.attemptedAt Pass.reportedOf Pass.closedAt Pass.endStepOf Pass.acceptedAt
+    Pass.acceptedOf Pass.errorTestAt Pass.errorTestOf Pass.passFailedOf Pass.concludedAt Pass.iterateOf
+    Pass.iterationsOf Pass.openedReplyAt Pass.openedReplyOf Pass.furtherReplyOf Reports.initialOf Start.firstSizeOf
+    Reports.sizedAt Reports.sizedOf Reports.weightedAt Reports.firstDerivativeOf Reports.afterFirstReportOf
     Reports.afterReportOf Attempt.retractedOf Attempt.repredictOf Attempt.errorOf Attempt.shrunkOf Attempt.missedAt
     Attempt.missedOf Attempt.overshotOf Attempt.failedOf Attempt.unconvergedOf Attempt.quarteredOf
     Attempt.noConvergenceAt Attempt.noConvergenceOf Accept.correctedOf Accept.keepFamilyOf Accept.testFamilyOf

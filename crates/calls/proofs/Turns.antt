@@ -39,28 +39,28 @@ use Rattle.between_steps.specs.declared.Answer.{Answer}
 use Rattle.between_steps.specs.declared.Answer.the-variants.{Continue, Interrupt, Modified}
 use Rattle.between_steps.specs.declared.Kind.{Kind}
 use Rattle.between_steps.specs.declared.Kind.the-variants as Kind
-use Rattle.turns.specs.declared.Phase.{Phase}
-use Rattle.turns.specs.declared.Phase.the-variants as Phase
-use Rattle.turns.specs.declared.Session.{Session}
+use Rattle.questions.specs.declared.Phase.{Phase}
+use Rattle.questions.specs.declared.Phase.the-variants as Phase
+use Rattle.questions.specs.declared.Session.{Session}
 use Rattle.between_steps.specs.declared.Status.the-variants as Status
-use Rattle.turns.specs.declared.Turn.{Turn}
-use Rattle.turns.specs.Turns.{askedOf, askedInStepOf, finishedOf}
+use Rattle.questions.specs.declared.Turn.{Turn}
+use Rattle.questions.specs.Turns.{askedOf, askedInStepOf, finishedOf}
 use Rattle.between_steps.specs.Start.{withDerivative}
-use Rattle.turns.specs.Begin.{openPassOf}
+use Rattle.questions.specs.Begin.{openPassOf}
 use Rattle.between_steps.specs.Begin.{isCut, cutOf, preparedAt, preparedOf, predictedAt, firstPredictionOf}
-use Rattle.turns.specs.Begin.{beganOf, goOnAt, goOnOf}
+use Rattle.questions.specs.Begin.{beganOf, goOnAt, goOnOf}
 use Rattle.between_steps.specs.Begin.{isGoing}
-use Rattle.passes.specs.Pass.{attemptedAt, attemptedOf, reportedOf, closedAt, closeOf, acceptedAt, acceptedOf}
-use Rattle.passes.specs.Pass.{convergedAt, convergedOf, unconvergedOf, concludedAt, iterateOf, iterationsOf}
+use Rattle.passes.specs.Pass.{attemptedAt, attemptedOf, reportedOf, closedAt, endStepOf, acceptedAt, acceptedOf}
+use Rattle.passes.specs.Pass.{errorTestAt, errorTestOf, passFailedOf, concludedAt, iterateOf, iterationsOf}
 use Rattle.between_steps.specs.Pass.{verdictOf}
-use Rattle.passes.specs.Pass.{factoredAt, factoredOf, askColumnOf, beginJacobianAt, beginJacobianOf}
+use Rattle.passes.specs.Pass.{matrixDoneAt, matrixDoneOf, askColumnOf, askJacobianAt, askJacobianOf}
 use Rattle.between_steps.specs.Pass.{isSupplied}
-use Rattle.passes.specs.Pass.{openedAt, openedOf, jacobianOf, columnAt, columnOf, furtherOf, restepOf}
-use Rattle.reports.specs.Reports.{sizedAt, sizedOf, weightedAt, firstDerivativeOf, firstReportOf}
+use Rattle.passes.specs.Pass.{openedReplyAt, openedReplyOf, jacobianReplyOf, columnReplyAt, columnReplyOf, furtherReplyOf, restepReplyOf}
+use Rattle.reports.specs.Reports.{sizedAt, sizedOf, weightedAt, firstDerivativeOf, afterFirstReportOf}
 use Rattle.between_steps.specs.Start.{firstStepOf}
 use Rattle.reports.specs.Reports.{firstModifiedOf, afterReportOf, modifiedOf}
 use Rattle.between_steps.specs.Start.{restartOf}
-use Rattle.machine.specs.Resume.{With, isAsked, unasked, takenOf, resumeOf}
+use Rattle.machine.specs.Resume.{With, isAsked, unasked, dealtOf, resumeOf}
 use Rattle.calls.specs.ReplyMeans.{HeldAtEnd, Meant}
 use Rattle.calls.proofs.Agrees.{Agrees}
 use Rattle.calls.proofs.Low.{Low, small, adjust-low, setup-low, predicted-low, no-convergence-low, failed-low}
@@ -119,8 +119,8 @@ module _ (B : ℕ) (s : Settings) (before : Phase) (kind : Kind) where
       why (inr t) = inr (eqb-true _ _ t)
   poor-at false c work e f = open-pass (s .n) _ _ f
 
-  unconverged : (c : Common) (work : List Float) → Low B c → Good (unconvergedOf s c work .turn)
-  unfolding unconvergedOf noConvergenceOf
+  unconverged : (c : Common) (work : List Float) → Low B c → Good (passFailedOf s c work .turn)
+  unfolding passFailedOf noConvergenceOf
   unconverged c work f =
       let d = Attempt.unconvergedOf c in
       poor-at (poorOf s d) d (retractedWork s c work) refl (no-convergence-low B s c work f)
@@ -151,8 +151,8 @@ module _ (B : ℕ) (s : Settings) (before : Phase) (kind : Kind) where
     closed n c (Refused i) work f = record { low = f; agrees = refl; means = refl }
     closed n c Inverted work f = record { low = f; agrees = (refl, refl, refl); means = (refl, refl) }
 
-    close : (order : ℕ) (c : Common) (work : List Float) → Low B c → Good (closeOf s c order rtol atol work .turn)
-    unfolding closeOf
+    close : (order : ℕ) (c : Common) (work : List Float) → Low B c → Good (endStepOf s c order rtol atol work .turn)
+    unfolding endStepOf
     close order c work f = let x = closedOf s c order rtol atol work in closed (s .n) c (x .weights) (x .work) f
 
     accepted-at : (order : ℕ) (branch : Branch) (c : Common) (work : List Float)
@@ -170,8 +170,8 @@ module _ (B : ℕ) (s : Settings) (before : Phase) (kind : Kind) where
     accepted-at order Branch.FamilyChanged c work g f = close order c work f
 
     converged-at : (dsm : Float) (above : Bool) (c : Common) (work : List Float) → Low B c
-        → Good (convergedAt s c dsm rtol atol above work .turn)
-    unfolding convergedAt acceptedOf
+        → Good (errorTestAt s c dsm rtol atol above work .turn)
+    unfolding errorTestAt acceptedOf
     converged-at dsm true c work f = failed c dsm work f
     converged-at dsm false c work f =
         let x = acceptOf s c dsm work in
@@ -181,7 +181,7 @@ module _ (B : ℕ) (s : Settings) (before : Phase) (kind : Kind) where
 
     concluded-at : (pass : Pass) (c : Common) (del : Float) (work : List Float) → Low B c
         → Good (concludedAt s pass c del rtol atol work .turn)
-    unfolding concludedAt convergedOf askedInStepOf
+    unfolding concludedAt errorTestOf askedInStepOf
     concluded-at Pass.Converged c del work f =
         let dsm = errorOf s c del work in
         converged-at dsm (Ieee.lt oneF dsm) c work f
@@ -203,14 +203,14 @@ module _ (B : ℕ) (s : Settings) (before : Phase) (kind : Kind) where
     iterations c ipiv work f = iterate (openOf c) ipiv _ f
 
     factored-at : (done : Bool) (c : Common) (ipiv : List ℕ) (work : List Float) → Low B c
-        → Good (factoredAt s rtol atol done c ipiv work .turn)
-    unfolding factoredAt
+        → Good (matrixDoneAt s rtol atol done c ipiv work .turn)
+    unfolding matrixDoneAt
     factored-at true c ipiv work f = iterations c ipiv work f
     factored-at false c ipiv work f = unconverged c work f
 
     factored : (c : Common) (ipiv : List ℕ) (work : List Float) → Low B c
-        → Good (factoredOf s c rtol atol ipiv work .turn)
-    unfolding factoredOf factorsOf
+        → Good (matrixDoneOf s c rtol atol ipiv work .turn)
+    unfolding matrixDoneOf factorsOf
     factored c ipiv work f =
         let x = factorsOf s c work ipiv in
         factored-at (x .done) (x .common) (x .ipiv) (x .work) f
@@ -220,20 +220,20 @@ module _ (B : ℕ) (s : Settings) (before : Phase) (kind : Kind) where
     ask-column c j work f = record { low = f; agrees = refl; means = (refl, refl) }
 
     begin-at : (supplied : Bool) (c : Common) (work : List Float) → isSupplied s c ≡ supplied → Low B c
-        → Good (beginJacobianAt s supplied (beginOf c) work .turn)
-    unfolding beginJacobianAt beginOf
+        → Good (askJacobianAt s supplied (beginOf c) work .turn)
+    unfolding askJacobianAt beginOf
     begin-at true c work e f = record { low = f; agrees = refl; means = (refl, refl, e) }
     begin-at false c work e f = ask-column _ 0 _ f
 
     opened-at : (due : Bool) (c : Common) (ipiv : List ℕ) (work : List Float) → Low B c
-        → Good (openedAt s due c rtol atol ipiv work .turn)
-    unfolding openedAt beginJacobianOf
+        → Good (openedReplyAt s due c rtol atol ipiv work .turn)
+    unfolding openedReplyAt askJacobianOf
     opened-at true c ipiv work f = begin-at (isSupplied s c) c work refl f
     opened-at false c ipiv work f = iterations c ipiv work f
 
     column-at : (another : Bool) (c : Common) (ipiv : List ℕ) (work : List Float) → Low B c
-        → Good (columnAt s another c rtol atol ipiv work .turn)
-    unfolding columnAt
+        → Good (columnReplyAt s another c rtol atol ipiv work .turn)
+    unfolding columnReplyAt
     column-at true c ipiv work f = ask-column c (c .column + 1) work f
     column-at false c ipiv work f = factored (with-column 0 c) ipiv work f
 
@@ -247,7 +247,7 @@ module _ (B : ℕ) (x : Session) (reply : List Float) (time : Float) (w : With) 
   c = x .common
 
   abbrev Taken : Phase → Kind → Type 0
-  Taken phase kind = Good B s phase kind (takenOf x phase kind reply time w .turn)
+  Taken phase kind = Good B s phase kind (dealtOf x phase kind reply time w .turn)
 
   abbrev Asked : Phase → Kind → Type 0
   Asked phase kind = isAsked phase kind (length reply) (s .n) ≡ true
@@ -270,19 +270,19 @@ module _ (B : ℕ) (x : Session) (reply : List Float) (time : Float) (w : With) 
       sized-at kind (refused h (s .direction)) h work refl
 
   first-report : (a : Answer) → Taken Phase.FirstReport (Kind.Report a)
-  unfolding takenOf firstReportOf askedOf finishedOf
+  unfolding dealtOf afterFirstReportOf askedOf finishedOf
   first-report Continue = go-on B s Phase.FirstReport (Kind.Report Continue) (with-tn time c) _ low
   first-report Interrupt = record { low = low; agrees = refl; means = (refl, refl, (inl refl, refl)) }
   first-report Modified = record { low = low; agrees = refl; means = (refl, refl) }
 
   after-report : (a : Answer) → Taken Phase.Report (Kind.Report a)
-  unfolding takenOf afterReportOf askedOf finishedOf
+  unfolding dealtOf afterReportOf askedOf finishedOf
   after-report Continue = go-on B s Phase.Report (Kind.Report Continue) (with-tn time c) _ low
   after-report Interrupt = record { low = low; agrees = refl; means = (refl, refl, (inr refl, refl)) }
   after-report Modified = record { low = low; agrees = refl; means = (refl, refl) }
 
   taken : (phase : Phase) (kind : Kind) → Asked phase kind → Taken phase kind
-  unfolding takenOf firstDerivativeOf firstModifiedOf openedOf jacobianOf columnOf furtherOf restepOf modifiedOf
+  unfolding dealtOf firstDerivativeOf firstModifiedOf openedReplyOf jacobianReplyOf columnReplyOf furtherReplyOf restepReplyOf modifiedOf
   taken Phase.FirstDerivative kind e = weighted-at kind _ _
   taken Phase.FirstReport (Kind.Report a) e = first-report a
   taken Phase.FirstReport Kind.Derivative e = differs e

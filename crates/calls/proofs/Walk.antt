@@ -17,9 +17,9 @@ use Rattle.loops.specs.Test.{both}
 use Rattle.loops.specs.Part.{part-put}
 use Rattle.numbers.specs.Float.{zeroF}
 use Rattle.between_steps.specs.declared.Kind.{Kind}
-use Rattle.turns.specs.declared.Phase.{Phase}
-use Rattle.turns.specs.declared.Phase.the-variants as Phase
-use Rattle.turns.specs.Turns.{Left}
+use Rattle.questions.specs.declared.Phase.{Phase}
+use Rattle.questions.specs.declared.Phase.the-variants as Phase
+use Rattle.questions.specs.Turns.{RunState}
 use Rattle.reports.specs.Reports.{initialOf}
 use Rattle.machine.specs.Resume.{isAsked}
 use Rattle.refusals.specs.Start.{settingsOf}
@@ -30,12 +30,12 @@ use Rattle.rules.specs.Play.{Play}
 use Rattle.common.specs.State.{Given}
 use Rattle.rules.specs.Rules.{Start, beginning, start}
 use Rattle.rules.specs.Replies.{Reply as Fed}
-use Rattle.follows.specs.Seen.{sessionOf, withOf, next, after, isTaken, asks, step}
-use Rattle.follows.specs.Stands.{Stands, startedAt}
-use Rattle.follows.specs.InRun.{InRun}
-use Rattle.follows.proofs.Follows.{replies, follows}
+use Rattle.refinement.specs.Shown.{sessionOf, withOf, resumed, reachedAfter, isTaken, asks, treeNext}
+use Rattle.refinement.specs.AtNode.{AtNode, startedAt}
+use Rattle.refinement.specs.InRun.{InRun}
+use Rattle.refinement.proofs.Follows.{replies, follows}
 use Rattle.sqrt.specs.Rounded.{fits}
-use Rattle.follows.proofs.Kept.{counts-after, closing-after, session-kept}
+use Rattle.refinement.proofs.Kept.{counts-after, closing-after, session-kept}
 use Rattle.answers.specs.Answers.{plainOf, answerOf}
 use Rattle.answers.specs.Called.{Buffers, Called}
 use Rattle.replies.specs.Replies.{isKind, kindOf, questionOf}
@@ -61,32 +61,32 @@ not-over phase kind len n h = by (over-or-not phase)
     by (inr e) = absurd (true≢false (sym (rw e at h)))
 
 module _ (g : Given) (a : Start) (run : Runs g a) where
-  abbrev l₀ : Left
+  abbrev l₀ : RunState
   l₀ = startedAt g a
 
-  abbrev Reached : Left → Type 0
-  Reached l = (rs : List Fed) × (l ≡ after g l₀ rs)
+  abbrev Reached : RunState → Type 0
+  Reached l = (rs : List Fed) × (l ≡ reachedAfter g l₀ rs)
 
-  after-one : (l : Left) (rs : List Fed) (r : Fed) → after g l (rs ++ (r ∷ [])) ≡ next g (after g l rs) r
-  unfolding after
+  after-one : (l : RunState) (rs : List Fed) (r : Fed) → reachedAfter g l (rs ++ (r ∷ [])) ≡ resumed g (reachedAfter g l rs) r
+  unfolding reachedAfter
   after-one l [] r = refl
-  after-one l (q ∷ rs) r = after-one (next g l q) rs r
+  after-one l (q ∷ rs) r = after-one (resumed g l q) rs r
 
-  reached-next : (l : Left) (r : Fed) → Reached l → Reached (next g l r)
-  reached-next l r h = (h .0 ++ (r ∷ []), ap (λ (m : Left). next g m r) (h .1) ∙ sym (after-one l₀ (h .0) r))
+  reached-next : (l : RunState) (r : Fed) → Reached l → Reached (resumed g l r)
+  reached-next l r h = (h .0 ++ (r ∷ []), ap (λ (m : RunState). resumed g m r) (h .1) ∙ sym (after-one l₀ (h .0) r))
 
-  in-run : (l : Left) → Reached l → InRun g l
+  in-run : (l : RunState) → Reached l → InRun g l
   in-run l h = rw (h .1) (session-kept g a (run .ok) (h .0))
 
-  bounded : (l : Left) → Reached l → Low 0 (l .turn .common) → Bounded g a run l
+  bounded : (l : RunState) → Reached l → Low 0 (l .turn .common) → Bounded g a run l
   bounded l h low = rw (h .1) (record {
     closing = closing-after g a (run .ok) (h .0);
     counts = counts-after g a (run .ok) (h .0);
     low = rw (h .1) at low;
   })
 
-  pub record At (t : Play) (l : Left) (x : Called) : Type 0 where
-    pub stands : Stands g t l
+  pub record At (t : Play) (l : RunState) (x : Called) : Type 0 where
+    pub stands : AtNode g t l
     pub reached : Reached l
     pub work : x .lent .work ≡ l .work
     pub pivots : x .lent .pivots ≡ l .ipiv
@@ -109,17 +109,17 @@ module _ (g : Given) (a : Start) (run : Runs g a) where
   refusedBy r = cond (isSized n r) 14 3
 
   -- a reply that is taken
-  pub record Went (t : Play) (l : Left) (x : Called) (r : ReplyCall) : Type 0 where
-    pub at : At (step t (fedAs r)) (next g l (fedAs r)) (replied x r)
-    pub answer : replied x r .reply ≡ answerOf (next g l (fedAs r) .turn .question)
-    pub agrees : let u = next g l (fedAs r) .turn in Agrees (u .question) (u .phase) (u .common)
-    pub said : saidBy (replied x r) ≡ saidAt n (step t (fedAs r)) (r .question)
+  pub record Went (t : Play) (l : RunState) (x : Called) (r : ReplyCall) : Type 0 where
+    pub at : At (treeNext t (fedAs r)) (resumed g l (fedAs r)) (replied x r)
+    pub answer : replied x r .reply ≡ answerOf (resumed g l (fedAs r) .turn .question)
+    pub agrees : let u = resumed g l (fedAs r) .turn in Agrees (u .question) (u .phase) (u .common)
+    pub said : saidBy (replied x r) ≡ saidAt n (treeNext t (fedAs r)) (r .question)
 
-  pub data Outcome (t : Play) (l : Left) (x : Called) (r : ReplyCall) : Type 0 where
+  pub data Outcome (t : Play) (l : RunState) (x : Called) (r : ReplyCall) : Type 0 where
     refused : isFitting t r ≡ false → replied x r ≡ leaves x r (refusedBy r) → Outcome t l x r
     taken : isFitting t r ≡ true → Went t l x r → Outcome t l x r
 
-  module _ (t : Play) (l : Left) (x : Called) (r : ReplyCall) (time : IsF64 (r .time)) (at : At t l x) where
+  module _ (t : Play) (l : RunState) (x : Called) (r : ReplyCall) (time : IsF64 (r .time)) (at : At t l x) where
     -- what is lent
     lent-is : lentFor x r ≡ lentOf l (x .lent .session) (r .question)
     lent-is = rw (at .work, at .pivots)
@@ -135,8 +135,8 @@ module _ (g : Given) (a : Start) (run : Runs g a) where
 
     module _ (sized : isSized (g .s .n) r ≡ true) (known : isKind (r .kind) ≡ true)
         (asked : asks (g .s .n) t (fedAs r) ≡ true) where
-      abbrev m : Left
-      m = next g l (fedAs r)
+      abbrev m : RunState
+      m = resumed g l (fedAs r)
 
       abbrev is-taken : isTaken g l (fedAs r) ≡ true
       is-taken = takes ∙ asked
@@ -149,7 +149,7 @@ module _ (g : Given) (a : Start) (run : Runs g a) where
           resume-well 0 (sessionOf g l) (r .numbers) (r .time) (withOf g l) (at .keeps .found running .ialth)
           (kindOf (r .kind)) is-taken
 
-      stands : Stands g (step t (fedAs r)) m
+      stands : AtNode g (treeNext t (fedAs r)) m
       stands = replies g t l (fedAs r) (at .stands) asked
 
       reached : Reached m
@@ -171,10 +171,10 @@ module _ (g : Given) (a : Start) (run : Runs g a) where
           answered-is
           ∙ reply-taken g a run l (x .lent .session) (at .keeps) r sized running (rw (known, is-taken)) well
 
-      says-it : saidBy (replied x r) ≡ saidAt (g .s .n) (step t (fedAs r)) (r .question)
+      says-it : saidBy (replied x r) ≡ saidAt (g .s .n) (treeNext t (fedAs r)) (r .question)
       says-it =
           ap (λ (y : Called). saidBy y) answered-taken
-          ∙ says-node g (step t (fedAs r)) m (r .question) stands well
+          ∙ says-node g (treeNext t (fedAs r)) m (r .question) stands well
           (λ e. unless (m .turn .phase) e (in-run m reached) .ranges .orders .nq .1)
           (omega (arith, keeps .lent .sized)) (eqb-true (length (r .question)) (14 * g .s .n + 6) sized)
 
@@ -187,7 +187,7 @@ module _ (g : Given) (a : Start) (run : Runs g a) where
               work = refl;
               pivots = refl;
               keeps = keeps;
-              phased = phase-node g m (well .agrees) (step t (fedAs r)) stands;
+              phased = phase-node g m (well .agrees) (treeNext t (fedAs r)) stands;
             });
         answer = ap (λ (y : Called). y .reply) answered-taken;
         agrees = well .agrees;
@@ -214,16 +214,16 @@ module _ (g : Given) (a : Start) (run : Runs g a) where
   refused-refusal true = refl
   refused-refusal false = refl
 
-  pub is-refusal : (t : Play) (l : Left) (x : Called) (r : ReplyCall) → Outcome t l x r
+  pub is-refusal : (t : Play) (l : RunState) (x : Called) (r : ReplyCall) → Outcome t l x r
       → isRefusal (replied x r .reply) ≡ not (isFitting t r)
   is-refusal t l x r (refused e q) = rw (q, e) (refused-refusal (isSized n r))
   is-refusal t l x r (taken e w) =
-      let u = next g l (fedAs r) .turn in
+      let u = resumed g l (fedAs r) .turn in
       rw e (ap isRefusal (w .answer) ∙ not-refusal (u .question) (u .phase) (u .common) (w .agrees))
 
   -- the run stands at the node that follows, which is the same where the reply is refused, and says what the tree says
   pub record Moves (t : Play) (x : Called) (r : ReplyCall) : Type 0 where
-    pub left : Left
+    pub left : RunState
     pub at : At (nextOf n t r) left (replied x r)
     pub said : saidBy (replied x r) ≡ saidTo n t r
 
@@ -234,7 +234,7 @@ module _ (g : Given) (a : Start) (run : Runs g a) where
   said-to true false z q = refl
   said-to false c z q = refl
 
-  moves-by : (t : Play) (l : Left) (x : Called) (r : ReplyCall) → At t l x → Outcome t l x r → Moves t x r
+  moves-by : (t : Play) (l : RunState) (x : Called) (r : ReplyCall) → At t l x → Outcome t l x r → Moves t x r
   moves-by t l x r at (refused e q) = record {
     left = l;
     at = rw (e, q) (record {
@@ -248,12 +248,12 @@ module _ (g : Given) (a : Start) (run : Runs g a) where
     said = rw (q, said-to (isSized n r) (isAwaited n t r) _ _, e);
   }
   moves-by t l x r at (taken e w) = record {
-    left = next g l (fedAs r);
+    left = resumed g l (fedAs r);
     at = rw e (w .at);
     said = rw (said-to (isSized n r) (isAwaited n t r) _ _, e) (w .said);
   }
 
-  pub moves : (t : Play) (l : Left) (x : Called) (r : ReplyCall) → IsF64 (r .time) → At t l x → Moves t x r
+  pub moves : (t : Play) (l : RunState) (x : Called) (r : ReplyCall) → IsF64 (r .time) → At t l x → Moves t x r
   moves t l x r f at = moves-by t l x r at (call t l x r f at)
 
 -- ---- the start
@@ -266,7 +266,7 @@ module _ (p : Problem) (b : Buffers) (begins : Begins p b) where
   a = fromOf p
 
   pub begun-at : At g a (begun-run p b begins) (treeOf p b) (startedAt g a) (startOf p b)
-  unfolding after
+  unfolding reachedAfter
   begun-at =
       rw (begun-is p b (begins .formed))
       (let stands = follows g a (begun-run p b begins .ok .settings) .stands in

@@ -14,8 +14,8 @@ use Rattle.loops.specs.Part.{putPart}
 use Rattle.numbers.specs.Float.{zeroF}
 use Rattle.common.specs.Limits.{maxStates}
 use Rattle.between_steps.specs.declared.Kind.the-variants as Kind
-use Rattle.turns.specs.declared.Phase.{Phase}
-use Rattle.turns.specs.declared.Phase.the-variants as Phase
+use Rattle.questions.specs.declared.Phase.{Phase}
+use Rattle.questions.specs.declared.Phase.the-variants as Phase
 use Rattle.machine.specs.Resume.{isAsked}
 use Rattle.refusals.specs.Start.{settingsOf, firstStepOf, smallestOf, inverseLargestOf}
 use Rattle.invariants.specs.Host.{IsF64}
@@ -24,9 +24,9 @@ use Rattle.rules.specs.Play.{derivativeAt, jacobianAt, Report, Play, ret, ask, 
 use Rattle.common.specs.State.{Given}
 use Rattle.rules.specs.Rules.{Start, start}
 use Rattle.rules.specs.Replies.{Reply as Fed}
-use Rattle.follows.specs.Seen.{Shown, wantsDerivative, wantsJacobian, reports, ends, refusesStep, refusesWeight}
-use Rattle.follows.specs.Seen.{refuses, stuck, wantedAt, shownAt, asks, step, stepIf, keepIf}
-use Rattle.follows.specs.Follows.{stateAt}
+use Rattle.refinement.specs.Shown.{Shown, wantsDerivative, wantsJacobian, reports, ends, refusesStep, refusesWeight}
+use Rattle.refinement.specs.Shown.{refuses, stuck, wantedAt, shownAt, asks, treeNext, stepIf, keepIf}
+use Rattle.refinement.specs.Follows.{stateAt}
 use Rattle.answers.specs.declared.Reply.{Reply}
 use Rattle.answers.specs.Answers.{plainOf, endOf}
 use Rattle.answers.specs.Called.{Buffers, Called}
@@ -115,7 +115,7 @@ isSized n r = eqb (length (r .question)) (14 * n + 6)
 abbrev pub saidTo : ℕ → Play → ReplyCall → Said
 saidTo n t r =
     cond (isSized n r)
-    (cond (isAwaited n t r) (saidAt n (step t (fedAs r)) (r .question)) (says (plainOf 14 0 zeroF zeroF) (r .question)))
+    (cond (isAwaited n t r) (saidAt n (treeNext t (fedAs r)) (r .question)) (says (plainOf 14 0 zeroF zeroF) (r .question)))
     (says (plainOf 3 0 zeroF zeroF) (r .question))
 
 -- where the tree stands then; a refused reply is passed over
@@ -130,7 +130,7 @@ toldBy n t (r ∷ rs) = saidTo n t r ∷ toldBy n (nextOf n t r) rs
 -- the tree fed a list
 unfoldable pub fedTo : ℕ → Play → List ReplyCall → List Said
 fedTo n t [] = []
-fedTo n t (r ∷ rs) = saidAt n (step t (fedAs r)) (r .question) ∷ fedTo n (step t (fedAs r)) rs
+fedTo n t (r ∷ rs) = saidAt n (treeNext t (fedAs r)) (r .question) ∷ fedTo n (treeNext t (fedAs r)) rs
 
 -- where the tree stands after any list, refused ones included
 unfoldable pub standsAt : ℕ → Play → List ReplyCall → Play

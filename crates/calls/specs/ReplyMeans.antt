@@ -19,18 +19,18 @@ use Rattle.common.specs.Record.{with-tn}
 use Rattle.common.specs.Rules.{tinyOf}
 use Rattle.acceptance.specs.declared.Branch.the-variants.{CoefficientGap}
 use Rattle.acceptance.specs.Accept.{acceptOf}
-use Rattle.turns.specs.declared.At.{At}
+use Rattle.questions.specs.declared.At.{At}
 use Rattle.between_steps.specs.declared.Answer.the-variants as Answer
-use Rattle.turns.specs.declared.End.{End}
+use Rattle.questions.specs.declared.End.{End}
 use Rattle.between_steps.specs.declared.Kind.{Kind}
 use Rattle.between_steps.specs.declared.Kind.the-variants as Kind
-use Rattle.turns.specs.declared.Phase.{Phase}
-use Rattle.turns.specs.declared.Phase.the-variants as Phase
-use Rattle.turns.specs.declared.Question.{Question}
-use Rattle.turns.specs.declared.Question.the-variants as Question
+use Rattle.questions.specs.declared.Phase.{Phase}
+use Rattle.questions.specs.declared.Phase.the-variants as Phase
+use Rattle.questions.specs.declared.Question.{Question}
+use Rattle.questions.specs.declared.Question.the-variants as Question
 use Rattle.between_steps.specs.declared.Status.{Status}
 use Rattle.between_steps.specs.declared.Status.the-variants as Status
-use Rattle.turns.specs.declared.Step.{Step}
+use Rattle.questions.specs.declared.Step.{Step}
 use Rattle.between_steps.specs.Begin.{isGoing}
 use Rattle.passes.specs.Pass.{acceptedOf}
 use Rattle.between_steps.specs.Pass.{isSupplied}

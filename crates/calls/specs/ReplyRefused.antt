@@ -12,8 +12,8 @@ use lib.Ieee.{Float}
 use Rattle.numbers.specs.Float.{zeroF}
 use Rattle.common.specs.Layout.{workLength}
 use Rattle.common.specs.Limits.{maxStates}
-use Rattle.turns.specs.declared.Phase.{Phase}
-use Rattle.turns.specs.declared.Phase.the-variants as Phase
+use Rattle.questions.specs.declared.Phase.{Phase}
+use Rattle.questions.specs.declared.Phase.the-variants as Phase
 use Rattle.fields.specs.States.{phaseOf}
 use Rattle.session.specs.Names as Word
 use Rattle.session.specs.InRange.{InRange}
