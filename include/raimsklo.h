@@ -21,7 +21,7 @@
  * What the host lends, and does not touch between the calls of one run but for `question`:
  *     work      raimsklo_work_length(n) = n*n + 19*n doubles
  *     pivots    n size_t
- *     session   raimsklo_session_length() = 1448 bytes (docs/SESSION.md)
+ *     session   raimsklo_session_length() = RAIMSKLO_SESSION_LENGTH bytes (docs/SESSION.md)
  *     question  raimsklo_question_length(n) = 14*n + 6 doubles: y stands first; after a report the snapshot stands from n on,
  *               6 + (order+1)*n numbers for raimsklo_interpolate
  * They may hold anything before a start, and must not overlap each other or what a call is given.
@@ -43,14 +43,14 @@
  *
  *     double work[2*2 + 19*2], question[14*2 + 6], f[2], y0[2] = {1, 0}, rtol = 1e-6, atol = 1e-9;
  *     size_t pivots[2], kind;
- *     uint8_t session[1448];
+ *     uint8_t session[RAIMSKLO_SESSION_LENGTH];
  *     raimsklo_answer a = raimsklo_start(0, 10, y0, 2, &rtol, 1, &atol, 1, raimsklo_defaults(),
- *                                        work, 42, pivots, 2, session, 1448, question, 34);
+ *                                        work, 42, pivots, 2, session, sizeof session, question, 34);
  *     while (a.number >= 100 && a.number < 110) {
  *         f[0] = question[0], f[1] = question[1], kind = RAIMSKLO_CONTINUE;
  *         if (a.number == RAIMSKLO_WANTS_DERIVATIVE) f[0] = question[1], f[1] = -question[0], kind = RAIMSKLO_DERIVATIVE;
  *         if (a.number == RAIMSKLO_REPORT) printf("%g %g\n", a.time, question[0]);
- *         a = raimsklo_reply(kind, f, 2, a.time, work, 42, pivots, 2, session, 1448, question, 34);
+ *         a = raimsklo_reply(kind, f, 2, a.time, work, 42, pivots, 2, session, sizeof session, question, 34);
  *     }
  *     if (a.number != RAIMSKLO_SUCCESS) fprintf(stderr, "ended with %zu\n", a.number);
  */
@@ -59,6 +59,10 @@
 
 #include <stddef.h>
 #include <stdint.h>
+
+/* made by tools/record.py: the length of a session */
+#define RAIMSKLO_SESSION_LENGTH 1448
+/* end of the length of a session */
 
 #ifdef __cplusplus
 extern "C" {

@@ -9,7 +9,7 @@ enum { N = 2 };
 int main(void) {
     double work[N * N + 19 * N], question[14 * N + 6], f[N], y0[N] = {1, 0}, rtol = 1e-6, atol = 1e-9;
     size_t pivots[N];
-    uint8_t session[1448];
+    uint8_t session[RAIMSKLO_SESSION_LENGTH];
     raimsklo_answer a = raimsklo_start(0, 10, y0, N, &rtol, 1, &atol, 1, raimsklo_defaults(), work, N * N + 19 * N, pivots, N,
                                        session, sizeof session, question, 14 * N + 6);
     while (a.number >= 100 && a.number < 110) {

@@ -1,8 +1,14 @@
 // What a call answers, as one struct of numbers: each case of the machine's question has its number and its values.
 ghost use mathlib.Core.Path.{_≡_};
 ghost use Rattle.numbers.specs.Float.{zeroF};
-ghost use Rattle.answers.specs.Answers.{plainOf, statusNumber, firstReportOf, reportOf, endOf, answerOf};
-ghost use Rattle.answers.specs.Answers.{refusedOf};
+ghost use Rattle.answers.specs.Answers.{plainReply, statusNumber, firstReportReply, reportReply, endReply};
+ghost use Rattle.answers.specs.Answers.{questionReply, refusalReply};
+ghost use Rattle.answers.specs.Answers.{plainReply};
+ghost use Rattle.answers.specs.Answers.{firstReportReply};
+ghost use Rattle.answers.specs.Answers.{reportReply};
+ghost use Rattle.answers.specs.Answers.{endReply};
+ghost use Rattle.answers.specs.Answers.{questionReply};
+ghost use Rattle.answers.specs.Answers.{refusalReply};
 
 use refusals::Refusal;
 use questions::End;
@@ -31,7 +37,7 @@ pub struct Reply {
 
 // A number with an index, a value or a time.
 fn plain(number: usize, index: usize, value: f64, time: f64) -> Reply
-    ensures { λ r. ⌜ r ≡ plainOf number index value time ⌝ }
+    ensures { λ r. ⌜ r ≡ plainReply number index value time ⌝ }
 {
     Reply {
         number: number,
@@ -66,7 +72,7 @@ fn status(s: Status) -> usize
 
 // The first report has no snapshot, and its previous time is its time.
 fn first_report(time: f64) -> Reply
-    ensures { λ r. ⌜ r ≡ firstReportOf time ⌝ }
+    ensures { λ r. ⌜ r ≡ firstReportReply time ⌝ }
 {
     let mut r = plain(102, 0, 0.0, time);
     r.previous = time;
@@ -74,7 +80,7 @@ fn first_report(time: f64) -> Reply
 }
 
 fn report(step: Step) -> Reply
-    ensures { λ r. ⌜ r ≡ reportOf step ⌝ }
+    ensures { λ r. ⌜ r ≡ reportReply step ⌝ }
 {
     let mut r = plain(103, 0, 0.0, step.time);
     r.previous = step.previous;
@@ -84,7 +90,7 @@ fn report(step: Step) -> Reply
 }
 
 fn end(e: End) -> Reply
-    ensures { λ r. ⌜ r ≡ endOf e ⌝ }
+    ensures { λ r. ⌜ r ≡ endReply e ⌝ }
 {
     let s = e.status;
     Reply {
@@ -106,7 +112,7 @@ fn end(e: End) -> Reply
 }
 
 pub fn answer(q: Question) -> Reply
-    ensures { λ r. ⌜ r ≡ answerOf q ⌝ }
+    ensures { λ r. ⌜ r ≡ questionReply q ⌝ }
 {
     match q {
         Question::Derivative(at) => plain(100, 0, 0.0, at.time),
@@ -122,13 +128,13 @@ pub fn answer(q: Question) -> Reply
 
 // No states: success, h 0, all counts 0.
 pub fn nothing() -> Reply
-    ensures { λ r. ⌜ r ≡ plainOf 110 0 zeroF zeroF ⌝ }
+    ensures { λ r. ⌜ r ≡ plainReply 110 0 zeroF zeroF ⌝ }
 {
     plain(110, 0, 0.0, 0.0)
 }
 
 pub fn refused(r: Refusal) -> Reply
-    ensures { λ a. ⌜ a ≡ refusedOf r ⌝ }
+    ensures { λ a. ⌜ a ≡ refusalReply r ⌝ }
 {
     plain(r.number, r.index, r.value, 0.0)
 }

@@ -18,16 +18,16 @@ use Rattle.numbers.specs.Float.{d0·25}
 use Rattle.numbers.specs.Order.{maxOf}
 use Rattle.common.specs.declared.Settings.{Settings}
 use Rattle.common.specs.declared.Common.{Common}
-use Rattle.common.specs.Record.{isBdf, with-due, with-rejected, with-ialth}
+use Rattle.common.specs.Record.{isBdf, with-tn, with-h, with-rc, with-el0, with-conit, with-rmax, with-nq, with-nqnyh}
+use Rattle.common.specs.Record.{with-ialth, with-rejected, with-kflag, with-ncf, with-due}
 use Rattle.common.specs.Limits.{mxncfOf}
 use Rattle.common.specs.Rules.{resetOf, tinyOf}
 use Rattle.history.specs.Columns.{slopeOf}
-use Rattle.history.specs.Steps.{StepInRange, adjustOf, predictedOf, staleOf}
+use Rattle.history.specs.Steps.{StepInRange, adjustOf, predictedOf, staleOf, leastOf}
 use Rattle.history.proofs.Laws.{same-range, in-range-predicted, length-predict, length-retract, length-rescale}
 use Rattle.history.proofs.Laws.{length-copy, length-slope}
 use Rattle.attempt.specs.declared.Next.the-variants.{Pass, Restep, TooSmall, Poor}
 use Rattle.common.specs.State.{Moved}
-use Rattle.history.specs.Steps.{leastOf}
 use Rattle.attempt.specs.Attempt.{Attempt, retractedOf, retractedWork, predictOf, repredictOf, unconvergedOf}
 use Rattle.attempt.specs.Attempt.{poorOf, quarteredOf, noConvergenceAt, noConvergenceOf, shrunkOf, tenthOf}
 use Rattle.attempt.specs.Attempt.{missedAt, missedOf, overshotOf, failedOf, loweredOf, restepOf}
@@ -54,15 +54,20 @@ pub record Kept (c d : Common) : Type 0 where
 
 -- c, with the fields of d that a failed attempt may change
 abbrev attempted : Common → Common → Common
-attempted d c = record {
-      hmin = c .hmin; hmxi = c .hmxi;
-      tn = d .tn; h = d .h; hu = c .hu; told = c .told; rc = d .rc; el0 = d .el0; conit = d .conit; rmax = d .rmax;
-      pdest = c .pdest; pdlast = c .pdlast; pdnorm = c .pdnorm; convrate = c .convrate; pnorm = c .pnorm;
-      rate = c .rate; delp = c .delp; meth = c .meth; nq = d .nq; lmax = c .lmax; nqnyh = d .nqnyh; ialth = d .ialth;
-      icount = c .icount; table = c .table; nslp = c .nslp; nst = c .nst; nfe = c .nfe; nje = c .nje; nlu = c .nlu;
-      rejected = d .rejected; total = c .total; count = c .count; kflag = d .kflag; ncf = d .ncf; m = c .m;
-      column = c .column; due = d .due; jcur = c .jcur; setup = c .setup;
-}
+attempted d c =
+    with-tn (d .tn)
+    (with-h (d .h)
+    (with-rc (d .rc)
+    (with-el0 (d .el0)
+    (with-conit (d .conit)
+    (with-rmax (d .rmax)
+    (with-nq (d .nq)
+    (with-nqnyh (d .nqnyh)
+    (with-ialth (d .ialth)
+    (with-rejected (d .rejected)
+    (with-kflag (d .kflag)
+    (with-ncf (d .ncf)
+    (with-due (d .due) c))))))))))))
 
 kept : (c d : Common) → Kept c (attempted d c)
 kept c d =

@@ -12,6 +12,7 @@ use Rattle.common.specs.declared.Common.{Common}
 use Rattle.common.specs.Layout.{workLength}
 use Rattle.common.specs.Limits.{maxStates, mxncfOf}
 
+-- made by tools/record.py: the ranges of settings and counts
 -- settings as start accepts
 pub record Accepted (s : Settings) : Type 0 where
   pub n : (1 ≤ s .n) × (s .n ≤ maxStates)
@@ -32,6 +33,7 @@ pub record Counts (c : Common) (b : ℕ) : Type 0 where
   pub rejected : c .rejected ≤ b
   pub total : c .total ≤ b
   pub count : c .count ≤ b
+-- end of the ranges of settings and counts
 
 -- orders, columns and the counters of a step
 pub record Orders (s : Settings) (c : Common) : Type 0 where

@@ -16,9 +16,9 @@ use Rattle.questions.specs.declared.Question.{Question}
 use Rattle.questions.specs.declared.Question.the-variants as Question
 use Rattle.between_steps.specs.declared.Status.{Status}
 use Rattle.between_steps.specs.declared.Status.the-variants as Status
-use Rattle.fields.specs.States.{phaseNumber}
-use Rattle.answers.specs.Answers.{statusNumber, answerOf}
-use Rattle.replies.specs.Replies.{isUnasked}
+use Rattle.session.specs.States.{phaseNumber}
+use Rattle.answers.specs.Answers.{statusNumber, questionReply}
+use Rattle.raimsklo.specs.Replies.{isUnasked}
 use Rattle.calls.specs.Run.{isRefusal}
 use Rattle.calls.specs.ReplyRefused.{Awaited, derivative, jacobian, answer, nothing, awaits}
 
@@ -56,7 +56,7 @@ status-number Status.CoefficientGap = (lit≤ tt, lit≤ tt)
 pub status-not : (s : Status) (k : ℕ) → k < 110 → eqb (statusNumber s) k ≡ false
 status-not s k h = ne-eqb (statusNumber s) k (λ e. omega (arith, e, h, status-number s .0))
 
-pub not-refusal : (v : Question) (phase : Phase) (c : Common) → Agrees v phase c → isRefusal (answerOf v) ≡ false
+pub not-refusal : (v : Question) (phase : Phase) (c : Common) → Agrees v phase c → isRefusal (questionReply v) ≡ false
 not-refusal (Question.Derivative a) phase c h = refl
 not-refusal (Question.Jacobian a) phase c h = refl
 not-refusal (Question.FirstReport a) phase c h = refl

@@ -25,9 +25,9 @@ use Rattle.refusals.specs.Rows.{Row, NoneHolds, FirstIs}
 use Rattle.common.specs.State.{Given}
 use Rattle.rules.specs.Rules.{Start}
 use Rattle.refinement.specs.Shown.{sessionOf, resumed, isTaken}
-use Rattle.answers.specs.Answers.{plainOf, answerOf}
+use Rattle.answers.specs.Answers.{plainReply, questionReply}
 use Rattle.answers.specs.Called.{Buffers, Called}
-use Rattle.replies.specs.Replies.{isKind, kindOf, questionOf, settledOf, turned, written, goOf}
+use Rattle.raimsklo.specs.Replies.{isKind, kindOf, questionOf, turnWrittenOf, turned, written, acceptedReplyOf}
 use Rattle.raimsklo.specs.Calls.{replyOf}
 use Rattle.calls.specs.Run.{ReplyCall}
 use Rattle.calls.specs.Follow.{fedAs, isSized}
@@ -49,7 +49,7 @@ module _ (g : Given) (a : Start) (run : Runs g a) (l : RunState) (bytes : List �
   answer = replyOf (r .kind) (r .numbers) (r .time) lent
 
   abbrev leaves : ℕ → Called
-  leaves number = record { reply = plainOf number 0 zeroF zeroF; lent = lent }
+  leaves number = record { reply = plainReply number 0 zeroF zeroF; lent = lent }
 
   abbrev rows : List Row
   rows = replyRows (r .kind) (r .numbers) lent
@@ -114,21 +114,21 @@ module _ (g : Given) (a : Start) (run : Runs g a) (l : RunState) (bytes : List �
     turned-is : turned (kindOf (r .kind)) (r .numbers) (r .time) lent ≡ resumed g l (fedAs r)
     turned-is = rw (k .decoded, k .rtol, k .atol)
 
-    go-is : goOf (kindOf (r .kind)) (r .numbers) (r .time) lent ≡ written (g .s) (resumed g l (fedAs r)) lent
-    unfolding goOf
+    go-is : acceptedReplyOf (kindOf (r .kind)) (r .numbers) (r .time) lent ≡ written (g .s) (resumed g l (fedAs r)) lent
+    unfolding acceptedReplyOf
     go-is =
         ap (λ (x : RunState). written (decodeOf bytes .settings) x lent) turned-is
         ∙ rw (k .decoded)
 
     abbrev taken : RunState → Called
     taken m = record {
-      reply = answerOf (m .turn .question);
+      reply = questionReply (m .turn .question);
       lent = lentOf m (encodeOf (sessionOf g m) bytes)
           (questionOf (g .s) (m .turn .phase) (m .turn .common) (m .work) (r .question));
     }
 
     write : (m : RunState) → Well 0 (m .turn) → written (g .s) m lent ≡ taken m
-    unfolding settledOf
+    unfolding turnWrittenOf
     write m w = rw (asking (m .turn .question) (m .turn .phase) (m .turn .common) (w .agrees))
 
     pub reply-taken : isOver (l .turn .phase) ≡ false → Asks true → Well 0 (resumed g l (fedAs r) .turn)

@@ -19,9 +19,9 @@ use Rattle.questions.specs.declared.Question.the-variants as Question
 use Rattle.questions.specs.declared.Session.{Session}
 use Rattle.questions.specs.Turns.{RunState}
 use Rattle.session.specs.Session.{decodeOf}
-use Rattle.rules.specs.Play.{derivativeAt, jacobianAt, Ending, Play, ret, ask, tell, say}
+use Rattle.rules.specs.Play.{derivativeAt, jacobianAt, Ending, Play, ret, ask, tell, say, finished, stepRefused}
+use Rattle.rules.specs.Play.{weightRefused, exhausted}
 use Rattle.common.specs.State.{Given}
-use Rattle.rules.specs.Play.{finished, stepRefused, weightRefused, exhausted}
 use Rattle.rules.specs.Rules.{Start}
 use Rattle.rules.specs.Steps.{Step, Tally, requested, put-tally, noted, marked}
 use Rattle.rules.specs.Replies.{Reply as Fed}
@@ -32,9 +32,9 @@ use Rattle.refinement.specs.AtNode.{startedAt}
 use Rattle.refinement.specs.Follows.{stateAt}
 use Rattle.sqrt.specs.Rounded.{fits}
 use Rattle.answers.specs.declared.Reply.{Reply}
-use Rattle.answers.specs.Answers.{plainOf, answerOf}
+use Rattle.answers.specs.Answers.{plainReply, questionReply}
 use Rattle.answers.specs.Called.{Buffers, Called}
-use Rattle.replies.specs.Replies.{isKind}
+use Rattle.raimsklo.specs.Replies.{isKind}
 use Rattle.raimsklo.specs.Calls.{Problem, startOf}
 use Rattle.calls.specs.Run.{Begins, ReplyCall, TimesF64, lastBy, ours, replied, lastOf, isRefusal}
 use Rattle.calls.specs.Follow.{givenOf, fromOf, treeOf, isStep, saidAt, fedAs, isSized}
@@ -144,7 +144,7 @@ module _ (g : Given) where
       by false e = omega arith
   returned-at n (say e p) q h = returned-at n p q h
 
-first-count : (v : Question) → answerOf v .number ≡ 102 → answerOf v .count ≡ 0
+first-count : (v : Question) → questionReply v .number ≡ 102 → questionReply v .count ≡ 0
 first-count (Question.Derivative a) e = refl
 first-count (Question.Jacobian a) e = refl
 first-count (Question.FirstReport a) e = refl
@@ -162,7 +162,7 @@ module _ (g : Given) (a : Start) (run : Runs g a) where
 
   -- the last call is spoken at the node, or it was refused
   abbrev Last : Play → Called → Type 0
-  Last t x = Spoken n t x ⊎ ((q : Bool) × (x .reply ≡ plainOf (cond q 14 3) 0 zeroF zeroF))
+  Last t x = Spoken n t x ⊎ ((q : Bool) × (x .reply ≡ plainReply (cond q 14 3) 0 zeroF zeroF))
 
   record Stood (x : Called) (zs : List Step) : Type 0 where
     node : Play

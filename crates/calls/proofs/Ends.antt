@@ -11,7 +11,7 @@ use Rattle.loops.specs.Test.{differs, both}
 use Rattle.numbers.specs.Float.{zeroF}
 use Rattle.questions.specs.declared.Question.the-variants as Question
 use Rattle.questions.specs.Turns.{RunState}
-use Rattle.refusals.specs.Start.{settingsOf}
+use Rattle.refusals.specs.Start.{acceptedSettings}
 use Rattle.invariants.specs.Host.{IsF64}
 use Rattle.rules.specs.Play.{Play, ret, ask, tell, say}
 use Rattle.common.specs.State.{Given}
@@ -22,9 +22,9 @@ use Rattle.rules.specs.Demands.{HasEnded}
 use Rattle.rules.proofs.Demands.{demand-1}
 use Rattle.refinement.specs.Shown.{resumed, asks, treeNext}
 use Rattle.refinement.specs.AtNode.{startedAt}
-use Rattle.answers.specs.Answers.{plainOf}
+use Rattle.answers.specs.Answers.{plainReply}
 use Rattle.answers.specs.Called.{Buffers, Called}
-use Rattle.replies.specs.Replies.{isKind}
+use Rattle.raimsklo.specs.Replies.{isKind}
 use Rattle.raimsklo.specs.Calls.{Problem, startOf}
 use Rattle.calls.specs.Run.{Begins, ReplyCall, TimesF64, callsBy, replied, callsOf, lastOf}
 use Rattle.calls.specs.Follow.{givenOf, fromOf, treeOf, fedAs, isAwaited, isSized, nextOf, standsAt}
@@ -155,7 +155,7 @@ module _ (g : Given) (a : Start) (run : Runs g a) where
   end-next t l x r (refused e q) i =
       differs (sym (none (isSized n r)) ∙ ap (λ (y : Called). isEnd (y .reply)) (sym q) ∙ i)
     where
-      none : (b : Bool) → isEnd (plainOf (cond b 14 3) 0 zeroF zeroF) ≡ false
+      none : (b : Bool) → isEnd (plainReply (cond b 14 3) 0 zeroF zeroF) ≡ false
       none true = refl
       none false = refl
   end-next t l x r (taken e w) i = rw e (end-node n (treeNext t (fedAs r)) (replied x r) (spoken t l x r w) i)
@@ -191,7 +191,7 @@ length-map f [] = refl
 length-map f (x ∷ l) = ap suc (length-map f l)
 
 pub calls-end : (p : Problem) (b : Buffers) → Begins p b → CallsEnd p b
-unfolding settingsOf
+unfolding acceptedSettings
 calls-end p b begins =
     let g = givenOf p b in
     let a = fromOf p in

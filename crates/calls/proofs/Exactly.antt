@@ -14,9 +14,9 @@ use Rattle.refusals.specs.declared.Refusal.{Refusal}
 use Rattle.refusals.specs.Rows.{Row, ExactlyFirst}
 use Rattle.refusals.proofs.Rows.{Each}
 use Rattle.refusals.proofs.Table.{each-row, exactly-first}
-use Rattle.answers.specs.Answers.{refusedOf}
+use Rattle.answers.specs.Answers.{refusalReply}
 use Rattle.answers.specs.Called.{Buffers, Called}
-use Rattle.starts.specs.Starts.{beganOf}
+use Rattle.raimsklo.specs.Starts.{acceptedStartOf}
 use Rattle.raimsklo.specs.Calls.{Problem, lengthsOf, startAt, startOf}
 use Rattle.calls.specs.Start.{Returned, StartsExactly}
 use Rattle.calls.proofs.WellFormed.{refusalOf, refusalRows, some-start, start-number-is}
@@ -54,8 +54,8 @@ exactly-never A X x (r ∷ rows) None n g = (
 module _ (p : Problem) (b : Buffers) where
   module _ (some : 1 ≤ length (p .y0)) where
     at-some : (r : Refusal) (t : Bool) → eqb (refusalOf p b .number) 0 ≡ t → r .number ≤ 11
-        → startAt p b (refusalOf p b) ≡ record { reply = refusedOf r; lent = b } → refusalOf p b ≡ r
-    unfolding startAt beganOf
+        → startAt p b (refusalOf p b) ≡ record { reply = refusalReply r; lent = b } → refusalOf p b ≡ r
+    unfolding startAt acceptedStartOf
     at-some r true e small h =
         let q : 100 ≡ r .number = ap (λ (x : Called). x .reply .number) (rw e at h) in
         absurd (omega (arith, q, small))

@@ -24,10 +24,11 @@ use Rattle.vectors.specs.Norm.{vmnormOf}
 use Rattle.vectors.specs.Tolerance.{toleranceOf}
 use Rattle.vectors.specs.Weights.{ewsetOf, invertOf}
 use Rattle.common.specs.Rules.{firstCallInitOf, resetOf}
-use Rattle.history.specs.Columns.{predictColumnsOf, retractColumnsOf, rescaleColumnsOf, addScaledOf}
-use Rattle.history.specs.Columns.{correctColumnsOf, copyOf, slopeOf, fillOf, scalePartOf}
+use Rattle.history.specs.Columns.{predictColumnsOf, retractColumnsOf, rescaleColumnsOf, addScaledOf, correctColumnsOf}
+use Rattle.history.specs.Columns.{copyOf, slopeOf, fillOf, scalePartOf}
 use Rattle.history.specs.Steps.{limitedOf, adjustOf, staleOf, predictedOf}
-use Rattle.corrector.specs.Verdict.{judgeOf, ratedOf, dconOf, estimatedOf, judgedConverged, giveUpOf, judgedFurther, judgedTested}
+use Rattle.corrector.specs.Verdict.{judgeOf, ratedOf, dconOf, estimatedOf, judgedConverged, giveUpOf, judgedFurther}
+use Rattle.corrector.specs.Verdict.{judgedTested}
 use Rattle.corrector.specs.Iterate.{openOf, adamsResidualOf, adamsUpdateOf, adamsOf, correctOf}
 use Rattle.attempt.specs.Attempt as Attempt
 use Rattle.acceptance.specs.Size.{sizeOf}
@@ -40,7 +41,7 @@ use Rattle.between_steps.specs.Start as Start
 use Rattle.reports.specs.Reports as Reports
 use Rattle.refusals.specs.Refusal.{alsoOf, inOrder, orElse}
 use Rattle.refusals.specs.Start as Refusals
-use Rattle.refusals.specs.Start.{startRefusalOf, settingsOf, firstStepOf}
+use Rattle.refusals.specs.Start.{startRefusalOf, acceptedSettings, givenStepOf}
 use Rattle.session.specs.Session.{decodeOf}
 use Rattle.rules.specs.Play.{Play}
 use Rattle.rules.specs.Steps.{Step}
@@ -52,7 +53,7 @@ use Rattle.invariants.proofs.Floats.{literal}
 use Rattle.invariants.proofs.Host.{fits-is-f64}
 use Rattle.answers.specs.declared.Reply.{Reply}
 use Rattle.answers.specs.Called.{Buffers, Called}
-use Rattle.replies.specs.Replies.{kindOf}
+use Rattle.raimsklo.specs.Replies.{kindOf}
 use Rattle.raimsklo.specs.Calls.{Problem, startOf}
 use Rattle.calls.specs.Run.{Begins, ReplyCall, TimesF64, Solver, answeredBy, callsBy, lastBy, ours}
 use Rattle.calls.specs.Follow.{Said, saidBy, saidAt, fedAs, toldBy, standsAt, treeOf, TakesDerivative, PhaseAt}
@@ -107,8 +108,8 @@ twoSteps = record {
 }
 
 accepted-two : Accepted twoSteps
-unfolding startRefusalOf orElse alsoOf inOrder Refusals.sizesOf Refusals.listsOf Refusals.largeOf Refusals.limitsOf
-    Refusals.tolerancesOf Refusals.stepOf times refused signumOf negative sub lt eq ne ofBits
+unfolding startRefusalOf orElse alsoOf inOrder Refusals.sizeRefusal Refusals.lengthRefusal Refusals.largeRefusal Refusals.limitRefusal
+    Refusals.toleranceRefusal Refusals.stepRefusal times refused signumOf negative sub lt eq ne ofBits
 accepted-two = refl
 
 begins-8 : Begins (problemOf problem8) slices
@@ -171,7 +172,7 @@ record Computed : Type 0 where
   reports : (phase : Phase) → PhaseAt 1 (node (gives ∷ [])) phase → phase ≡ Phase.FirstReport
 
 computed : Computed
-unfolding toldBy standsAt kindOf settingsOf firstStepOf Refusals.smallestOf Refusals.largestOf Refusals.inverseOf
+unfolding toldBy standsAt kindOf acceptedSettings givenStepOf Refusals.smallestOf Refusals.largestOf Refusals.inverseOf
     Refusals.inverseLargestOf
     Rules.start Rules.beginning Rules.started Rules.weighted Rules.sized Rules.firstAnswered Rules.solveAt Rules.step
     Rules.attempts Rules.decide Rules.tested Rules.stepped Rules.afterAcceptance Rules.closed Rules.afterReport

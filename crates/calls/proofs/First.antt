@@ -27,18 +27,18 @@ use Rattle.questions.specs.declared.Session.{Session}
 use Rattle.between_steps.specs.Start.{withDerivative}
 use Rattle.refusals.specs.declared.Refusal.{Refusal}
 use Rattle.refusals.specs.Refusal.{none}
-use Rattle.refusals.specs.Start.{settingsOf}
+use Rattle.refusals.specs.Start.{acceptedSettings}
 use Rattle.refusals.specs.Rows.{Row, NoneHolds}
 use Rattle.refusals.proofs.FirstStep.{step-decides}
 use Rattle.refusals.proofs.Rows.{IsFirst, After, exactly, Each, numbered}
 use Rattle.common.specs.State.{Given, State}
-use Rattle.rules.specs.Rules.{start, beginning, firstWeights}
+use Rattle.rules.specs.Rules.{start, beginning, firstWeights, stepped}
 use Rattle.refinement.specs.AtNode.{startedAt}
 use Rattle.invariants.specs.Host.{IsF64}
 use Rattle.answers.specs.declared.Reply.{Reply}
-use Rattle.answers.specs.Answers.{plainOf, refusedOf}
+use Rattle.answers.specs.Answers.{plainReply, refusalReply}
 use Rattle.answers.specs.Called.{Buffers}
-use Rattle.replies.specs.Replies.{kindOf}
+use Rattle.raimsklo.specs.Replies.{kindOf}
 use Rattle.raimsklo.specs.Calls.{Problem, startOf}
 use Rattle.calls.specs.Run.{Begins, ReplyCall, lentFor, replied}
 use Rattle.calls.specs.Follow.{givenOf, fromOf, treeOf, isAwaited, isSized}
@@ -50,7 +50,6 @@ use Rattle.calls.proofs.Walk.{At, isFitting, call, is-refusal, begun-at
 use Rattle.calls.proofs.Exactly.{exactly-as}
 use Rattle.calls.proofs.ReplyRefused.{stored-phase, reply-refused}
 use Rattle.calls.proofs.ReplyFirst.{Says, weighty, says}
-use Rattle.rules.specs.Rules.{stepped}
 use Rattle.calls.specs.Fakes.{reported}
 
 -- ---- the rows of the weights
@@ -103,14 +102,14 @@ each-weight P p r e h (suc k) i = (h _ (lit≤ tt) (lit≤ tt), each-weight P p 
 -- ---- an answer that is the first row's, or the first report
 
 abbrev Answers : Refusal → Reply → Type 0
-Answers x a = ((1 ≤ x .number) × (x .number ≤ 12) × (a ≡ refusedOf x)) ⊎ ((x ≡ none) × (a .number ≡ 102))
+Answers x a = ((1 ≤ x .number) × (x .number ≤ 12) × (a ≡ refusalReply x)) ⊎ ((x ≡ none) × (a .number ≡ 102))
 
 abbrev refusalIn : Reply → Refusal
 refusalIn a = record { number = a .number; index = a .index; value = a .value }
 
 same-answer : (x : Refusal) (a : Reply) → Answers x a → (q : Refusal) → 1 ≤ q .number → q .number ≤ 12
-    → (x ≡ q) ↔ (a ≡ refusedOf q)
-same-answer x a (inl (low, small, e)) q l m = (λ z. e ∙ ap refusedOf z, λ z. ap refusalIn (sym e ∙ z))
+    → (x ≡ q) ↔ (a ≡ refusalReply q)
+same-answer x a (inl (low, small, e)) q l m = (λ z. e ∙ ap refusalReply z, λ z. ap refusalIn (sym e ∙ z))
 same-answer x a (inr (e, k)) q l m = (
       λ z. let o : q .number ≡ 0 = ap (λ (y : Refusal). y .number) (sym z ∙ e) in absurd (omega (arith, o, l)),
       λ z. let o : a .number ≡ q .number = ap (λ (y : Reply). y .number) z in absurd (omega (arith, o, k, m)),
@@ -147,7 +146,7 @@ module _ (p : Problem) (b : Buffers) (begins : Begins p b) (r : ReplyCall) (time
 
   -- the weights
   long-work : length w ≡ n * n + 19 * n
-  unfolding beginning settingsOf
+  unfolding beginning acceptedSettings
   long-work =
       let zeros = replicate (n * n + 19 * n) zeroF in
       let l0 : length zeros ≡ n * n + 19 * n = length-replicate _ _ in
@@ -158,7 +157,7 @@ module _ (p : Problem) (b : Buffers) (begins : Begins p b) (r : ReplyCall) (time
       ∙ length-putPart (14 * n) (length f) y (omega (arith, long)) f refl ∙ l1
 
   weights-are : (i : ℕ) → i < n → getD (ewt n w) i nan ≡ weightOf p i
-  unfolding beginning settingsOf copyOf
+  unfolding beginning acceptedSettings copyOf
   weights-are i m =
       let zeros = replicate (n * n + 19 * n) zeroF in
       let l0 : length zeros ≡ n * n + 19 * n = length-replicate _ _ in
@@ -191,9 +190,9 @@ module _ (p : Problem) (b : Buffers) (begins : Begins p b) (r : ReplyCall) (time
   exactly-so : (y : Refusal) → Answers y a → IsFirst (firstRows p b f) y → FirstExactly p b r
   exactly-so y like is =
       let rest = sizeRow p b f in
-      exactly-as (λ q. y ≡ q) (λ q. a ≡ refusedOf q) _ _ (same-end y a like) (firstRows p b f) (Unit {0}) (Unit {0})
+      exactly-as (λ q. y ≡ q) (λ q. a ≡ refusalReply q) _ _ (same-end y a like) (firstRows p b f) (Unit {0}) (Unit {0})
       (λ z. z, λ z. z)
-      (each-weight (λ q. (y ≡ q) ↔ (a ≡ refusedOf q)) p rest refl (same-answer y a like) n 0)
+      (each-weight (λ q. (y ≡ q) ↔ (a ≡ refusalReply q)) p rest refl (same-answer y a like) n 0)
       (exactly (placeOf n) (firstRows p b f) 0 y (Unit {0}) tt
       (numbered (firstRows p b f) (each-weight (λ q. 1 ≤ q .number) p rest refl (λ q low small. low) n 0))
       (after-weights p n rest refl n 0 0 (omega arith) (omega arith)) is)
@@ -207,7 +206,7 @@ module _ (p : Problem) (b : Buffers) (begins : Begins p b) (r : ReplyCall) (time
   at = begun-at p b begins
 
   taken : NoneHolds (replyRows (r .kind) f lent)
-  unfolding start kindOf settingsOf
+  unfolding start kindOf acceptedSettings
   taken =
       let run = begun-run p b begins in
       let t = treeOf p b in
@@ -222,15 +221,15 @@ module _ (p : Problem) (b : Buffers) (begins : Begins p b) (r : ReplyCall) (time
   waits = sym (stored-phase (lent .session)) ∙ ap (λ (y : Session). y .phase) (at .keeps .decoded)
 
   same-weights : storedWeights f lent ≡ ewt n w
-  unfolding settingsOf
+  unfolding acceptedSettings
   same-weights = rw (at .keeps .decoded, at .keeps .rtol, at .keeps .atol, at .work)
 
   same-step : storedStep f lent ≡ h
-  unfolding settingsOf
+  unfolding acceptedSettings
   same-step = rw (at .keeps .decoded, at .keeps .rtol, at .keeps .atol, at .work)
 
   same-refused : isRefused f lent ≡ refused h (signumOf (p .xend ⊖ p .x0))
-  unfolding settingsOf
+  unfolding acceptedSettings
   same-refused = rw (same-step, at .keeps .decoded)
 
   good : AllGood (storedWeights f lent) → (i : ℕ) → i < n → Ieee.le (getD (ewt n w) i nan) zeroF ≡ false
@@ -244,7 +243,7 @@ module _ (p : Problem) (b : Buffers) (begins : Begins p b) (r : ReplyCall) (time
       (omega arith) (omega (arith, first .here .0, long-weights)) (omega arith))
   by (stepped all e q) =
       exactly-so (sizeRow p b f .refusal)
-      (inl (lit≤ tt, lit≤ tt, q ∙ ap (λ (v : Float). plainOf 11 0 v zeroF) same-step))
+      (inl (lit≤ tt, lit≤ tt, q ∙ ap (λ (v : Float). plainReply 11 0 v zeroF) same-step))
       (no-weight p (ewt n w) weights-are (sizeRow p b f ∷ []) _
       (inl (step-decides h (p .xend ⊖ p .x0) .0 (sym same-refused ∙ e), refl)) (good all) n 0 (omega arith))
   by (reported all e q) =

@@ -10,7 +10,7 @@ use native.Mathlib.Omega.{arith}
 use Rattle.loops.specs.Test.{differs}
 use Rattle.questions.specs.declared.Session.{Session}
 use Rattle.questions.specs.Turns.{RunState}
-use Rattle.refusals.specs.Start.{settingsOf}
+use Rattle.refusals.specs.Start.{acceptedSettings}
 use Rattle.rules.specs.Play.{Play}
 use Rattle.common.specs.State.{Given}
 use Rattle.rules.specs.Rules.{Start}
@@ -18,8 +18,8 @@ use Rattle.refinement.specs.AtNode.{startedAt}
 use Rattle.sqrt.specs.Rounded.{fits}
 use Rattle.answers.specs.Called.{Buffers, Called}
 use Rattle.raimsklo.specs.Calls.{Problem, startOf}
-use Rattle.calls.specs.Run.{Begins, ReplyCall, TimesF64, callsBy, lastBy, replied, callsOf, lastOf}
-use Rattle.calls.specs.Run.{isRefusal, takenReplies}
+use Rattle.calls.specs.Run.{Begins, ReplyCall, TimesF64, callsBy, lastBy, replied, callsOf, lastOf, isRefusal}
+use Rattle.calls.specs.Run.{takenReplies}
 use Rattle.calls.specs.Follow.{givenOf, fromOf, treeOf, saidBy, isSized, nextOf, toldBy, fedTo, standsAt}
 use Rattle.calls.specs.Follow.{heardOf, Refused, CallsFollow}
 use Rattle.calls.proofs.Keeps.{Runs}
@@ -108,7 +108,7 @@ module _ (g : Given) (a : Start) (run : Runs g a) where
 -- ---- the claim
 
 pub calls-follow : (p : Problem) (b : Buffers) → Begins p b → CallsFollow p b
-unfolding settingsOf
+unfolding acceptedSettings
 calls-follow p b begins =
     let g = givenOf p b in
     let a = fromOf p in

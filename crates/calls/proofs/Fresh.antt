@@ -18,10 +18,10 @@ use Rattle.loops.specs.For.{times}
 use Rattle.questions.specs.declared.Session.{Session}
 use Rattle.questions.specs.Turns.{RunState}
 use Rattle.words.specs.Words.{putWord, putCountAt, putCountsOf, slotOf, putFloatAt, putFloatsOf}
-use Rattle.fields.specs.Fields.{countsOf, floatsOf}
+use Rattle.session.specs.Fields.{countsOf, floatsOf}
 use Rattle.session.specs.Session.{encodeOf, putTolerancesOf}
 use Rattle.session.proofs.Back.{length-encode, length-put-tolerances}
-use Rattle.refusals.specs.Start.{settingsOf}
+use Rattle.refusals.specs.Start.{acceptedSettings}
 use Rattle.common.specs.State.{Given}
 use Rattle.refinement.specs.Shown.{sessionOf}
 use Rattle.refinement.specs.AtNode.{startedAt}
@@ -111,11 +111,11 @@ module _ (p : Problem) (b c : Buffers) (v : WellFormed p b) (w : WellFormed p c)
   left g = startedAt g (fromOf p)
 
   same-left : left (givenOf p b) ≡ left (givenOf p c)
-  unfolding settingsOf
+  unfolding acceptedSettings
   same-left = refl
 
   same-bytes : begunBytes p b ≡ begunBytes p c
-  unfolding settingsOf
+  unfolding acceptedSettings
   same-bytes =
       kept-fresh (sessionOf (givenOf p b) (left (givenOf p b))) (p .rtol) (p .atol) (b .session) (c .session)
       (v .session) (w .session)

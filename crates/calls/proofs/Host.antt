@@ -29,9 +29,9 @@ use Rattle.refinement.specs.AtNode.{derivative, answer}
 use Rattle.refinement.specs.Follows.{stateAt}
 use Rattle.sqrt.specs.Rounded.{fits}
 use Rattle.answers.specs.declared.Reply.{Reply}
-use Rattle.answers.specs.Answers.{answerOf}
+use Rattle.answers.specs.Answers.{questionReply}
 use Rattle.answers.specs.Called.{Called}
-use Rattle.replies.specs.Replies.{isKind, kindOf}
+use Rattle.raimsklo.specs.Replies.{isKind, kindOf}
 use Rattle.invariants.specs.Host.{IsF64}
 use Rattle.invariants.proofs.Floats.{literal}
 use Rattle.invariants.proofs.Host.{fits-is-f64}
@@ -96,7 +96,7 @@ module _ (n order : ℕ) (c : Common) (work q : List Float) (room : 19 * n ≤ l
   reads-state Question.Unasked phase h = differs h
 
 reads-time : (v : Question) (phase : Phase) (c : Common) → isReported v ≡ true → Agrees v phase c
-    → answerOf v .time ≡ c .tn
+    → questionReply v .time ≡ c .tn
 reads-time (Question.FirstReport a) phase c h g = g .1
 reads-time (Question.Report r) phase c h g = g .2
 reads-time (Question.Derivative a) phase c h g = differs h
@@ -114,7 +114,7 @@ module _ (g : Given) (a : Start) (run : Runs g a) (one : g .s .n ≡ 1) where
     pub at : At g a run node l x
     pub question : List Float
     pub said : saidBy x ≡ saidAt (g .s .n) node question
-    pub answer : x .reply ≡ answerOf (l .turn .question)
+    pub answer : x .reply ≡ questionReply (l .turn .question)
     pub agrees : Agrees (l .turn .question) (l .turn .phase) (l .turn .common)
 
   -- what was said is what the machine shows

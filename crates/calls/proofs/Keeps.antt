@@ -22,7 +22,7 @@ use Rattle.between_steps.specs.Ranges.{Counts, Lent}
 use Rattle.questions.specs.Requires.{Resumes, UnlessFinished}
 use Rattle.questions.specs.Turns.{RunState}
 use Rattle.invariants.proofs.Lent.{resume-lent}
-use Rattle.fields.specs.Fields.{Fit, CountsFit, FloatsFit, Fits}
+use Rattle.session.specs.Fields.{Fit, CountsFit, FloatsFit, Fits}
 use Rattle.session.specs.Session.{encodeOf, decodeOf, rtolSlots, atolSlots, storedN, finishedIn, OneOrN}
 use Rattle.session.specs.Session.{tolerancesInRange, inRangeOf}
 use Rattle.session.proofs.Back.{length-encode, encoded-count, finished-encode, decode-encode, rtol-kept, atol-kept}

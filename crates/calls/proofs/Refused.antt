@@ -13,9 +13,9 @@ use lib.ListN.{length}
 use borrow.Author.Tests.{eqb-true, eqb-false}
 use Rattle.numbers.specs.Float.{zeroF}
 use Rattle.refusals.specs.Rows.{FirstIs}
-use Rattle.answers.specs.Answers.{plainOf}
+use Rattle.answers.specs.Answers.{plainReply}
 use Rattle.answers.specs.Called.{Buffers, Called}
-use Rattle.starts.specs.Starts.{beganOf}
+use Rattle.raimsklo.specs.Starts.{acceptedStartOf}
 use Rattle.raimsklo.specs.Calls.{Problem, startAt, startOf, replyOf}
 use Rattle.calls.specs.Run.{isRefusal}
 use Rattle.calls.specs.Refused.{RefusedUnchanged}
@@ -26,7 +26,7 @@ use Rattle.calls.proofs.ReplyRefused.{refusing, reply-refused}
 -- ---- start
 
 module _ (p : Problem) (b : Buffers) where
-  pub empty-start : length (p .y0) ≡ 0 → startOf p b ≡ record { reply = plainOf 110 0 zeroF zeroF; lent = b }
+  pub empty-start : length (p .y0) ≡ 0 → startOf p b ≡ record { reply = plainReply 110 0 zeroF zeroF; lent = b }
   unfolding startOf
   empty-start e = rw e
 
@@ -35,7 +35,7 @@ module _ (p : Problem) (b : Buffers) where
       × (x .reply .number ≤ 11 → x .lent ≡ b)
 
   starts-at : (t : Bool) → eqb (refusalOf p b .number) 0 ≡ t → Starts (startAt p b (refusalOf p b))
-  unfolding startAt beganOf
+  unfolding startAt acceptedStartOf
   starts-at true e = rw e (inl refl, λ h. let z : ⊥ = omega arith in absurd z)
   starts-at false e =
       let z : refusalOf p b .number ≡ 0 → ⊥ = eqb-false (refusalOf p b .number) 0 e in

@@ -25,9 +25,9 @@ use Rattle.between_steps.specs.Start.{inverted}
 use Rattle.machine.specs.Resume.{dealtOf}
 use Rattle.session.specs.Session.{decodeOf, rtolOf, atolOf}
 use Rattle.answers.specs.declared.Reply.{Reply}
-use Rattle.answers.specs.Answers.{plainOf, answerOf}
+use Rattle.answers.specs.Answers.{plainReply, questionReply}
 use Rattle.answers.specs.Called.{Buffers}
-use Rattle.replies.specs.Replies.{kindOf}
+use Rattle.raimsklo.specs.Replies.{kindOf}
 use Rattle.raimsklo.specs.Calls.{replyOf}
 use Rattle.refusals.specs.Rows.{NoneHolds}
 use Rattle.calls.specs.ReplyRefused.{phaseIn, replyRows}
@@ -90,13 +90,13 @@ module _ (kind : ℕ) (numbers : List Float) (time : Float) (b : Buffers) where
 
   abbrev said : Weights → Reply
   said o =
-      answerOf (weightedAt (x .settings) (x .common) (rtolOf (b .session)) (atolOf (b .session)) o
+      questionReply (weightedAt (x .settings) (x .common) (rtolOf (b .session)) (atolOf (b .session)) o
       (inverted (x .settings .n) (weighed numbers b)) .turn .question)
 
   -- what is answered, and why
   pub data Says : Type 0 where
-    weighty : (i : ℕ) → FirstBad weights i → reply ≡ plainOf 12 i zeroF zeroF → Says
-    stepped : AllGood weights → unfit ≡ true → reply ≡ plainOf 11 0 (storedStep numbers b) zeroF → Says
+    weighty : (i : ℕ) → FirstBad weights i → reply ≡ plainReply 12 i zeroF zeroF → Says
+    stepped : AllGood weights → unfit ≡ true → reply ≡ plainReply 11 0 (storedStep numbers b) zeroF → Says
     reported : AllGood weights → unfit ≡ false → reply .number ≡ 102 → Says
 
   sized : (t : Bool) → unfit ≡ t → AllGood weights → reply ≡ said Inverted → Says
@@ -112,15 +112,15 @@ module _ (kind : ℕ) (numbers : List Float) (time : Float) (b : Buffers) where
   abbrev number-of : {a : Reply} → reply ≡ a → reply .number ≡ a .number
   number-of q = ap (λ (r : Reply). r .number) q
 
-  weight-only : (i : ℕ) → reply ≡ plainOf 12 i zeroF zeroF → Says → FirstBad weights i
+  weight-only : (i : ℕ) → reply ≡ plainReply 12 i zeroF zeroF → Says → FirstBad weights i
   weight-only i q (weighty j p r) =
       let same : j ≡ i = sym (ap (λ (r : Reply). r .index) r) ∙ ap (λ (r : Reply). r .index) q in
       subst (FirstBad weights) same p
   weight-only i q (stepped g f r) = absurd (eqb-false 12 11 refl (sym (number-of q) ∙ number-of r))
   weight-only i q (reported g f r) = absurd (eqb-false 12 102 refl (sym (number-of q) ∙ r))
 
-  weight-then : (i : ℕ) → FirstBad weights i → Says → reply ≡ plainOf 12 i zeroF zeroF
-  weight-then i p (weighty j q r) = r ∙ ap (λ (j : ℕ). plainOf 12 j zeroF zeroF) (bad-index weights j i q p)
+  weight-then : (i : ℕ) → FirstBad weights i → Says → reply ≡ plainReply 12 i zeroF zeroF
+  weight-then i p (weighty j q r) = r ∙ ap (λ (j : ℕ). plainReply 12 j zeroF zeroF) (bad-index weights j i q p)
   weight-then i p (stepped g f r) = absurd (not-both weights i p g)
   weight-then i p (reported g f r) = absurd (not-both weights i p g)
 
@@ -129,7 +129,7 @@ module _ (kind : ℕ) (numbers : List Float) (time : Float) (b : Buffers) where
   step-only q (stepped g f r) = (g, f)
   step-only q (reported g f r) = absurd (eqb-false 11 102 refl (sym q ∙ r))
 
-  step-then : AllGood weights × (unfit ≡ true) → Says → reply ≡ plainOf 11 0 (storedStep numbers b) zeroF
+  step-then : AllGood weights × (unfit ≡ true) → Says → reply ≡ plainReply 11 0 (storedStep numbers b) zeroF
   step-then s (weighty j p r) = absurd (not-both weights j p (s .0))
   step-then s (stepped g f r) = r
   step-then s (reported g f r) = differs (sym f ∙ s .1)

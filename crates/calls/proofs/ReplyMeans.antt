@@ -33,9 +33,9 @@ use Rattle.reports.specs.Reports.{afterFirstReportOf, afterReportOf}
 use Rattle.machine.specs.Resume.{dealtOf, resumeOf}
 use Rattle.session.specs.Session.{decodeOf, encodeOf}
 use Rattle.answers.specs.declared.Reply.{Reply}
-use Rattle.answers.specs.Answers.{plainOf, statusNumber, answerOf}
+use Rattle.answers.specs.Answers.{plainReply, statusNumber, questionReply}
 use Rattle.answers.specs.Called.{Buffers, Called}
-use Rattle.replies.specs.Replies.{kindOf, settledOf, turned, goOf}
+use Rattle.raimsklo.specs.Replies.{kindOf, turnWrittenOf, turned, acceptedReplyOf}
 use Rattle.raimsklo.specs.Calls.{replyOf}
 use Rattle.calls.specs.Run.{isRefusal}
 use Rattle.refusals.specs.Rows.{Row, NoneHolds}
@@ -43,8 +43,8 @@ use Rattle.calls.specs.ReplyRefused.{phaseIn, replyRows}
 use Rattle.calls.specs.ReplyMeans.{Kinds, Numbers, Listed, endedBy, AtReport, HeldAtEnd, Meant, ReplyMeans}
 use Rattle.calls.proofs.Agrees.{status-number, asking}
 use Rattle.calls.proofs.Turns.{resume-means}
-use Rattle.calls.proofs.ReplyRefused.{isRefusing, withIn, stored-phase, gone, is-now, agreed, went}
-use Rattle.calls.proofs.ReplyRefused.{refusing, reply-refused}
+use Rattle.calls.proofs.ReplyRefused.{isRefusing, withIn, stored-phase, gone, is-now, agreed, went, refusing}
+use Rattle.calls.proofs.ReplyRefused.{reply-refused}
 
 pub kinds : Kinds
 unfolding kindOf
@@ -70,7 +70,7 @@ numbers = record {
 
 module _ (s : Settings) (before : Phase) (kind : Kind) where
   question-listed : (q : Question) (after : Phase) (c : Common) → Meant s before kind q after c
-      → Listed (answerOf q .number)
+      → Listed (questionReply q .number)
   question-listed (Question.Derivative a) after c m = inr (inr (inl (lit≤ tt, lit≤ tt)))
   question-listed (Question.Jacobian a) after c m = inr (inr (inl (lit≤ tt, lit≤ tt)))
   question-listed (Question.FirstReport a) after c m = inr (inr (inl (lit≤ tt, lit≤ tt)))
@@ -82,7 +82,7 @@ module _ (s : Settings) (before : Phase) (kind : Kind) where
 
   -- 111 is an interrupt at a report
   only-interrupt : (q : Question) (after : Phase) (c : Common) → Meant s before kind q after c
-      → eqb (answerOf q .number) 111 ≡ true → AtReport before × (kind ≡ Kind.Report Interrupt)
+      → eqb (questionReply q .number) 111 ≡ true → AtReport before × (kind ≡ Kind.Report Interrupt)
   only-interrupt (Question.Derivative a) after c m e = differs e
   only-interrupt (Question.Jacobian a) after c m e = differs e
   only-interrupt (Question.FirstReport a) after c m e = differs e
@@ -127,7 +127,7 @@ kind-four k e = eqb-true k 4 (by (eqb k 1) (eqb k 2) (eqb k 3) (eqb k 4) (ap isI
 
 module _ (s : Settings) (c : Common) (work : List Float) where
   abbrev next : Reply
-  next = answerOf (goOnOf s c work .turn .question)
+  next = questionReply (goOnOf s c work .turn .question)
 
   on-done : isGoing s c ≡ false → next ≡ endedBy 110 c
   unfolding goOnOf goOnAt finishedOf
@@ -165,7 +165,7 @@ module _ (kind : ℕ) (numbers : List Float) (time : Float) (b : Buffers) where
   kept : NoneHolds rows
       → reply .lent .session
       ≡ encodeOf (record { settings = x .settings; common = turn .common; phase = turn .phase }) (b .session)
-  unfolding goOf settledOf
+  unfolding acceptedReplyOf turnWrittenOf
   kept h =
       ap (λ (c : Called). c .lent .session) (gone kind numbers time b h)
       ∙ rw (asking (turn .question) (turn .phase) (turn .common) (agreed kind numbers time b h))
@@ -185,14 +185,14 @@ module _ (kind : ℕ) (numbers : List Float) (time : Float) (b : Buffers) where
 
   -- the answer, of a phase and a kind that are known
   pub answer-at : (p : Phase) (k : Kind) → NoneHolds rows → phaseIn b ≡ p → kindOf kind ≡ k
-      → reply .reply ≡ answerOf (dealtOf x p k numbers time (withIn b) .turn .question)
+      → reply .reply ≡ questionReply (dealtOf x p k numbers time (withIn b) .turn .question)
   unfolding resumeOf
   answer-at p k h e f =
       went kind numbers time b h
       ∙ rw (is-now kind numbers time b h)
-      (ap (λ (q : Phase). answerOf (dealtOf x q (kindOf kind) numbers time (withIn b) .turn .question))
+      (ap (λ (q : Phase). questionReply (dealtOf x q (kindOf kind) numbers time (withIn b) .turn .question))
       (stored-phase (b .session) ∙ e)
-      ∙ ap (λ (j : Kind). answerOf (dealtOf x p j numbers time (withIn b) .turn .question)) f)
+      ∙ ap (λ (j : Kind). questionReply (dealtOf x p j numbers time (withIn b) .turn .question)) f)
 
   kind-is : (k : ℕ) → kind ≡ k → kindOf kind ≡ kindOf k
   kind-is k e = ap kindOf e
@@ -210,12 +210,12 @@ module _ (kind : ℕ) (numbers : List Float) (time : Float) (b : Buffers) where
       (h, o .0, kind-four kind (o .1))
 
   first-modified : NoneHolds rows → phaseIn b ≡ Phase.FirstReport → kind ≡ 5
-      → reply .reply ≡ plainOf 100 0 zeroF time
+      → reply .reply ≡ plainReply 100 0 zeroF time
   unfolding dealtOf afterFirstReportOf askedOf
   first-modified h e f = answer-at Phase.FirstReport (Kind.Report Modified) h e (kind-is 5 f ∙ kinds .modifies)
 
   modified : NoneHolds rows → phaseIn b ≡ Phase.Report → kind ≡ 5
-      → reply .reply ≡ plainOf 100 0 zeroF (x .common .told ⊕ x .common .hu)
+      → reply .reply ≡ plainReply 100 0 zeroF (x .common .told ⊕ x .common .hu)
   unfolding dealtOf afterReportOf askedOf
   modified h e f = answer-at Phase.Report (Kind.Report Modified) h e (kind-is 5 f ∙ kinds .modifies)
 

@@ -23,7 +23,7 @@ use Rattle.questions.specs.declared.Turn.{Turn}
 use Rattle.machine.specs.Resume.{With, isAsked}
 use Rattle.between_steps.specs.Replies.{isDerivative, isJacobian, isAnswer}
 use Rattle.words.proofs.Rows.{counts-at}
-use Rattle.fields.specs.States.{phaseOf}
+use Rattle.session.specs.States.{phaseOf}
 use Rattle.session.specs.Session.{decodeOf, rtolOf, atolOf, finishedIn, inRangeOf}
 use Rattle.session.specs.Names as Word
 use Rattle.session.specs.InRange.{InRange}
@@ -32,18 +32,17 @@ use Rattle.session.proofs.Back.{stored-n}
 use Rattle.refusals.specs.declared.Refusal.{Refusal}
 use Rattle.refusals.specs.Refusal.{none, plain, alsoOf, inOrder, orElse}
 use Rattle.refusals.specs.Rows.{Row, row, FirstIs, NoneHolds}
-use Rattle.refusals.proofs.Decides.{Decides, equal, smaller, denied}
-use Rattle.refusals.proofs.Decides.{either as or}
+use Rattle.refusals.proofs.Decides.{Decides, equal, smaller, denied, either as or}
 use Rattle.refusals.proofs.Rows.{Each}
-use Rattle.answers.specs.Answers.{plainOf, answerOf}
+use Rattle.answers.specs.Answers.{plainReply, questionReply}
 use Rattle.answers.specs.Called.{Buffers, Called}
-use Rattle.replies.specs.Replies.{isKind, kindOf, lengthsRefusal, storedRefusal, replyRefusalOf}
-use Rattle.replies.specs.Replies.{isUnasked, Settled, settledOf, turned, goOf}
+use Rattle.raimsklo.specs.Replies.{isKind, kindOf, lengthsRefusal, storedRefusal, replyRefusalOf, isUnasked}
+use Rattle.raimsklo.specs.Replies.{TurnWritten, turnWrittenOf, turned, acceptedReplyOf}
 use Rattle.raimsklo.specs.Calls.{replyAt, replyOf}
 use Rattle.invariants.proofs.Floats.{either}
 use Rattle.calls.specs.Run.{isRefusal}
-use Rattle.calls.specs.ReplyRefused.{awaits, Asked}
-use Rattle.calls.specs.ReplyRefused.{derivative, jacobian, answer, phaseIn, replyRows, ReplyRefused}
+use Rattle.calls.specs.ReplyRefused.{awaits, Asked, derivative, jacobian, answer, phaseIn, replyRows}
+use Rattle.calls.specs.ReplyRefused.{ReplyRefused}
 use Rattle.calls.proofs.Agrees.{Agrees, not-refusal}
 use Rattle.calls.proofs.Turns.{resume-well, resume-same}
 
@@ -204,10 +203,10 @@ module _ (kind : ℕ) (numbers : List Float) (time : Float) (b : Buffers) where
   n = Word.n (b .session)
 
   abbrev leaves : ℕ → Called
-  leaves k = record { reply = plainOf k 0 zeroF zeroF; lent = b }
+  leaves k = record { reply = plainReply k 0 zeroF zeroF; lent = b }
 
   abbrev go : Called
-  go = goOf (kindOf kind) numbers time b
+  go = acceptedReplyOf (kindOf kind) numbers time b
 
   -- the six tests
   abbrev unlong : Bool
@@ -246,7 +245,7 @@ module _ (kind : ℕ) (numbers : List Float) (time : Float) (b : Buffers) where
   at-cond false k r e = refl
 
   unasked-leaves : isNow ≡ false → go ≡ leaves 14
-  unfolding goOf settledOf
+  unfolding acceptedReplyOf turnWrittenOf
   unasked-leaves e = rw (resume-same (decodeOf (b .session)) (kindOf kind) numbers time (withIn b) e)
 
   last : (s t : Bool) → isNow ≡ t → cond (not s) (leaves 14) go ≡ cond (not (s && t)) (leaves 14) go
@@ -306,10 +305,10 @@ module _ (kind : ℕ) (numbers : List Float) (time : Float) (b : Buffers) where
   -- ---- a reply that is taken
 
   settled-reply : (s : Settings) (t : Turn) (work : List Float)
-      → settledOf s t work (b .session) (b .question) .reply ≡ answerOf (t .question)
-  unfolding settledOf
+      → turnWrittenOf s t work (b .session) (b .question) .reply ≡ questionReply (t .question)
+  unfolding turnWrittenOf
   settled-reply s t work =
-      either (λ (y : Settled). y .reply ≡ answerOf (t .question)) (isUnasked (t .question)) _ _ refl refl
+      either (λ (y : TurnWritten). y .reply ≡ questionReply (t .question)) (isUnasked (t .question)) _ _ refl refl
 
   pub gone : NoneHolds (replyRows kind numbers b) → replyOf kind numbers time b ≡ go
   gone h = by outcome
@@ -322,8 +321,8 @@ module _ (kind : ℕ) (numbers : List Float) (time : Float) (b : Buffers) where
   is-now h = both (isKind kind) isNow (decided-true _ asked-now (h .1 .1 .1 .1 .1 .0)) .1
 
   pub went : NoneHolds (replyRows kind numbers b)
-      → replyOf kind numbers time b .reply ≡ answerOf (turned (kindOf kind) numbers time b .turn .question)
-  unfolding goOf
+      → replyOf kind numbers time b .reply ≡ questionReply (turned (kindOf kind) numbers time b .turn .question)
+  unfolding acceptedReplyOf
   went h =
       let m = turned (kindOf kind) numbers time b in
       ap (λ (x : Called). x .reply) (gone h) ∙ settled-reply (decodeOf (b .session) .settings) (m .turn) (m .work)
@@ -348,7 +347,7 @@ module _ (kind : ℕ) (numbers : List Float) (time : Float) (b : Buffers) where
   reply = replyOf kind numbers time b
 
   abbrev Refuses : ℕ → Type 0
-  Refuses k = isRefusal (plainOf k 0 zeroF zeroF) ≡ true
+  Refuses k = isRefusal (plainReply k 0 zeroF zeroF) ≡ true
 
   first-refuses : (k : ℕ) → FirstIs k rows → Refuses k
   first-refuses k f = numbered Refuses rows k (refl, (refl, (refl, (refl, (refl, (refl, tt)))))) f

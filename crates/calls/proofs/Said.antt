@@ -29,8 +29,8 @@ use Rattle.refinement.specs.Shown.{shownAs}
 use Rattle.refinement.specs.Shown as Seen
 use Rattle.refinement.specs.AtNode.{AtNode}
 use Rattle.sqrt.specs.Rounded.{fits}
-use Rattle.answers.specs.Answers.{answerOf}
-use Rattle.replies.specs.Replies.{withY, questionOf}
+use Rattle.answers.specs.Answers.{questionReply}
+use Rattle.raimsklo.specs.Replies.{withY, questionOf}
 use Rattle.calls.specs.Follow.{says, saidOf, saidAt}
 use Rattle.calls.proofs.Agrees.{isOver, forDerivative, Agrees}
 use Rattle.calls.proofs.Turns.{Well}
@@ -76,7 +76,7 @@ module _ (s : Settings) (c : Common) (work q : List Float) (history : 19 * s .n 
 
   abbrev Says : Question → Phase → Type 0
   Says v phase =
-      says (answerOf v) (questionOf s phase c work q) ≡ saidOf (s .n) (c .nq) (shownAs (s .n) v phase c work) q
+      says (questionReply v) (questionOf s phase c work q) ≡ saidOf (s .n) (c .nq) (shownAs (s .n) v phase c work) q
 
   says-question : (v : Question) (phase : Phase) → Agrees v phase c → (isOver phase ≡ false → c .nq ≤ 12)
       → Says v phase
@@ -94,7 +94,7 @@ module _ (s : Settings) (c : Common) (work q : List Float) (history : 19 * s .n 
   says-question (Question.Derivative a) Phase.Finished g o = differs (ap forDerivative g)
   says-question (Question.Jacobian a) phase g o = rw g
   says-question (Question.FirstReport a) phase g o =
-      rw (g .0) (ap (says (answerOf (Question.FirstReport a))) (sym (put-none (s .n) (withY s work q))))
+      rw (g .0) (ap (says (questionReply (Question.FirstReport a))) (sym (put-none (s .n) (withY s work q))))
   says-question (Question.Report r) phase g o =
       rw (g .0, g .1, snapshot-put s c work (withY s work q) (o (rw (g .0))) history length-withY)
   says-question (Question.Finished e) phase g o = rw g
@@ -108,7 +108,7 @@ module _ (g : Given) where
   pub says-node : (t : Play) (l : RunState) (q : List Float) → AtNode g t l → Well 0 (l .turn)
       → (isOver (l .turn .phase) ≡ false → l .turn .common .nq ≤ 12) → 19 * g .s .n ≤ length (l .work)
       → length q ≡ 14 * g .s .n + 6
-      → says (answerOf (l .turn .question)) (questionOf (g .s) (l .turn .phase) (l .turn .common) (l .work) q)
+      → says (questionReply (l .turn .question)) (questionOf (g .s) (l .turn .phase) (l .turn .common) (l .work) q)
       ≡ saidAt (g .s .n) t q
   says-node t l q s w o history room =
       let f = fits g t l s in

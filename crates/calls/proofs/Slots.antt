@@ -8,6 +8,7 @@ use native.Mathlib.Omega.{arith}
 use lib.Ieee.{Float, nan, binary64, ofBits}
 use lib.ListN.{length, getD, replicate, length-append, length-replicate, getD-replicate}
 use lib.Seq.{ext-getD}
+use Rattle.common.specs.Limits.{maxStates}
 use Rattle.numbers.specs.Float.{zeroF}
 use Rattle.words.specs.Words.{word, floatsIn, slotOf}
 use Rattle.words.proofs.Rows.{length-floats, floats-at}
@@ -21,15 +22,15 @@ padded [] k i h = getD-replicate k i zeroF nan (omega arith)
 padded (x ∷ list) k zero h = refl
 padded (x ∷ list) k (suc i) h = padded list k i (omega arith)
 
-pub slots-put : (bytes : List ℕ) (at : ℕ) (list : List Float) → length list ≤ 64 → ListFits list
-    → ((i : ℕ) → i < 64 → word bytes (at + i) ≡ slotOf list i) → floatsIn bytes at 64 ≡ slotsOf list
+pub slots-put : (bytes : List ℕ) (at : ℕ) (list : List Float) → length list ≤ maxStates → ListFits list
+    → ((i : ℕ) → i < maxStates → word bytes (at + i) ≡ slotOf list i) → floatsIn bytes at maxStates ≡ slotsOf list
 slots-put bytes at list h f put =
-    let k = 64 - length list in
-    let long = length-floats bytes at 64 in
+    let k = maxStates - length list in
+    let long = length-floats bytes at maxStates in
     let whole = length-append list (replicate k zeroF) in
     let rest = length-replicate k zeroF in
-    ext-getD nan (floatsIn bytes at 64) (slotsOf list) (omega (arith, long, whole, rest))
+    ext-getD nan (floatsIn bytes at maxStates) (slotsOf list) (omega (arith, long, whole, rest))
     (λ i l.
-    let m : i < 64 = omega (arith, long) in
-    floats-at bytes at 64 i nan m ∙ ap (ofBits binary64) (put i m) ∙ slot-back list i (slot-fits list f i)
+    let m : i < maxStates = omega (arith, long) in
+    floats-at bytes at maxStates i nan m ∙ ap (ofBits binary64) (put i m) ∙ slot-back list i (slot-fits list f i)
     ∙ sym (padded list k i (omega arith)))

@@ -16,15 +16,15 @@ use Rattle.loops.specs.Test.{differs, both}
 use Rattle.questions.specs.declared.Question.{Question}
 use Rattle.between_steps.specs.declared.Status.{Status}
 use Rattle.questions.specs.Turns.{RunState}
-use Rattle.rules.specs.Play.{derivativeAt, jacobianAt, Play, ret, ask, tell, say}
+use Rattle.rules.specs.Play.{derivativeAt, jacobianAt, Play, ret, ask, tell, say, finished, stepRefused}
+use Rattle.rules.specs.Play.{weightRefused, exhausted}
 use Rattle.common.specs.State.{Given}
-use Rattle.rules.specs.Play.{finished, stepRefused, weightRefused, exhausted}
 use Rattle.refinement.specs.Shown.{asks}
 use Rattle.refinement.specs.AtNode.{AtNode}
 use Rattle.answers.specs.declared.Reply.{Reply}
-use Rattle.answers.specs.Answers.{statusNumber, answerOf}
+use Rattle.answers.specs.Answers.{statusNumber, questionReply}
 use Rattle.answers.specs.Called.{Called}
-use Rattle.replies.specs.Replies.{isKind}
+use Rattle.raimsklo.specs.Replies.{isKind}
 use Rattle.calls.specs.Run.{ReplyCall}
 use Rattle.calls.specs.Follow.{isStep, saidBy, saidAt, fedAs, isAwaited}
 use Rattle.calls.specs.Demands.{isEnd, wants}
@@ -36,7 +36,7 @@ pub record Spoken (n : ℕ) (t : Play) (x : Called) : Type 0 where
   pub question : List Float
   pub said : saidBy x ≡ saidAt n t question
   pub asked : Question
-  pub answer : x .reply ≡ answerOf asked
+  pub answer : x .reply ≡ questionReply asked
 
 abbrev pub EndedAt : Play → Type 0
 EndedAt (ret e) = Unit {0}

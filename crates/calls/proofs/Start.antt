@@ -19,15 +19,15 @@ use Rattle.vectors.specs.Tolerance.{List1OrN}
 use Rattle.history.proofs.Filled.{filled}
 use Rattle.questions.specs.declared.Session.{Session}
 use Rattle.questions.specs.Requires.{Resumes}
-use Rattle.reports.specs.Reports.{initialOf}
-use Rattle.refusals.specs.Start.{settingsOf}
-use Rattle.fields.specs.Fields.{countsOf, FloatsFit, Fits}
-use Rattle.session.specs.Session.{ListFits, encodeOf, decodeOf, putTolerancesOf, OneOrN}
-use Rattle.session.specs.Session.{tolerancesInRange}
+use Rattle.common.specs.Initial.{initialOf}
+use Rattle.refusals.specs.Start.{acceptedSettings}
+use Rattle.session.specs.Fields.{countsOf, FloatsFit, Fits}
+use Rattle.session.specs.Session.{ListFits, encodeOf, decodeOf, putTolerancesOf, OneOrN, tolerancesInRange}
 use Rattle.session.proofs.Back.{length-encode, encoded-count, finished-encode, decode-encode, counts-back}
 use Rattle.session.proofs.Back.{length-put-tolerances, put-other, counts-put, decode-put, rtol-put, atol-put}
 use Rattle.session.proofs.Back.{rtol-slot, atol-slot}
-use Rattle.session.proofs.Passes.{assembled, counts-fit, fields-in-range, pivots-in-range, tolerances-put}
+use Rattle.session.proofs.Passes.{assembled, fields-in-range, pivots-in-range, tolerances-put}
+use Rattle.session.proofs.Listed.{counts-fit}
 use Rattle.common.specs.State.{Given}
 use Rattle.rules.specs.Rules.{Start, beginning}
 use Rattle.refinement.specs.Shown.{sessionOf, reachedAfter}
@@ -35,9 +35,9 @@ use Rattle.refinement.specs.AtNode.{startedAt}
 use Rattle.refinement.proofs.Kept.{session-kept}
 use Rattle.invariants.proofs.Fits.{start-fits}
 use Rattle.invariants.proofs.Host.{is-f64-fits}
-use Rattle.answers.specs.Answers.{plainOf}
+use Rattle.answers.specs.Answers.{plainReply}
 use Rattle.answers.specs.Called.{Buffers}
-use Rattle.starts.specs.Starts.{clearedOf, keptOf, beganOf}
+use Rattle.raimsklo.specs.Starts.{clearedOf, keptOf, acceptedStartOf}
 use Rattle.raimsklo.specs.Calls.{Problem, lengthsOf, startAt, startOf}
 use Rattle.calls.specs.WellFormed.{WellFormed}
 use Rattle.calls.specs.Run.{Begins}
@@ -67,10 +67,10 @@ module _ (p : Problem) (b : Buffers) where
   begunBytes = putTolerancesOf (p .rtol) (p .atol) (encodeOf first (b .session))
 
   pub begun-is : WellFormed p b → startOf p b ≡ record {
-    reply = plainOf 100 0 zeroF (p .x0);
+    reply = plainReply 100 0 zeroF (p .x0);
     lent = lentOf (startedAt given from) begunBytes (putPart 0 (length (p .y0)) (b .question) (p .y0));
   }
-  unfolding startAt beganOf keptOf settingsOf beginning
+  unfolding startAt acceptedStartOf keptOf acceptedSettings beginning
   begun-is formed =
       let number : refusalOf p b .number ≡ 0 = start-number-is p b .0 (well-formed p b .0 formed) .1 in
       let e : eqb (refusalOf p b .number) 0 ≡ true = eq-eqb (refusalOf p b .number) 0 number in
@@ -100,7 +100,7 @@ module _ (p : Problem) (b : Buffers) (begins : Begins p b) where
   one-or-n list (inr e) = inr (omega (arith, e, formed .states .0))
 
   pub begun-run : Runs g a
-  unfolding settingsOf
+  unfolding acceptedSettings
   begun-run =
       record {
         ok = record {
@@ -153,7 +153,7 @@ module _ (p : Problem) (b : Buffers) (begins : Begins p b) where
   short list (inr e) = omega (arith, formed .states .1)
 
   signs : tolerancesInRange bytes (g .s) ≡ true
-  unfolding settingsOf
+  unfolding acceptedSettings
   signs =
       tolerances-put (p .rtol) (p .atol) (encodeOf x (b .session)) (rw length-encode room) (g .s) refl refl
       (short (p .rtol) (formed .rtol)) (short (p .atol) (formed .atol)) rtol-fits atol-fits
@@ -176,7 +176,7 @@ module _ (p : Problem) (b : Buffers) (begins : Begins p b) where
       }
 
   pub begun-keeps : Keeps g (startedAt g a) bytes
-  unfolding settingsOf
+  unfolding acceptedSettings
   begun-keeps =
       let e = encodeOf x (b .session) in
       let in-e : 1448 ≤ length e = rw length-encode room in

@@ -25,15 +25,16 @@ use Rattle.vectors.proofs.Examples.{sum-3}
 use Rattle.dense.proofs.Examples.{sum-4-factored, sum-4-solved, sum-5-zero, sum-5-nan}
 use Rattle.common.specs.Layout.{column}
 use Rattle.common.specs.Rules.{firstCallInitOf, resetOf}
-use Rattle.history.specs.Columns.{predictColumnsOf, retractColumnsOf, rescaleColumnsOf, addScaledOf}
-use Rattle.history.specs.Columns.{correctColumnsOf, copyOf, slopeOf, fillOf, scalePartOf}
+use Rattle.history.specs.Columns.{predictColumnsOf, retractColumnsOf, rescaleColumnsOf, addScaledOf, correctColumnsOf}
+use Rattle.history.specs.Columns.{copyOf, slopeOf, fillOf, scalePartOf}
 use Rattle.history.specs.Steps.{limitedOf, adjustOf, staleOf, predictedOf}
 use Rattle.interpolation.proofs.Examples.{sum-7}
-use Rattle.corrector.specs.Verdict.{judgeOf, ratedOf, dconOf, estimatedOf, judgedConverged, giveUpOf, judgedFurther, judgedTested}
+use Rattle.corrector.specs.Verdict.{judgeOf, ratedOf, dconOf, estimatedOf, judgedConverged, giveUpOf, judgedFurther}
+use Rattle.corrector.specs.Verdict.{judgedTested}
 use Rattle.corrector.specs.Iterate.{openOf, adamsResidualOf, adamsUpdateOf, adamsOf, correctOf}
 use Rattle.attempt.specs.Attempt as Attempt
 use Rattle.acceptance.specs.Accept as Accept
-use Rattle.questions.specs.Turns.{askedInStepOf, finishedOf}
+use Rattle.questions.specs.Turns.{askedInStepOf, finishedOf, RunState}
 use Rattle.between_steps.specs.Begin as Begin
 use Rattle.between_steps.specs.Start as Start
 use Rattle.questions.specs.Begin as Turns
@@ -43,12 +44,11 @@ use Rattle.machine.specs.Resume.{dealtOf, resumeOf}
 use Rattle.refusals.specs.declared.Lengths.{Lengths}
 use Rattle.refusals.specs.Refusal.{alsoOf, inOrder, orElse}
 use Rattle.refusals.specs.Start as Refusals
-use Rattle.refusals.specs.Start.{startRefusalOf, settingsOf, firstStepOf}
-use Rattle.fields.specs.Fields.{Fit}
+use Rattle.refusals.specs.Start.{startRefusalOf, acceptedSettings, givenStepOf}
+use Rattle.session.specs.Fields.{Fit}
 use Rattle.session.specs.Session.{ListFits}
 use Rattle.common.specs.State.{Given}
 use Rattle.rules.specs.Rules.{Start, beginning}
-use Rattle.questions.specs.Turns.{RunState}
 use Rattle.refinement.specs.Shown.{Shown, wantsDerivative, wantsJacobian, reports, ends, refusesStep, refusesWeight}
 use Rattle.refinement.specs.Shown.{refuses, stuck, shownAs, shownBy}
 use Rattle.refinement.specs.AtNode.{startedAt}
@@ -57,7 +57,7 @@ use Rattle.invariants.proofs.Floats.{literal}
 use Rattle.invariants.proofs.Host.{fits-is-f64}
 use Rattle.answers.specs.declared.Reply.{Reply}
 use Rattle.answers.specs.Called.{Buffers, Called}
-use Rattle.starts.specs.Starts.{beganOf}
+use Rattle.raimsklo.specs.Starts.{acceptedStartOf}
 use Rattle.raimsklo.specs.Calls.{Problem, lengthsOf, startAt, startOf}
 use Rattle.calls.specs.Run.{FloatsGiven, Begins}
 use Rattle.calls.specs.Follow.{Said, saidOf, givenOf, fromOf, treeOf}
@@ -81,7 +81,7 @@ one-fits v f (suc i) h = absurd (not-suc-le-zero (le-of-suc-le-suc h))
 -- what a start makes of a row
 abbrev setOf : SumRow → Given
 setOf r = record {
-  s = settingsOf zeroF (r .problem .xend) (optionsOf (r .problem)) sizes;
+  s = acceptedSettings zeroF (r .problem .xend) (optionsOf (r .problem)) sizes;
   rtol = r .problem .rtol ∷ [];
   atol = r .problem .atol ∷ [];
 }
@@ -130,7 +130,7 @@ record Ends (r : SumRow) : Type 0 where
 
 pub begins-single : (c : Single) → Accepted c → FloatsGiven (problemOf c) → (b : Buffers)
     → lengthsOf (problemOf c) b ≡ sizes → Begins (problemOf c) b
-unfolding startOf startAt beganOf
+unfolding startOf startAt acceptedStartOf
 begins-single c accepted floats b lengths =
     let e = eq-eqb _ 0 accepted in
     record { formed = well-formed (problemOf c) b .1 (rw (lengths, e)); floats = floats }
@@ -161,7 +161,7 @@ module _ (r : SumRow) (accepted : Accepted (r .problem)) (floats : FloatsGiven (
   run = begun-run p b begins
 
   one : g .s .n ≡ 1
-  unfolding settingsOf
+  unfolding acceptedSettings
   one = refl
 
   begun : Host g a run one (startedAt g a) (startOf p b)
@@ -233,12 +233,12 @@ floats-12 : FloatsGiven (problemOf problem12)
 floats-12 = given-floats problem12 (literal _, literal _, literal _, literal _, literal _)
 
 pub accepted : Accepted problem8 × Accepted problem10 × Accepted problem11 × Accepted problem12
-unfolding startRefusalOf orElse alsoOf inOrder Refusals.sizesOf Refusals.listsOf Refusals.largeOf Refusals.limitsOf
-    Refusals.tolerancesOf Refusals.stepOf times refused signumOf negative sub lt eq ne ofBits
+unfolding startRefusalOf orElse alsoOf inOrder Refusals.sizeRefusal Refusals.lengthRefusal Refusals.largeRefusal Refusals.limitRefusal
+    Refusals.toleranceRefusal Refusals.stepRefusal times refused signumOf negative sub lt eq ne ofBits
 accepted = (refl, refl, refl, refl)
 
 computed : Ends row8 × Ends row9 × Ends row10 × Ends row11 × Ends row12
-unfolding allowed hosted shownAs settingsOf firstStepOf Refusals.smallestOf Refusals.largestOf Refusals.inverseOf
+unfolding allowed hosted shownAs acceptedSettings givenStepOf Refusals.smallestOf Refusals.largestOf Refusals.inverseOf
     Refusals.inverseLargestOf beginning dealtOf resumeOf askedInStepOf finishedOf
     Begin.setupOf Begin.preparedAt Begin.preparedOf Begin.predictedAt Begin.firstPredictionOf Turns.openPassOf
     Turns.beganOf Turns.goOnAt Turns.goOnOf Pass.attemptedAt Pass.reportedOf Pass.closedAt Pass.endStepOf Pass.acceptedAt

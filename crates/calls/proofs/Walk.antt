@@ -20,9 +20,9 @@ use Rattle.between_steps.specs.declared.Kind.{Kind}
 use Rattle.questions.specs.declared.Phase.{Phase}
 use Rattle.questions.specs.declared.Phase.the-variants as Phase
 use Rattle.questions.specs.Turns.{RunState}
-use Rattle.reports.specs.Reports.{initialOf}
+use Rattle.common.specs.Initial.{initialOf}
 use Rattle.machine.specs.Resume.{isAsked}
-use Rattle.refusals.specs.Start.{settingsOf}
+use Rattle.refusals.specs.Start.{acceptedSettings}
 use Rattle.invariants.specs.Host.{IsF64}
 use Rattle.invariants.proofs.Host.{is-f64-fits}
 use Rattle.session.specs.Session.{encodeOf}
@@ -36,9 +36,9 @@ use Rattle.refinement.specs.InRun.{InRun}
 use Rattle.refinement.proofs.Follows.{replies, follows}
 use Rattle.sqrt.specs.Rounded.{fits}
 use Rattle.refinement.proofs.Kept.{counts-after, closing-after, session-kept}
-use Rattle.answers.specs.Answers.{plainOf, answerOf}
+use Rattle.answers.specs.Answers.{plainReply, questionReply}
 use Rattle.answers.specs.Called.{Buffers, Called}
-use Rattle.replies.specs.Replies.{isKind, kindOf, questionOf}
+use Rattle.raimsklo.specs.Replies.{isKind, kindOf, questionOf}
 use Rattle.raimsklo.specs.Calls.{Problem, startOf, replyOf}
 use Rattle.calls.specs.Run.{Begins, ReplyCall, lentFor, replied, isRefusal}
 use Rattle.calls.specs.Follow.{givenOf, fromOf, treeOf, Said, says, saidBy, saidAt, fedAs, isAwaited, isSized}
@@ -99,7 +99,7 @@ module _ (g : Given) (a : Start) (run : Runs g a) where
   n = g .s .n
 
   abbrev pub leaves : Called → ReplyCall → ℕ → Called
-  leaves x r number = record { reply = plainOf number 0 zeroF zeroF; lent = lentFor x r }
+  leaves x r number = record { reply = plainReply number 0 zeroF zeroF; lent = lentFor x r }
 
   -- of the kind and length asked, with a question slice of the right length; what refuses any other
   abbrev pub isFitting : Play → ReplyCall → Bool
@@ -111,7 +111,7 @@ module _ (g : Given) (a : Start) (run : Runs g a) where
   -- a reply that is taken
   pub record Went (t : Play) (l : RunState) (x : Called) (r : ReplyCall) : Type 0 where
     pub at : At (treeNext t (fedAs r)) (resumed g l (fedAs r)) (replied x r)
-    pub answer : replied x r .reply ≡ answerOf (resumed g l (fedAs r) .turn .question)
+    pub answer : replied x r .reply ≡ questionReply (resumed g l (fedAs r) .turn .question)
     pub agrees : let u = resumed g l (fedAs r) .turn in Agrees (u .question) (u .phase) (u .common)
     pub said : saidBy (replied x r) ≡ saidAt n (treeNext t (fedAs r)) (r .question)
 
@@ -164,7 +164,7 @@ module _ (g : Given) (a : Start) (run : Runs g a) where
       put = questionOf (g .s) (m .turn .phase) (m .turn .common) (m .work) (r .question)
 
       answered-taken : replied x r ≡ record {
-        reply = answerOf (m .turn .question);
+        reply = questionReply (m .turn .question);
         lent = lentOf m (encodeOf (sessionOf g m) (x .lent .session)) put;
       }
       answered-taken =
@@ -210,7 +210,7 @@ module _ (g : Given) (a : Start) (run : Runs g a) where
 
   -- ---- what both outcomes have
 
-  refused-refusal : (b : Bool) → isRefusal (plainOf (cond b 14 3) 0 zeroF zeroF) ≡ true
+  refused-refusal : (b : Bool) → isRefusal (plainReply (cond b 14 3) 0 zeroF zeroF) ≡ true
   refused-refusal true = refl
   refused-refusal false = refl
 
@@ -228,8 +228,8 @@ module _ (g : Given) (a : Start) (run : Runs g a) where
     pub said : saidBy (replied x r) ≡ saidTo n t r
 
   said-to : (b c : Bool) (z : Said) (q : List Float)
-      → cond b (cond c z (says (plainOf 14 0 zeroF zeroF) q)) (says (plainOf 3 0 zeroF zeroF) q)
-      ≡ cond (b && c) z (says (plainOf (cond b 14 3) 0 zeroF zeroF) q)
+      → cond b (cond c z (says (plainReply 14 0 zeroF zeroF) q)) (says (plainReply 3 0 zeroF zeroF) q)
+      ≡ cond (b && c) z (says (plainReply (cond b 14 3) 0 zeroF zeroF) q)
   said-to true true z q = refl
   said-to true false z q = refl
   said-to false c z q = refl
@@ -280,7 +280,7 @@ module _ (p : Problem) (b : Buffers) (begins : Begins p b) where
       })
 
   pub begun-says : saidBy (startOf p b) ≡ saidAt (g .s .n) (treeOf p b) (b .question)
-  unfolding start beginning initialOf settingsOf
+  unfolding start beginning initialOf acceptedSettings
   begun-says =
       let n = length (p .y0) in
       let zeros = replicate (n * n + 19 * n) zeroF in

@@ -21,14 +21,13 @@ use Rattle.refusals.specs.Start.{isNegative, startRefusalOf}
 use Rattle.refusals.specs.Accepted.{Started}
 use Rattle.refusals.specs.FirstStep.{StepTaken}
 use Rattle.refusals.specs.Rows.{Row, NoneHolds}
-use Rattle.refusals.specs.Table.{NotOneOrN, WrongList, WrongSlice, LargeSetting}
-use Rattle.refusals.specs.Table.{stepRow, startRows}
+use Rattle.refusals.specs.Table.{NotOneOrN, WrongList, WrongSlice, LargeSetting, stepRow, startRows}
 use Rattle.refusals.proofs.Accepted.{accepted}
 use Rattle.refusals.proofs.FirstStep.{step-taken, taken-not-refused}
 use Rattle.refusals.proofs.Rows.{none-holds}
 use Rattle.refusals.proofs.Table.{none-tolerances, first-row, at-most-eleven}
 use Rattle.answers.specs.Called.{Buffers, Called}
-use Rattle.starts.specs.Starts.{beganOf}
+use Rattle.raimsklo.specs.Starts.{acceptedStartOf}
 use Rattle.raimsklo.specs.Calls.{Problem, lengthsOf, startAt, startOf}
 use Rattle.calls.specs.WellFormed.{WellFormed}
 
@@ -65,7 +64,7 @@ module _ (p : Problem) (b : Buffers) where
       (omega arith, at-number (eqb (refusalOf p b .number) 0) refl (rw e at h))
 
   pub start-number-is : (startOf p b .reply .number ≡ 100) ↔ ((1 ≤ length (p .y0)) × (refusalOf p b .number ≡ 0))
-  unfolding startAt beganOf
+  unfolding startAt acceptedStartOf
   start-number-is = (
         λ h. start-at (eqb (length (p .y0)) 0) refl h,
         λ k. ap (λ (x : Called). x .reply .number) (some-start (k .0)) ∙ rw (eq-eqb _ _ (k .1)),

@@ -17,7 +17,7 @@ use Rattle.refusals.specs.Rows.{Row, ExactlyFirst}
 use Rattle.common.specs.State.{State}
 use Rattle.rules.specs.Pass.{put-w}
 use Rattle.rules.specs.Rules.{beginning, firstStep, firstWeights}
-use Rattle.answers.specs.Answers.{refusedOf}
+use Rattle.answers.specs.Answers.{refusalReply}
 use Rattle.answers.specs.Called.{Buffers}
 use Rattle.raimsklo.specs.Calls.{Problem, startOf}
 use Rattle.calls.specs.Run.{ReplyCall, replied}
@@ -56,4 +56,4 @@ firstRows p b f = weightRows p (length (p .y0)) 0 (sizeRow p b f ∷ [])
 abbrev pub FirstExactly : Problem → Buffers → ReplyCall → Type 0
 FirstExactly p b r =
     let a = replied (startOf p b) r .reply in
-    ExactlyFirst (λ q. a ≡ refusedOf q) (a .number ≡ 102) (Unit {0}) (firstRows p b (r .numbers))
+    ExactlyFirst (λ q. a ≡ refusalReply q) (a .number ≡ 102) (Unit {0}) (firstRows p b (r .numbers))

@@ -17,7 +17,7 @@ use Rattle.between_steps.specs.declared.Kind.the-variants as Kind
 use Rattle.questions.specs.declared.Phase.{Phase}
 use Rattle.questions.specs.declared.Phase.the-variants as Phase
 use Rattle.machine.specs.Resume.{isAsked}
-use Rattle.refusals.specs.Start.{settingsOf, firstStepOf, smallestOf, inverseLargestOf}
+use Rattle.refusals.specs.Start.{acceptedSettings, givenStepOf, smallestOf, inverseLargestOf}
 use Rattle.invariants.specs.Host.{IsF64}
 use Rattle.session.specs.Session.{decodeOf, rtolSlots, atolSlots}
 use Rattle.rules.specs.Play.{derivativeAt, jacobianAt, Report, Play, ret, ask, tell, say}
@@ -28,9 +28,9 @@ use Rattle.refinement.specs.Shown.{Shown, wantsDerivative, wantsJacobian, repor
 use Rattle.refinement.specs.Shown.{refuses, stuck, wantedAt, shownAt, asks, treeNext, stepIf, keepIf}
 use Rattle.refinement.specs.Follows.{stateAt}
 use Rattle.answers.specs.declared.Reply.{Reply}
-use Rattle.answers.specs.Answers.{plainOf, endOf}
+use Rattle.answers.specs.Answers.{plainReply, endReply}
 use Rattle.answers.specs.Called.{Buffers, Called}
-use Rattle.replies.specs.Replies.{isKind, kindOf}
+use Rattle.raimsklo.specs.Replies.{isKind, kindOf}
 use Rattle.raimsklo.specs.Calls.{Problem, lengthsOf, startOf}
 use Rattle.calls.specs.Run.{ReplyCall, TimesF64, Solver, lentFor, callsBy, lastBy, ours, replied, lastOf}
 use Rattle.calls.specs.Run.{isRefusal, takenReplies}
@@ -39,7 +39,7 @@ use Rattle.calls.specs.Run.{isRefusal, takenReplies}
 
 abbrev pub givenOf : Problem → Buffers → Given
 givenOf p b = record {
-  s = settingsOf (p .x0) (p .xend) (p .options) (lengthsOf p b);
+  s = acceptedSettings (p .x0) (p .xend) (p .options) (lengthsOf p b);
   rtol = p .rtol;
   atol = p .atol;
 }
@@ -47,7 +47,7 @@ givenOf p b = record {
 abbrev pub fromOf : Problem → Start
 fromOf p = record {
   x0 = p .x0;
-  h = firstStepOf (p .options);
+  h = givenStepOf (p .options);
   hmin = smallestOf (p .options);
   hmxi = inverseLargestOf (p .x0) (p .xend) (p .options);
   y0 = p .y0;
@@ -85,15 +85,15 @@ reportedAs order r = record {
 -- what the tree shows, said by a call that was lent the question q: the state stands first (in a difference column the
 -- perturbed one), a report's snapshot from n on, and the rest is as lent; an end leaves the question
 abbrev pub saidOf : ℕ → ℕ → Shown → List Float → Said
-saidOf n order (wantsDerivative t v) q = says (plainOf 100 0 zeroF t) (putPart 0 n q v)
-saidOf n order (wantsJacobian t v) q = says (plainOf 101 0 zeroF t) (putPart 0 n q v)
+saidOf n order (wantsDerivative t v) q = says (plainReply 100 0 zeroF t) (putPart 0 n q v)
+saidOf n order (wantsJacobian t v) q = says (plainReply 101 0 zeroF t) (putPart 0 n q v)
 saidOf n order (reports r) q =
     says (reportedAs order r) (putPart n (length (r .snapshot)) (putPart 0 n q (r .y)) (r .snapshot))
-saidOf n order (ends e) q = says (endOf e) q
-saidOf n order (refusesStep h) q = says (plainOf 11 0 h zeroF) q
-saidOf n order (refusesWeight i) q = says (plainOf 12 i zeroF zeroF) q
-saidOf n order refuses q = says (plainOf 14 0 zeroF zeroF) q
-saidOf n order stuck q = says (plainOf 0 0 zeroF zeroF) q -- never seen
+saidOf n order (ends e) q = says (endReply e) q
+saidOf n order (refusesStep h) q = says (plainReply 11 0 h zeroF) q
+saidOf n order (refusesWeight i) q = says (plainReply 12 i zeroF zeroF) q
+saidOf n order refuses q = says (plainReply 14 0 zeroF zeroF) q
+saidOf n order stuck q = says (plainReply 0 0 zeroF zeroF) q -- never seen
 
 abbrev pub saidAt : ℕ → Play → List Float → Said
 saidAt n t q = saidOf n (stateAt t .c .nq) (shownAt t) q
@@ -115,8 +115,8 @@ isSized n r = eqb (length (r .question)) (14 * n + 6)
 abbrev pub saidTo : ℕ → Play → ReplyCall → Said
 saidTo n t r =
     cond (isSized n r)
-    (cond (isAwaited n t r) (saidAt n (treeNext t (fedAs r)) (r .question)) (says (plainOf 14 0 zeroF zeroF) (r .question)))
-    (says (plainOf 3 0 zeroF zeroF) (r .question))
+    (cond (isAwaited n t r) (saidAt n (treeNext t (fedAs r)) (r .question)) (says (plainReply 14 0 zeroF zeroF) (r .question)))
+    (says (plainReply 3 0 zeroF zeroF) (r .question))
 
 -- where the tree stands then; a refused reply is passed over
 abbrev pub nextOf : ℕ → Play → ReplyCall → Play

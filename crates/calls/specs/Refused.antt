@@ -9,7 +9,7 @@ use Prim.Native.Nat.{ℕ, _≤_}
 use lib.ListN.{length}
 use lib.Ieee.{Float}
 use Rattle.numbers.specs.Float.{zeroF}
-use Rattle.answers.specs.Answers.{plainOf}
+use Rattle.answers.specs.Answers.{plainReply}
 use Rattle.answers.specs.Called.{Buffers}
 use Rattle.raimsklo.specs.Calls.{Problem, startOf, replyOf}
 use Rattle.calls.specs.Run.{isRefusal}
@@ -17,7 +17,7 @@ use Rattle.calls.specs.Run.{isRefusal}
 pub record RefusedUnchanged : Type 0 where
   -- an empty y0: success, h 0, all counts 0
   pub empty : (p : Problem) (b : Buffers) → length (p .y0) ≡ 0
-      → startOf p b ≡ record { reply = plainOf 110 0 zeroF zeroF; lent = b }
+      → startOf p b ≡ record { reply = plainReply 110 0 zeroF zeroF; lent = b }
   -- any other start wants the first derivative or is refused, by 1 to 11
   pub starts : (p : Problem) (b : Buffers) → 1 ≤ length (p .y0)
       → let k = startOf p b .reply .number in (k ≡ 100) ⊎ ((1 ≤ k) × (k ≤ 11))

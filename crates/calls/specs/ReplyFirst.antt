@@ -16,11 +16,9 @@ use Rattle.vectors.specs.Weights.{ewsetOf}
 use Rattle.common.specs.Layout.{ewtAt, yAt, ewt}
 use Rattle.history.specs.Columns.{copyOf}
 use Rattle.questions.specs.declared.Phase.the-variants as Phase
-use Rattle.between_steps.specs.Start.{withDerivative}
-use Rattle.between_steps.specs.Start.{firstStepOf}
-use Rattle.between_steps.specs.Start.{inverted}
+use Rattle.between_steps.specs.Start.{withDerivative, firstStepOf, inverted}
 use Rattle.session.specs.Session.{decodeOf, rtolOf, atolOf}
-use Rattle.answers.specs.Answers.{plainOf}
+use Rattle.answers.specs.Answers.{plainReply}
 use Rattle.answers.specs.Called.{Buffers}
 use Rattle.raimsklo.specs.Calls.{replyOf}
 use Rattle.refusals.specs.Rows.{NoneHolds}
@@ -55,9 +53,9 @@ isRefused f b = refused (storedStep f b) (decodeOf (b .session) .settings .direc
 
 pub record FirstDerivative (kind : ℕ) (numbers : List Float) (time : Float) (b : Buffers) : Type 0 where
   pub weight : NoneHolds (replyRows kind numbers b) → phaseIn b ≡ Phase.FirstDerivative → (i : ℕ)
-      → (replyOf kind numbers time b .reply ≡ plainOf 12 i zeroF zeroF) ↔ FirstBad (storedWeights numbers b) i
+      → (replyOf kind numbers time b .reply ≡ plainReply 12 i zeroF zeroF) ↔ FirstBad (storedWeights numbers b) i
   pub step : NoneHolds (replyRows kind numbers b) → phaseIn b ≡ Phase.FirstDerivative
-      → (replyOf kind numbers time b .reply ≡ plainOf 11 0 (storedStep numbers b) zeroF)
+      → (replyOf kind numbers time b .reply ≡ plainReply 11 0 (storedStep numbers b) zeroF)
       ↔ (AllGood (storedWeights numbers b) × (isRefused numbers b ≡ true))
   pub report : NoneHolds (replyRows kind numbers b) → phaseIn b ≡ Phase.FirstDerivative
       → (replyOf kind numbers time b .reply .number ≡ 102)

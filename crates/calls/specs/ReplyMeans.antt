@@ -37,12 +37,11 @@ use Rattle.between_steps.specs.Pass.{isSupplied}
 use Rattle.session.specs.Session.{decodeOf, encodeOf}
 use Rattle.refusals.specs.Rows.{NoneHolds}
 use Rattle.answers.specs.declared.Reply.{Reply}
-use Rattle.answers.specs.Answers.{plainOf, answerOf}
+use Rattle.answers.specs.Answers.{plainReply, questionReply}
 use Rattle.answers.specs.Called.{Buffers}
-use Rattle.replies.specs.Replies.{kindOf, turned}
+use Rattle.raimsklo.specs.Replies.{kindOf, turned}
 use Rattle.raimsklo.specs.Calls.{replyOf}
-use Rattle.calls.specs.ReplyRefused.{derivative, jacobian, nothing, awaits, phaseIn}
-use Rattle.calls.specs.ReplyRefused.{replyRows}
+use Rattle.calls.specs.ReplyRefused.{derivative, jacobian, nothing, awaits, phaseIn, replyRows}
 
 -- ---- the numbers
 
@@ -91,18 +90,18 @@ endFrom status c = record {
 
 -- of the questions and the ends
 pub record Numbers : Type 0 where
-  pub derivative : (a : At) → answerOf (Question.Derivative a) ≡ plainOf 100 0 zeroF (a .time)
-  pub jacobian : (a : At) → answerOf (Question.Jacobian a) ≡ plainOf 101 0 zeroF (a .time)
-  pub first : (a : At) → answerOf (Question.FirstReport a) .number ≡ 102
-  pub report : (r : Step) → answerOf (Question.Report r) .number ≡ 103
-  pub success : (c : Common) → answerOf (Question.Finished (endFrom Status.Success c)) ≡ endedBy 110 c
-  pub interrupted : (c : Common) → answerOf (Question.Finished (endFrom Status.Interrupted c)) ≡ endedBy 111 c
-  pub more : (c : Common) → answerOf (Question.Finished (endFrom Status.NeedsMoreSteps c)) ≡ endedBy 112 c
-  pub small : (c : Common) → answerOf (Question.Finished (endFrom Status.StepTooSmall c)) ≡ endedBy 113 c
-  pub poor : (c : Common) → answerOf (Question.Finished (endFrom Status.PoorConvergence c)) ≡ endedBy 114 c
-  pub gap : (c : Common) → answerOf (Question.Finished (endFrom Status.CoefficientGap c)) ≡ endedBy 115 c
-  pub step : (h : Float) → answerOf (Question.StepRefused h) ≡ plainOf 11 0 h zeroF
-  pub weight : (i : ℕ) → answerOf (Question.WeightRefused i) ≡ plainOf 12 i zeroF zeroF
+  pub derivative : (a : At) → questionReply (Question.Derivative a) ≡ plainReply 100 0 zeroF (a .time)
+  pub jacobian : (a : At) → questionReply (Question.Jacobian a) ≡ plainReply 101 0 zeroF (a .time)
+  pub first : (a : At) → questionReply (Question.FirstReport a) .number ≡ 102
+  pub report : (r : Step) → questionReply (Question.Report r) .number ≡ 103
+  pub success : (c : Common) → questionReply (Question.Finished (endFrom Status.Success c)) ≡ endedBy 110 c
+  pub interrupted : (c : Common) → questionReply (Question.Finished (endFrom Status.Interrupted c)) ≡ endedBy 111 c
+  pub more : (c : Common) → questionReply (Question.Finished (endFrom Status.NeedsMoreSteps c)) ≡ endedBy 112 c
+  pub small : (c : Common) → questionReply (Question.Finished (endFrom Status.StepTooSmall c)) ≡ endedBy 113 c
+  pub poor : (c : Common) → questionReply (Question.Finished (endFrom Status.PoorConvergence c)) ≡ endedBy 114 c
+  pub gap : (c : Common) → questionReply (Question.Finished (endFrom Status.CoefficientGap c)) ≡ endedBy 115 c
+  pub step : (h : Float) → questionReply (Question.StepRefused h) ≡ plainReply 11 0 h zeroF
+  pub weight : (i : ℕ) → questionReply (Question.WeightRefused i) ≡ plainReply 12 i zeroF zeroF
 
 -- ---- what held
 
@@ -144,7 +143,7 @@ pub record ReplyMeans (kind : ℕ) (numbers : List Float) (time : Float) (b : Bu
   pub listed : Listed (replyOf kind numbers time b .reply .number)
   -- taken: the machine's turn is answered and kept
   pub answered : NoneHolds (replyRows kind numbers b)
-      → replyOf kind numbers time b .reply ≡ answerOf (turned (kindOf kind) numbers time b .turn .question)
+      → replyOf kind numbers time b .reply ≡ questionReply (turned (kindOf kind) numbers time b .turn .question)
   pub kept : NoneHolds (replyRows kind numbers b)
       → let t = turned (kindOf kind) numbers time b .turn in
       let s = decodeOf (b .session) .settings in
@@ -161,10 +160,10 @@ pub record ReplyMeans (kind : ℕ) (numbers : List Float) (time : Float) (b : Bu
   -- modified (5): a derivative is wanted, at the time given at the first report, and after a step at the time before it
   -- plus hu
   pub first-modified : NoneHolds (replyRows kind numbers b) → phaseIn b ≡ Phase.FirstReport → kind ≡ 5
-      → replyOf kind numbers time b .reply ≡ plainOf 100 0 zeroF time
+      → replyOf kind numbers time b .reply ≡ plainReply 100 0 zeroF time
   pub modified : NoneHolds (replyRows kind numbers b) → phaseIn b ≡ Phase.Report → kind ≡ 5
       → let c = decodeOf (b .session) .common in
-      replyOf kind numbers time b .reply ≡ plainOf 100 0 zeroF (c .told ⊕ c .hu)
+      replyOf kind numbers time b .reply ≡ plainReply 100 0 zeroF (c .told ⊕ c .hu)
   -- continue (3): success where the interval is done at the time given, needs more steps where max_steps are accepted,
   -- else a step's first derivative is wanted
   pub done : NoneHolds (replyRows kind numbers b) → AtReport (phaseIn b) → kind ≡ 3

@@ -14,11 +14,11 @@ use Rattle.common.specs.Layout.{workLength}
 use Rattle.common.specs.Limits.{maxStates}
 use Rattle.questions.specs.declared.Phase.{Phase}
 use Rattle.questions.specs.declared.Phase.the-variants as Phase
-use Rattle.fields.specs.States.{phaseOf}
+use Rattle.session.specs.States.{phaseOf}
 use Rattle.session.specs.Names as Word
 use Rattle.session.specs.InRange.{InRange}
 use Rattle.refusals.specs.Rows.{Row, row, NoneHolds, FirstIs}
-use Rattle.answers.specs.Answers.{plainOf}
+use Rattle.answers.specs.Answers.{plainReply}
 use Rattle.answers.specs.Called.{Buffers}
 use Rattle.raimsklo.specs.Calls.{replyOf}
 use Rattle.calls.specs.Run.{isRefusal}
@@ -80,6 +80,6 @@ pub record ReplyRefused (kind : ℕ) (numbers : List Float) (time : Float) (b : 
   pub fourteen : (replyOf kind numbers time b .reply .number ≡ 14) ↔ FirstIs 14 (replyRows kind numbers b)
   -- the number alone is answered, and all that was lent is as it was
   pub unchanged : (k : ℕ) → FirstIs k (replyRows kind numbers b)
-      → replyOf kind numbers time b ≡ record { reply = plainOf k 0 zeroF zeroF; lent = b }
+      → replyOf kind numbers time b ≡ record { reply = plainReply k 0 zeroF zeroF; lent = b }
   -- not refused exactly if no row holds
   pub taken : (isRefusal (replyOf kind numbers time b .reply) ≡ false) ↔ NoneHolds (replyRows kind numbers b)

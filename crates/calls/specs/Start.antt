@@ -8,7 +8,7 @@ use Rattle.loops.specs.Part.{putPart}
 use Rattle.refusals.specs.declared.Refusal.{Refusal}
 use Rattle.refusals.specs.Rows.{Row, row, ExactlyFirst}
 use Rattle.refusals.specs.Table.{startRows}
-use Rattle.answers.specs.Answers.{refusedOf}
+use Rattle.answers.specs.Answers.{refusalReply}
 use Rattle.answers.specs.Called.{Buffers}
 use Rattle.raimsklo.specs.Calls.{Problem, lengthsOf, startOf}
 
@@ -20,7 +20,7 @@ startCallRows p b =
 
 -- a row's number, index and value, all else 0, and everything that was lent as it was
 abbrev pub Returned : Problem → Buffers → Refusal → Type 0
-Returned p b r = startOf p b ≡ record { reply = refusedOf r; lent = b }
+Returned p b r = startOf p b ≡ record { reply = refusalReply r; lent = b }
 
 -- a row is returned exactly if its condition holds and no earlier one does; the first derivative is wanted (100)
 -- exactly if none holds

@@ -1,13 +1,14 @@
 // The record of a run: what a start fixes (Settings), and what the steps go by and change (Common: hmin and hmxi are
-// the start's, no step changes them), both passed by value, with
-// the rules that touch the record alone: the limits in force, first-call setup, reset.
+// the start's, no step changes them), both passed by value, with the rules that touch the record alone: the limits in
+// force, first-call setup, reset. What names every field is made by tools/record.py, which has the recipe of a new one.
 // The comment behind a field is its line in docs/SESSION.md.
 ghost use mathlib.Core.Path.{_≡_};
 ghost use mathlib.Core.Bool.{Bool};
 ghost use Prim.Native.Nat.{_+_, _*_, _≤_, _<_};
 ghost use Rattle.common.specs.Record.{isBdf, with-meth};
-ghost use Rattle.common.specs.Limits.{mxordnOf, mxordsOf, msbpOf, mxncfOf, maxordOf};
+ghost use Rattle.common.specs.Limits.{maxStates, mxordnOf, mxordsOf, msbpOf, mxncfOf, maxordOf};
 ghost use Rattle.common.specs.Rules.{firstCallInitOf, resetOf, tinyOf, orderInForceOf, elOf};
+ghost use Rattle.common.specs.Initial.{initialOf};
 
 // The largest number of states.
 pub const MAX_STATES: usize = 64;
@@ -20,6 +21,17 @@ pub const ACOR: usize = 16;
 pub const Y: usize = 17;
 pub const Y_FD: usize = 18;
 pub const MATRIX: usize = 19;
+
+// made by tools/record.py: the words of a session
+// A session is a row of words of eight bytes: counts, flags and states, then floats, then MAX_STATES slots for each of
+// the two tolerance lists.
+pub const COUNT_WORDS: usize = 34;
+pub const FLOAT_WORDS: usize = 19;
+pub const RTOL_AT: usize = COUNT_WORDS + FLOAT_WORDS;
+pub const ATOL_AT: usize = RTOL_AT + MAX_STATES;
+pub const SESSION_WORDS: usize = ATOL_AT + MAX_STATES;
+pub const SESSION_LENGTH: usize = 8 * SESSION_WORDS;
+// end of the words of a session
 
 pub enum MethodFamily {
     Adams,
@@ -131,53 +143,6 @@ pub fn is_bdf(meth: MethodFamily) -> bool
     }
 }
 
-// The record with another family.
-pub fn with_family(c: Common, meth: MethodFamily) -> Common
-    ensures { λ r. ⌜ r ≡ with-meth meth c ⌝ }
-{
-    Common {
-        hmin: c.hmin,
-        hmxi: c.hmxi,
-        tn: c.tn,
-        h: c.h,
-        hu: c.hu,
-        told: c.told,
-        rc: c.rc,
-        el0: c.el0,
-        conit: c.conit,
-        rmax: c.rmax,
-        pdest: c.pdest,
-        pdlast: c.pdlast,
-        pdnorm: c.pdnorm,
-        convrate: c.convrate,
-        pnorm: c.pnorm,
-        rate: c.rate,
-        delp: c.delp,
-        meth: meth,
-        nq: c.nq,
-        lmax: c.lmax,
-        nqnyh: c.nqnyh,
-        ialth: c.ialth,
-        icount: c.icount,
-        table: c.table,
-        nslp: c.nslp,
-        nst: c.nst,
-        nfe: c.nfe,
-        nje: c.nje,
-        nlu: c.nlu,
-        rejected: c.rejected,
-        total: c.total,
-        count: c.count,
-        kflag: c.kflag,
-        ncf: c.ncf,
-        m: c.m,
-        column: c.column,
-        due: c.due,
-        jcur: c.jcur,
-        setup: c.setup,
-    }
-}
-
 // The largest order of the family in force.
 pub fn maxord(s: Settings, c: Common) -> usize
     ensures { λ r. ⌜ r ≡ maxordOf s (c .meth) ⌝ }
@@ -228,7 +193,7 @@ pub fn el(s: Settings, c: Common, j: usize) -> f64
 }
 
 pub fn stoda_reset(s: Settings, c: Common) -> Common
-    requires { ⌜ (s .n ≤ 64) × (c .table ≤ 2) × (1 ≤ c .nq) × (c .nq ≤ 12) ⌝ }
+    requires { ⌜ (s .n ≤ maxStates) × (c .table ≤ 2) × (1 ≤ c .nq) × (c .nq ≤ 12) ⌝ }
     ensures { λ r. ⌜ r ≡ resetOf s c ⌝ }
 {
     let el0 = coefficients::elco(c.table, c.nq, 0);
@@ -247,3 +212,106 @@ pub fn is_tiny(c: Common) -> bool
 {
     numbers::abs(c.h) <= c.hmin * 1.00001
 }
+
+// made by tools/record.py: the functions that name every field
+// The record with another family.
+pub fn with_family(c: Common, meth: MethodFamily) -> Common
+    ensures { λ r. ⌜ r ≡ with-meth meth c ⌝ }
+{
+    Common {
+        hmin: c.hmin,
+        hmxi: c.hmxi,
+        tn: c.tn,
+        h: c.h,
+        hu: c.hu,
+        told: c.told,
+        rc: c.rc,
+        el0: c.el0,
+        conit: c.conit,
+        rmax: c.rmax,
+        pdest: c.pdest,
+        pdlast: c.pdlast,
+        pdnorm: c.pdnorm,
+        convrate: c.convrate,
+        pnorm: c.pnorm,
+        rate: c.rate,
+        delp: c.delp,
+        nq: c.nq,
+        lmax: c.lmax,
+        nqnyh: c.nqnyh,
+        ialth: c.ialth,
+        icount: c.icount,
+        table: c.table,
+        nslp: c.nslp,
+        nst: c.nst,
+        nfe: c.nfe,
+        nje: c.nje,
+        nlu: c.nlu,
+        rejected: c.rejected,
+        total: c.total,
+        count: c.count,
+        kflag: c.kflag,
+        ncf: c.ncf,
+        m: c.m,
+        column: c.column,
+        meth: meth,
+        due: c.due,
+        jcur: c.jcur,
+        setup: c.setup,
+    }
+}
+
+// The record at the start, with the first step where it is given; the first derivative is asked for.
+pub fn initial(s: Settings, x0: f64, h: f64, hmin: f64, hmxi: f64) -> Common
+    ensures { λ r. ⌜ r ≡ initialOf s x0 h hmin hmxi ⌝ }
+{
+    let a = mxordn(s);
+    let b = mxords(s);
+    let mut order = a;
+    if a < b {
+        order = b;
+    }
+    let lmax = order + 1;
+    Common {
+        hmin: hmin,
+        hmxi: hmxi,
+        tn: x0,
+        h: h,
+        hu: 0.0,
+        told: x0,
+        rc: 0.0,
+        el0: 1.0,
+        conit: 0.0,
+        rmax: 0.0,
+        pdest: 0.0,
+        pdlast: 0.0,
+        pdnorm: 0.0,
+        convrate: 0.7,
+        pnorm: 0.0,
+        rate: 0.0,
+        delp: 0.0,
+        nq: 1,
+        lmax: lmax,
+        nqnyh: s.n,
+        ialth: 2,
+        icount: 1000020,
+        table: 0,
+        nslp: 0,
+        nst: 0,
+        nfe: 1,
+        nje: 0,
+        nlu: 0,
+        rejected: 0,
+        total: 0,
+        count: 0,
+        kflag: 0,
+        ncf: 0,
+        m: 0,
+        column: 0,
+        meth: MethodFamily::Adams,
+        due: false,
+        jcur: false,
+        setup: true,
+    }
+}
+// end of the functions that name every field

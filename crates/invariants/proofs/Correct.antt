@@ -20,7 +20,7 @@ use Rattle.corrector.specs.declared.Verdict.{Verdict}
 use Rattle.corrector.specs.Verdict.{rmOf, ratedOf, dconOf, pdestOf, estimatedOf, judgedConverged, giveUpOf, strays}
 use Rattle.corrector.specs.Verdict.{judgedFurther, judgedTested, ratedVerdict, solvedVerdict, judgeOf}
 use Rattle.corrector.specs.Iterate.{openOf, Corrected, adamsOf, bdfOf, bdfResidualOf, correctIn, correctOf}
-use Rattle.fields.specs.Fields.{Fit}
+use Rattle.session.specs.Fields.{Fit}
 use Rattle.invariants.proofs.Floats.{either, literal, product, quotient, maximum}
 use Rattle.invariants.proofs.Sizes.{norm}
 use Rattle.invariants.proofs.Records.{CommonFits, put-rc, put-pdest, put-pdlast, put-pdnorm, put-convrate}

@@ -17,12 +17,12 @@ use Rattle.between_steps.specs.declared.Kind.{Kind}
 use Rattle.between_steps.specs.Begin.{isCut, cutOf, setupOf, preparedAt, preparedOf, predictedAt, firstPredictionOf}
 use Rattle.between_steps.specs.Start.{firstStepOf as stepOf}
 use Rattle.questions.specs.declared.Session.{Session}
-use Rattle.reports.specs.Reports.{initialOf}
+use Rattle.common.specs.Initial.{initialOf}
 use Rattle.machine.specs.Resume.{With, resumeOf}
 use Rattle.refusals.specs.declared.Options.{Options}
 use Rattle.refusals.specs.declared.Lengths.{Lengths}
-use Rattle.refusals.specs.Start.{largestOf, smallestOf, inverseOf, inverseLargestOf, settingsOf, firstStepOf}
-use Rattle.fields.specs.Fields.{Fit, FloatsFit}
+use Rattle.refusals.specs.Start.{largestOf, smallestOf, inverseOf, inverseLargestOf, acceptedSettings, givenStepOf}
+use Rattle.session.specs.Fields.{Fit, FloatsFit}
 use Rattle.invariants.specs.Next.{startedSession, sessionAfter}
 use Rattle.invariants.proofs.Keeps.{Invariant, each, any, after-pass, Keeps}
 use Rattle.invariants.proofs.Walk.{resume-keeps}
@@ -130,8 +130,8 @@ inverse-largest-fits : (x0 xend : Float) (o : Options) → Fit (inverseLargestOf
 unfolding inverseLargestOf
 inverse-largest-fits x0 xend o = inverse-fits (largestOf o (xend ⊖ x0))
 
-first-step-fits : (o : Options) → Fit (o .«first_step») → Fit (firstStepOf o)
-unfolding firstStepOf
+first-step-fits : (o : Options) → Fit (o .«first_step») → Fit (givenStepOf o)
+unfolding givenStepOf
 first-step-fits o p = either Fit (eqb (o .«has_first_step») 0) zeroF _ (literal _) p
 
 initial-fits : (s : Settings) (x0 h hmin hmxi : Float) → Fit x0 → Fit h → Fit hmin → Fit hmxi
@@ -146,8 +146,8 @@ initial-fits s x0 h hmin hmxi p q m i = record {
 
 pub start-fits : (x0 xend : Float) (o : Options) (l : Lengths) → Fit x0 → Fit xend → Fit (o .«min_step»)
     → Fit (o .«first_step») → FloatsFit (startedSession x0 xend o l)
-unfolding settingsOf
+unfolding acceptedSettings
 start-fits x0 xend o l p q m h =
     floats (startedSession x0 xend o l) q (signum (xend ⊖ x0))
-    (initial-fits (settingsOf x0 xend o l) x0 (firstStepOf o) (smallestOf o) (inverseLargestOf x0 xend o)
+    (initial-fits (acceptedSettings x0 xend o l) x0 (givenStepOf o) (smallestOf o) (inverseLargestOf x0 xend o)
     p (first-step-fits o h) (smallest-fits o m) (inverse-largest-fits x0 xend o))

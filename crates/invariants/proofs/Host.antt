@@ -2,12 +2,12 @@
 --     every-f64     over all patterns of 64 bits
 --     is-f64-fits, fits-is-f64
 -- Assumes nothing.
-use mathlib.Core.Path.{_≡_, sym}
+use mathlib.Core.Path.{sym}
 use Prim.Native.Nat.{ℕ, _^_, _<_}
 use lib.Ieee as Ieee
 use lib.Ieee.{Float, binary64}
 use lib.Ieee.Bits.{ofBits-fits, ofBits-toBits, toBits-lt}
-use Rattle.fields.specs.Fields.{Fit}
+use Rattle.session.specs.Fields.{Fit}
 use Rattle.invariants.specs.Host.{IsF64}
 
 pub every-f64 : (b : ℕ) → b < 2 ^ 64 → Fit (Ieee.ofBits binary64 b)

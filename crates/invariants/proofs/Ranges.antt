@@ -29,7 +29,7 @@ use Rattle.between_steps.proofs.Within.{Core, coreOf, Within, range-of, within-
 use Rattle.between_steps.proofs.Within.{within-column, within-unconverged, within-failed, failed-pass, failed-restep}
 use Rattle.between_steps.proofs.Within.{within-restep, within-restart, within-first, within-another, within-accept}
 use Rattle.questions.specs.declared.Session.{Session}
-use Rattle.reports.specs.Reports.{initialOf}
+use Rattle.common.specs.Initial.{initialOf}
 use Rattle.machine.specs.Resume.{With, resumeOf}
 use Rattle.invariants.proofs.Keeps.{Invariant, each, any, after-pass, Keeps}
 use Rattle.invariants.proofs.Walk.{resume-keeps}

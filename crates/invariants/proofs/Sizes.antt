@@ -19,9 +19,9 @@ use Rattle.vectors.specs.FirstStep.{initialStepOf}
 use Rattle.common.specs.declared.Settings.{Settings}
 use Rattle.common.specs.declared.Common.{Common}
 use Rattle.between_steps.specs.Start.{firstSizeOf}
-use Rattle.fields.specs.Fields.{Fit}
-use Rattle.invariants.proofs.Floats.{either, literal, difference, product, quotient, absolute, copysign, maximum}
-use Rattle.invariants.proofs.Floats.{minimum}
+use Rattle.session.specs.Fields.{Fit}
+use Rattle.invariants.proofs.Floats.{either, literal, difference, product, quotient, absolute, copysign}
+use Rattle.invariants.proofs.Floats.{maximum, minimum}
 
 -- a maximum of products, from 0
 pub norm : (v w : List Float) → Fit (vmnormOf v w .value)

@@ -16,13 +16,14 @@ use Rattle.loops.specs.Part.{part}
 use Rattle.dense.proofs.Laws.{Below, length-factor-a, length-factor-ipiv, factor-below}
 use Rattle.common.specs.declared.Settings.{Settings}
 use Rattle.common.specs.declared.Common.{Common}
-use Rattle.common.specs.Record.{with-nje, with-nslp, with-nlu}
+use Rattle.common.specs.Record.{with-nje, with-nslp, with-nlu, with-rc, with-pdest, with-pdlast, with-pdnorm}
+use Rattle.common.specs.Record.{with-convrate, with-rate, with-delp, with-m, with-due, with-jcur}
 use Rattle.common.specs.Layout.{matrix, matrixAt}
 use Rattle.history.specs.Steps.{StepInRange}
 use Rattle.history.proofs.Laws.{length-loop, same-range}
-use Rattle.jacobian.specs.Jacobian.{beginOf, minusHl0, perturbOf, differenceAt, differenceOf, restoreOf, scaledAt}
-use Rattle.jacobian.specs.Jacobian.{scaledOf, suppliedOf, identityAt, identityOf, identityFactorsOf, inForce}
-use Rattle.jacobian.specs.Jacobian.{finishJacobianOf}
+use Rattle.jacobian.specs.Jacobian.{beginOf, minusHl0, perturbOf, differenceAt, differenceOf, restoreOf}
+use Rattle.jacobian.specs.Jacobian.{scaledAt, scaledOf, suppliedOf, identityAt, identityOf, identityFactorsOf}
+use Rattle.jacobian.specs.Jacobian.{inForce, finishJacobianOf}
 
 -- ---- lengths
 
@@ -98,15 +99,17 @@ pub record SameStep (c d : Common) : Type 0 where
 
 -- c, with the fields of d that a pass may change
 abbrev pub passMoved : Common → Common → Common
-passMoved d c = record {
-      hmin = c .hmin; hmxi = c .hmxi;
-      tn = c .tn; h = c .h; hu = c .hu; told = c .told; rc = d .rc; el0 = c .el0; conit = c .conit; rmax = c .rmax;
-      pdest = d .pdest; pdlast = d .pdlast; pdnorm = d .pdnorm; convrate = d .convrate; pnorm = c .pnorm;
-      rate = d .rate; delp = d .delp; meth = c .meth; nq = c .nq; lmax = c .lmax; nqnyh = c .nqnyh; ialth = c .ialth;
-      icount = c .icount; table = c .table; nslp = c .nslp; nst = c .nst; nfe = c .nfe; nje = c .nje; nlu = c .nlu;
-      rejected = c .rejected; total = c .total; count = c .count; kflag = c .kflag; ncf = c .ncf; m = d .m;
-      column = c .column; due = d .due; jcur = d .jcur; setup = c .setup;
-}
+passMoved d c =
+    with-rc (d .rc)
+    (with-pdest (d .pdest)
+    (with-pdlast (d .pdlast)
+    (with-pdnorm (d .pdnorm)
+    (with-convrate (d .convrate)
+    (with-rate (d .rate)
+    (with-delp (d .delp)
+    (with-m (d .m)
+    (with-due (d .due)
+    (with-jcur (d .jcur) c)))))))))
 
 pub same-pass-moved : (c d : Common) → SameStep c (passMoved d c)
 same-pass-moved c d =

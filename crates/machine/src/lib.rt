@@ -1,20 +1,15 @@
 // The run as a machine that asks: from a record, a phase and a reply to the next question.
-// `resume` hands each reply to the function of its phase, and `initial` is the record at the start.
+// `resume` hands each reply to the function of its phase.
 ghost use mathlib.Core.Bool.{Bool};
 ghost use mathlib.Core.Path.{_≡_};
 ghost use Prim.Native.Nat.{_≤_};
 ghost use Rattle.common.specs.Limits.{maxStates};
-ghost use Rattle.between_steps.specs.Ranges.{Accepted};
 ghost use Rattle.questions.specs.Requires.{Resumes, UnlessFinished};
 ghost use Rattle.questions.specs.Turns.{turnWork, withPivots};
-ghost use Rattle.reports.specs.Reports.{initialOf};
+ghost use Rattle.common.specs.Initial.{initialOf};
 ghost use Rattle.machine.specs.Resume.{With, isAsked, resumeOf};
 
-use between_steps::Answer;
 use between_steps::Kind;
-use common::Common;
-use common::MethodFamily;
-use common::Settings;
 use questions::Phase;
 use questions::Question;
 use questions::Session;
@@ -93,60 +88,5 @@ pub fn resume(
         },
         Phase::Modified => reports::modified(s, c, reply, work),
         Phase::Finished => Turn { question: Question::Unasked, phase: phase, common: c },
-    }
-}
-
-// The record at the start, with the first step where it is given; the first derivative is asked for.
-pub fn initial(s: Settings, x0: f64, h: f64, hmin: f64, hmxi: f64) -> Common
-    requires { ⌜ Accepted s ⌝ }
-    ensures { λ r. ⌜ r ≡ initialOf s x0 h hmin hmxi ⌝ }
-{
-    let a = common::mxordn(s);
-    let b = common::mxords(s);
-    let mut order = a;
-    if a < b {
-        order = b;
-    }
-    let lmax = order + 1;
-    Common {
-        hmin: hmin,
-        hmxi: hmxi,
-        tn: x0,
-        h: h,
-        hu: 0.0,
-        told: x0,
-        rc: 0.0,
-        el0: 1.0,
-        conit: 0.0,
-        rmax: 0.0,
-        pdest: 0.0,
-        pdlast: 0.0,
-        pdnorm: 0.0,
-        convrate: 0.7,
-        pnorm: 0.0,
-        rate: 0.0,
-        delp: 0.0,
-        meth: MethodFamily::Adams,
-        nq: 1,
-        lmax: lmax,
-        nqnyh: s.n,
-        ialth: 2,
-        icount: 1000020,
-        table: 0,
-        nslp: 0,
-        nst: 0,
-        nfe: 1,
-        nje: 0,
-        nlu: 0,
-        rejected: 0,
-        total: 0,
-        count: 0,
-        kflag: 0,
-        ncf: 0,
-        m: 0,
-        column: 0,
-        due: false,
-        jcur: false,
-        setup: true,
     }
 }

@@ -14,7 +14,7 @@ use Rattle.common.specs.Layout.{matrixAt}
 use Rattle.history.specs.Columns.{predictColumnsOf, retractColumnsOf, rescaleColumnsOf, correctColumnsOf}
 use Rattle.history.specs.Steps.{limitedOf, adjustOf, predictedOf, predictedWorkOf}
 use Rattle.interpolation.specs.Snapshot.{snapshotOf}
-use Rattle.probe.specs.Lent.{lentSettings, lentCommon, storedFloats, storedCounts, areColumns, isUsable}
+use Rattle.probe.specs.Lent.{lentSettings, lentCommon, writtenFloats, writtenCounts, areColumns, isUsable}
 
 -- the number returned, and the numbers lent
 pub record Columns : Type 0 where
@@ -51,7 +51,7 @@ pub record RecordLeft : Type 0 where
 abbrev pub recordLeft : Bool → Common → List Float → List Float → List ℕ → List Float → RecordLeft
 recordLeft taken c after fs cs work =
     cond taken
-    (record { number = 0; floats = storedFloats c fs; counts = storedCounts c cs; work = after })
+    (record { number = 0; floats = writtenFloats c fs; counts = writtenCounts c cs; work = after })
     (record { number = 2; floats = fs; counts = cs; work = work })
 
 unfoldable pub adjustLeft : List Float → List ℕ → Float → List Float → RecordLeft

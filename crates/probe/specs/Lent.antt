@@ -23,6 +23,7 @@ lentFamily k = cond (eqb k 2) Bdf Adams
 abbrev pub number1 : Bool → ℕ
 number1 flag = cond flag 1 0
 
+-- made by tools/record.py: the record from the numbers that are lent
 unfoldable pub lentSettings : List Float → List ℕ → Settings
 lentSettings fs cs = record {
   n = getD cs 0 0;
@@ -82,10 +83,11 @@ lentCommon fs cs = record {
   jcur = false;
   setup = false;
 }
+-- end of the record from the numbers that are lent
 
 -- the floats and counts of a record, written back
-unfoldable pub storedFloats : Common → List Float → List Float
-storedFloats c fs =
+unfoldable pub writtenFloats : Common → List Float → List Float
+writtenFloats c fs =
     set (set (set (set (set (set (set (set (set (set fs
     1 (c .tn))
     2 (c .h))
@@ -98,8 +100,8 @@ storedFloats c fs =
     9 (c .pdlast))
     10 (c .convrate)
 
-unfoldable pub storedCounts : Common → List ℕ → List ℕ
-storedCounts c cs =
+unfoldable pub writtenCounts : Common → List ℕ → List ℕ
+writtenCounts c cs =
     set (set (set (set (set (set (set (set (set cs
     5 (c .nq))
     6 (c .lmax))

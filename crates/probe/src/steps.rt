@@ -5,7 +5,7 @@ ghost use mathlib.Core.Path.{_≡_};
 ghost use mathlib.Core.List.{[]};
 ghost use lib.ListN.{length};
 ghost use Rattle.interpolation.specs.Evaluate.{Interpolated, interpolateOf};
-ghost use Rattle.probe.specs.Lent.{lentFamily, lentSettings, lentCommon, storedFloats, storedCounts, number1};
+ghost use Rattle.probe.specs.Lent.{lentFamily, lentSettings, lentCommon, writtenFloats, writtenCounts, number1};
 ghost use Rattle.probe.specs.Lent.{areColumns, inRange, areLimits, isUsable};
 ghost use Rattle.probe.specs.Left.{Columns, predictLeft, retractLeft, RecordLeft, correctLeft, adjustLeft};
 ghost use Rattle.probe.specs.Left.{predictedLeft, initLeft, resetLeft, snapshotLeft};
@@ -82,6 +82,7 @@ fn number(flag: bool) -> usize
     0
 }
 
+// made by tools/record.py: the record from the numbers that are lent
 fn settings(floats: &[f64], counts: &[usize]) -> Settings
     requires { ⌜ (length (now floats) ≡ 11) × (length (now counts) ≡ 14) ⌝ }
     ensures { λ r. ⌜ r ≡ lentSettings (now (floats .entry)) (now (counts .entry)) ⌝ }
@@ -150,10 +151,11 @@ fn common(floats: &[f64], counts: &[usize]) -> Common
         setup: false,
     }
 }
+// end of the record from the numbers that are lent
 
 fn put_floats(c: Common, floats: &mut [f64])
     requires { ⌜ length (now floats) ≡ 11 ⌝ }
-    ensures { λ _. ⌜ now (floats .exit) ≡ storedFloats c (now (floats .entry)) ⌝ }
+    ensures { λ _. ⌜ now (floats .exit) ≡ writtenFloats c (now (floats .entry)) ⌝ }
 {
     floats[1] = c.tn;
     floats[2] = c.h;
@@ -169,7 +171,7 @@ fn put_floats(c: Common, floats: &mut [f64])
 
 fn put_counts(c: Common, counts: &mut [usize])
     requires { ⌜ length (now counts) ≡ 14 ⌝ }
-    ensures { λ _. ⌜ now (counts .exit) ≡ storedCounts c (now (counts .entry)) ⌝ }
+    ensures { λ _. ⌜ now (counts .exit) ≡ writtenCounts c (now (counts .entry)) ⌝ }
 {
     counts[5] = c.nq;
     counts[6] = c.lmax;

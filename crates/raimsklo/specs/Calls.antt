@@ -10,14 +10,14 @@ use Rattle.numbers.specs.Float.{zeroF}
 use Rattle.refusals.specs.declared.Options.{Options}
 use Rattle.refusals.specs.declared.Lengths.{Lengths}
 use Rattle.refusals.specs.declared.Refusal.{Refusal}
-use Rattle.refusals.specs.Start.{startRefusalOf, settingsOf, firstStepOf, smallestOf, inverseLargestOf}
-use Rattle.answers.specs.Answers.{plainOf, refusedOf}
+use Rattle.refusals.specs.Start.{startRefusalOf, acceptedSettings, givenStepOf, smallestOf, inverseLargestOf}
+use Rattle.answers.specs.Answers.{plainReply, refusalReply}
 use Rattle.answers.specs.Called.{Buffers, Called}
-use Rattle.replies.specs.Replies.{kindOf, replyRefusalOf, goOf}
-use Rattle.starts.specs.Starts.{beganOf}
+use Rattle.raimsklo.specs.Replies.{kindOf, replyRefusalOf, acceptedReplyOf}
+use Rattle.raimsklo.specs.Starts.{acceptedStartOf}
 
 abbrev pub unchanged : Refusal → Buffers → Called
-unchanged r b = record { reply = refusedOf r; lent = b }
+unchanged r b = record { reply = refusalReply r; lent = b }
 
 -- ---- start
 
@@ -38,21 +38,22 @@ lengthsOf p b = record {
 unfoldable pub startAt : Problem → Buffers → Refusal → Called
 startAt p b r =
     cond (eqb (r .number) 0)
-    (beganOf (settingsOf (p .x0) (p .xend) (p .options) (lengthsOf p b)) (p .x0) (firstStepOf (p .options))
-    (smallestOf (p .options)) (inverseLargestOf (p .x0) (p .xend) (p .options)) (p .y0) (p .rtol) (p .atol) b)
+    (acceptedStartOf (acceptedSettings (p .x0) (p .xend) (p .options) (lengthsOf p b)) (p .x0)
+    (givenStepOf (p .options)) (smallestOf (p .options)) (inverseLargestOf (p .x0) (p .xend) (p .options))
+    (p .y0) (p .rtol) (p .atol) b)
     (unchanged r b)
 
 -- no states: success, h 0, all counts 0, nothing written
 unfoldable pub startOf : Problem → Buffers → Called
 startOf p b =
     cond (eqb (length (p .y0)) 0)
-    (record { reply = plainOf 110 0 zeroF zeroF; lent = b })
+    (record { reply = plainReply 110 0 zeroF zeroF; lent = b })
     (startAt p b (startRefusalOf (p .x0) (p .xend) (p .options) (lengthsOf p b) (p .rtol) (p .atol)))
 
 -- ---- reply
 
 unfoldable pub replyAt : Refusal → ℕ → List Float → Float → Buffers → Called
-replyAt r kind numbers time b = cond (eqb (r .number) 0) (goOf (kindOf kind) numbers time b) (unchanged r b)
+replyAt r kind numbers time b = cond (eqb (r .number) 0) (acceptedReplyOf (kindOf kind) numbers time b) (unchanged r b)
 
 unfoldable pub replyOf : ℕ → List Float → Float → Buffers → Called
 replyOf kind numbers time b =

@@ -3,6 +3,8 @@ use mathlib.Core.Bool.{cond}
 use Prim.Native.Nat.{ℕ, _+_, _*_}
 use lib.Dec.{ltb}
 use Rattle.numbers.specs.Float.{zeroF}
+use Rattle.common.specs.Layout.{workLength}
+use Rattle.common.specs.Limits.{maxStates}
 use Rattle.refusals.specs.declared.Options.{Options}
 
 abbrev pub defaults : Options
@@ -12,8 +14,9 @@ defaults = record {
   «max_step» = zeroF; «min_step» = zeroF; «first_step» = zeroF;
 }
 
-unfoldable pub workLength : ℕ → ℕ
-workLength n = cond (ltb 64 n) 0 (n * n + 19 * n)
+-- 0 where n is no number of states
+unfoldable pub workLengthFor : ℕ → ℕ
+workLengthFor n = cond (ltb maxStates n) 0 (workLength n)
 
-unfoldable pub questionLength : ℕ → ℕ
-questionLength n = cond (ltb 64 n) 0 (14 * n + 6)
+unfoldable pub questionLengthFor : ℕ → ℕ
+questionLengthFor n = cond (ltb maxStates n) 0 (14 * n + 6)

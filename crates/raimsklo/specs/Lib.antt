@@ -1,2 +1,4 @@
 pub mod Defaults
+pub mod Starts
+pub mod Replies
 pub mod Calls

@@ -2,13 +2,17 @@
 // contract is one equation for the answer and for the whole contents of every lent slice, refused calls included.
 ghost use mathlib.Core.Path.{_≡_};
 ghost use mathlib.Core.Bool.{true};
-ghost use Prim.Native.Nat.{ℕ, _+_, _*_, _≤_};
+ghost use Prim.Native.Nat.{ℕ};
 ghost use lib.ListN.{length};
+ghost use Rattle.common.specs.SessionWords.{sessionLength};
 ghost use Rattle.root.specs.Root.{rootOf};
 ghost use Rattle.interpolation.specs.Evaluate.{Interpolated, interpolateOf};
 ghost use Rattle.answers.specs.Called.{Buffers, Called};
 ghost use Rattle.raimsklo.specs.Calls.{startOf, replyOf};
-ghost use Rattle.raimsklo.specs.Defaults.{defaults, workLength, questionLength};
+ghost use Rattle.raimsklo.specs.Defaults.{defaults, workLengthFor, questionLengthFor};
+
+mod replies;
+mod starts;
 
 pub use answers::Reply;
 use refusals::Lengths;
@@ -54,23 +58,23 @@ pub extern "C" fn raimsklo_defaults() -> Options
     }
 }
 
-// How many numbers the work of n states has; 0 where n is above 64.
+// How many numbers the work of n states has; 0 where n is above the largest number of states.
 #[no_mangle]
 pub extern "C" fn raimsklo_work_length(n: usize) -> usize
-    ensures { λ r. ⌜ r ≡ workLength n ⌝ }
+    ensures { λ r. ⌜ r ≡ workLengthFor n ⌝ }
 {
-    if n > 64 {
+    if n > common::MAX_STATES {
         return 0;
     }
-    n * n + 19 * n
+    n * n + common::MATRIX * n
 }
 
-// How many numbers the question of n states has; 0 where n is above 64.
+// How many numbers the question of n states has; 0 where n is above the largest number of states.
 #[no_mangle]
 pub extern "C" fn raimsklo_question_length(n: usize) -> usize
-    ensures { λ r. ⌜ r ≡ questionLength n ⌝ }
+    ensures { λ r. ⌜ r ≡ questionLengthFor n ⌝ }
 {
-    if n > 64 {
+    if n > common::MAX_STATES {
         return 0;
     }
     14 * n + 6
@@ -79,9 +83,9 @@ pub extern "C" fn raimsklo_question_length(n: usize) -> usize
 // How many bytes a session has.
 #[no_mangle]
 pub extern "C" fn raimsklo_session_length() -> usize
-    ensures { λ r. ⌜ r ≡ 1448 ⌝ }
+    ensures { λ r. ⌜ r ≡ sessionLength ⌝ }
 {
-    1448
+    common::SESSION_LENGTH
 }
 
 // A run begins: the first derivative is wanted, or the start is refused.
@@ -134,7 +138,7 @@ pub extern "C" fn raimsklo_start(
     let h = refusals::first_step(options);
     let hmin = refusals::smallest(options);
     let hmxi = refusals::inverse_largest(x0, xend, options);
-    starts::begin(s, x0, h, hmin, hmxi, y0, rtol, atol, work, pivots, session, question)
+    starts::accept(s, x0, h, hmin, hmxi, y0, rtol, atol, work, pivots, session, question)
 }
 
 // The host's reply to the question that stands: the next question, a report, the end, or a refusal.
@@ -161,7 +165,7 @@ pub extern "C" fn raimsklo_reply(
           session = now (session .entry); question = now (question .entry);
         })) ⌝ }
 {
-    if session.len() != 1448 {
+    if session.len() != common::SESSION_LENGTH {
         return answers::refused(refusals::plain(3));
     }
     let u = session::counts(session);
@@ -170,5 +174,5 @@ pub extern "C" fn raimsklo_reply(
     if r.number != 0 {
         return answers::refused(r);
     }
-    replies::go(x, replies::kind(kind), numbers, time, work, pivots, session, question)
+    replies::accept(x, replies::kind(kind), numbers, time, work, pivots, session, question)
 }

@@ -21,14 +21,13 @@ use Rattle.between_steps.specs.Start.{inverted}
 use Rattle.questions.specs.declared.Phase.the-variants as Phase
 use Rattle.questions.specs.Turns.{withPivots, askedOf}
 use Rattle.questions.specs.Begin.{goOnOf}
-use Rattle.reports.specs.Reports.{initialOf}
+use Rattle.common.specs.Initial.{initialOf}
 use Rattle.reports.specs.Reports.{sizedAt, sizedOf, weightedAt, firstDerivativeOf}
 use Rattle.reports.specs.Reports as Machine
 use Rattle.machine.specs.Resume.{dealtOf}
 use Rattle.rules.specs.Pass.{put-w}
-use Rattle.rules.specs.Rules.{Start, beginning, sizedState, firstReportAt, firstModified, firstRestarted}
-use Rattle.rules.specs.Rules.{firstAnswered}
-use Rattle.rules.specs.Rules.{sized, firstStep, weighted, firstWeights, started, start, timed, solve}
+use Rattle.rules.specs.Rules.{Start, beginning, sizedState, firstModified, firstRestarted, firstAnswered, sized}
+use Rattle.rules.specs.Rules.{firstStep, weighted, firstWeights, started, start, timed, solve}
 use Rattle.refinement.specs.Shown.{shownAs}
 use Rattle.refinement.specs.AtNode.{AtNode, startedAt}
 use Rattle.refinement.proofs.Alive.{Alive}

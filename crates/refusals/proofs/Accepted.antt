@@ -15,15 +15,16 @@ use lib.Ieee.{Float}
 use Rattle.loops.specs.Test.{differs}
 use Rattle.numbers.specs.Float.{_⊖_}
 use Rattle.numbers.specs.Sign.{signumOf, refused}
+use Rattle.common.specs.Limits.{maxStates}
 use Rattle.refusals.specs.declared.Options.{Options}
 use Rattle.refusals.specs.declared.Lengths.{Lengths}
 use Rattle.refusals.specs.declared.Refusal.{Refusal}
 use Rattle.refusals.specs.Refusal.{plain, alsoOf, orElse}
-use Rattle.refusals.specs.Start.{isNegative, startRefusalOf}
+use Rattle.refusals.specs.Start.{startRefusalOf}
 use Rattle.refusals.specs.Rows.{Row, NoneHolds}
 use Rattle.refusals.specs.Table.{NotOneOrN, WrongList, WrongSlice, LargeSetting, BelowZero, toleranceRows}
 use Rattle.refusals.specs.Table.{stepRow, startRows}
-use Rattle.refusals.specs.Accepted.{Sizes, Limits, Started}
+use Rattle.refusals.specs.Accepted.{Sizes, WithinLimits, Started}
 use Rattle.refusals.proofs.Decides.{Decides, decided, equal}
 use Rattle.refusals.proofs.FirstStep.{step-decides}
 use Rattle.refusals.proofs.Rows.{holds-none}
@@ -77,7 +78,7 @@ one-or-n len n h = by (decided (eqb len 1) (equal len 1))
     by (inl e) = inl e
     by (inr e) = inr (is-equal len n (λ d. h (e, d)))
 
-sizes-hold : (l : Lengths) → (64 < l .n → ⊥) → (WrongList l → ⊥) → (WrongSlice l → ⊥) → Sizes l
+sizes-hold : (l : Lengths) → (maxStates < l .n → ⊥) → (WrongList l → ⊥) → (WrongSlice l → ⊥) → Sizes l
 sizes-hold l one two three = record {
   n = omega (arith, one);
   rtol = one-or-n _ _ (λ h. two (inl h));
@@ -95,7 +96,7 @@ at-least : (a : ℕ) → a ≢ 0 → 1 ≤ a
 at-least a h = omega arith
 
 limits-hold : (o : Options) → (LargeSetting o → ⊥) → o .«max_steps» ≢ 0 → o .maxcor ≢ 0
-    → ((o .mxordn ≡ 0) ⊎ (o .mxords ≡ 0) → ⊥) → (o .banded ≢ 0 → ⊥) → Limits o
+    → ((o .mxordn ≡ 0) ⊎ (o .mxords ≡ 0) → ⊥) → (o .banded ≢ 0 → ⊥) → WithinLimits o
 limits-hold o four five six seven eight = record {
   maxsteps = (at-least _ five, at-most _ _ (λ h. four (inl h)));
   mxordn = (at-least _ (λ e. seven (inl e)), at-most _ _ (λ h. four (inr (inl h))));

@@ -17,20 +17,23 @@ use Rattle.loops.specs.Test.{differs}
 use Rattle.loops.specs.For.{times, stays-times}
 use Rattle.numbers.specs.Float.{_⊖_, zeroF}
 use Rattle.numbers.specs.Sign.{signumOf, refused}
+use Rattle.common.specs.Layout.{workLength}
+use Rattle.common.specs.Limits.{maxStates}
+use Rattle.common.specs.SessionWords.{sessionLength}
 use Rattle.refusals.specs.declared.Options.{Options}
 use Rattle.refusals.specs.declared.Lengths.{Lengths}
 use Rattle.refusals.specs.declared.Refusal.{Refusal}
 use Rattle.refusals.specs.Refusal.{none, plain, alsoOf, inOrder, orElse}
-use Rattle.refusals.specs.Start.{isList, listsOf, sizesOf, largeOf, limitsOf, isNegative, toleranceAt}
-use Rattle.refusals.specs.Start.{tolerancesOf, stepOf, startRefusalOf}
+use Rattle.refusals.specs.Start.{isList, lengthRefusal, sizeRefusal, largeRefusal, limitRefusal, isNegative}
+use Rattle.refusals.specs.Start.{toleranceAt, toleranceRefusal, stepRefusal, startRefusalOf}
 use Rattle.refusals.specs.FirstStep.{StepRefused}
 use Rattle.refusals.specs.Rows.{Row, row, ExactlyFirst, NoneHolds}
 use Rattle.refusals.specs.Table.{NotOneOrN, WrongList, WrongSlice, LargeSetting, BelowZero, toleranceRows}
 use Rattle.refusals.specs.Table.{stepRow, startRows}
 use Rattle.refusals.proofs.Decides.{Decides, equal, smaller, denied, either, neither}
 use Rattle.refusals.proofs.FirstStep.{step-decides}
-use Rattle.refusals.proofs.Rows.{positive, IsFirst, Numbered, first-also, first-else, also-same}
-use Rattle.refusals.proofs.Rows.{Each, of-first, numbered, After, exactly}
+use Rattle.refusals.proofs.Rows.{positive, IsFirst, Numbered, first-also, first-else, also-same, Each}
+use Rattle.refusals.proofs.Rows.{of-first, numbered, After, exactly}
 
 -- ---- lengths and settings
 
@@ -43,11 +46,11 @@ module _ (l : Lengths) where
 
   abbrev slices : Bool
   slices =
-      not (eqb (l .work) (l .n * l .n + 19 * l .n)) || (not (eqb (l .pivots) (l .n))
-      || (not (eqb (l .session) 1448) || not (eqb (l .question) (14 * l .n + 6))))
+      not (eqb (l .work) (workLength (l .n))) || (not (eqb (l .pivots) (l .n))
+      || (not (eqb (l .session) sessionLength) || not (eqb (l .question) (14 * l .n + 6))))
 
-  lists-are : listsOf l (l .n) ≡ alsoOf (alsoOf none lists 2) slices 3
-  unfolding listsOf inOrder
+  lists-are : lengthRefusal l (l .n) ≡ alsoOf (alsoOf none lists 2) slices 3
+  unfolding lengthRefusal inOrder
   lists-are =
       also-same _ _ _ 3 (positive 2) ∙ also-same _ _ _ 3 (positive 2) ∙ also-same _ _ _ 3 (positive 2)
       ∙ ap (λ (r : Refusal). alsoOf r slices 3) (also-same none _ _ 2 (positive 1))
@@ -56,7 +59,7 @@ module _ (l : Lengths) where
   unequal a b = denied (eqb a b) (equal a b)
 
   abbrev sizeRows : List Row
-  sizeRows = row 1 (64 < l .n) ∷ row 2 (WrongList l) ∷ row 3 (WrongSlice l) ∷ []
+  sizeRows = row 1 (maxStates < l .n) ∷ row 2 (WrongList l) ∷ row 3 (WrongSlice l) ∷ []
 
   two : Decides lists (WrongList l)
   two = either _ _ (listed (l .rtol)) (listed (l .atol))
@@ -64,11 +67,11 @@ module _ (l : Lengths) where
   three : Decides slices (WrongSlice l)
   three = either _ _ (unequal _ _) (either _ _ (unequal _ _) (either _ _ (unequal _ _) (unequal _ _)))
 
-  first-sizes : IsFirst sizeRows (sizesOf l)
-  unfolding sizesOf
-  first-sizes = by (ltb 64 (l .n)) (smaller 64 (l .n))
+  first-sizes : IsFirst sizeRows (sizeRefusal l)
+  unfolding sizeRefusal
+  first-sizes = by (ltb maxStates (l .n)) (smaller maxStates (l .n))
     where
-      by : (t : Bool) → Decides t (64 < l .n) → IsFirst sizeRows (cond t (plain 1) (listsOf l (l .n)))
+      by : (t : Bool) → Decides t (maxStates < l .n) → IsFirst sizeRows (cond t (plain 1) (lengthRefusal l (l .n)))
       by true d = inl (d .0 refl, refl)
       by false d =
           inr (d .1 refl, rw lists-are
@@ -81,8 +84,8 @@ module _ (o : Options) where
       ltb 1000000 (o .«max_steps») || (ltb 1000000 (o .mxordn) || (ltb 1000000 (o .mxords)
       || (ltb 1000000 (o .maxcor) || (ltb 1000000 (o .msbp) || ltb 1000000 (o .mxncf)))))
 
-  large-is : largeOf o ≡ alsoOf none large 4
-  unfolding largeOf inOrder
+  large-is : largeRefusal o ≡ alsoOf none large 4
+  unfolding largeRefusal inOrder
   large-is =
       also-same _ _ _ 4 (positive 3) ∙ also-same _ _ _ 4 (positive 3) ∙ also-same _ _ _ 4 (positive 3)
       ∙ also-same _ _ _ 4 (positive 3) ∙ also-same none _ _ 4 (positive 3)
@@ -92,9 +95,9 @@ module _ (o : Options) where
       either _ _ (smaller _ _) (either _ _ (smaller _ _) (either _ _ (smaller _ _)
       (either _ _ (smaller _ _) (either _ _ (smaller _ _) (smaller _ _)))))
 
-  limits-are : limitsOf o ≡ alsoOf (alsoOf (alsoOf (alsoOf (alsoOf none large 4) (eqb (o .«max_steps») 0) 5)
+  limits-are : limitRefusal o ≡ alsoOf (alsoOf (alsoOf (alsoOf (alsoOf none large 4) (eqb (o .«max_steps») 0) 5)
       (eqb (o .maxcor) 0) 6) (eqb (o .mxordn) 0 || eqb (o .mxords) 0) 7) (not (eqb (o .banded) 0)) 8
-  unfolding limitsOf inOrder
+  unfolding limitRefusal inOrder
   limits-are =
       ap (λ (r : Refusal). alsoOf r (not (eqb (o .banded) 0)) 8) (also-same _ _ _ 7 (positive 6))
       ∙ ap (λ (r : Refusal). alsoOf (alsoOf (alsoOf (alsoOf r (eqb (o .«max_steps») 0) 5) (eqb (o .maxcor) 0) 6)
@@ -115,7 +118,7 @@ module _ (o : Options) where
   abbrev limitRows : List Row
   limitRows = r4 ∷ r5 ∷ r6 ∷ r7 ∷ row 8 (o .banded ≢ 0) ∷ []
 
-  first-limits : IsFirst limitRows (limitsOf o)
+  first-limits : IsFirst limitRows (limitRefusal o)
   first-limits =
       rw limits-are
       (first-also (r4 ∷ r5 ∷ r6 ∷ r7 ∷ []) _ _ 8
@@ -168,8 +171,8 @@ module _ (rtol atol : List Float) where
 -- ---- the first step
 
 module _ (x0 xend : Float) (o : Options) where
-  first-step : IsFirst (stepRow x0 xend o ∷ []) (stepOf x0 xend o)
-  unfolding stepOf
+  first-step : IsFirst (stepRow x0 xend o ∷ []) (stepRefusal x0 xend o)
+  unfolding stepRefusal
   first-step =
       by (eqb (o .«has_first_step») 0) (refused (o .«first_step») (signumOf (xend ⊖ x0)))
       (equal (o .«has_first_step») 0) (step-decides (o .«first_step») (xend ⊖ x0))
@@ -185,19 +188,19 @@ module _ (x0 xend : Float) (o : Options) where
 
 pub first-row : (x0 xend : Float) (o : Options) (l : Lengths) (rtol atol : List Float)
     → IsFirst (startRows x0 xend o l rtol atol) (startRefusalOf x0 xend o l rtol atol)
-unfolding startRefusalOf tolerancesOf
+unfolding startRefusalOf toleranceRefusal
 first-row x0 xend o l rtol atol =
     let z : l .n - 0 ≡ l .n = omega arith in
     let tolerances = times (toleranceAt rtol atol) (l .n) 0 none in
     let step = stepRow x0 xend o ∷ [] in
     let last = toleranceRows rtol atol (l .n) 0 step in
-    let rest = orElse tolerances (stepOf x0 xend o) in
+    let rest = orElse tolerances (stepRefusal x0 xend o) in
     rw z
-    (first-else (sizeRows l) (limitRows o ++ last) (sizesOf l) (orElse (limitsOf o) rest)
+    (first-else (sizeRows l) (limitRows o ++ last) (sizeRefusal l) (orElse (limitRefusal o) rest)
     (positive 0, (positive 1, (positive 2, tt))) (first-sizes l)
-    (first-else (limitRows o) last (limitsOf o) rest
+    (first-else (limitRows o) last (limitRefusal o) rest
     (positive 3, (positive 4, (positive 5, (positive 6, (positive 7, tt))))) (first-limits o)
-    (first-tolerances rtol atol step (stepOf x0 xend o) (first-step x0 xend o) (l .n) 0)))
+    (first-tolerances rtol atol step (stepRefusal x0 xend o) (first-step x0 xend o) (l .n) 0)))
 
 -- ---- where none of the tolerances is below 0
 

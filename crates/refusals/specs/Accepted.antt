@@ -7,20 +7,23 @@ use Prim.Native.Nat.{ℕ, _+_, _*_, _≤_, _<_}
 use lib.Ieee.{Float}
 use Rattle.numbers.specs.Sign.{signumOf, refused}
 use Rattle.numbers.specs.Float.{_⊖_}
+use Rattle.common.specs.Layout.{workLength}
+use Rattle.common.specs.Limits.{maxStates}
+use Rattle.common.specs.SessionWords.{sessionLength}
 use Rattle.refusals.specs.declared.Options.{Options}
 use Rattle.refusals.specs.declared.Lengths.{Lengths}
 use Rattle.refusals.specs.Start.{isNegative}
 
 pub record Sizes (l : Lengths) : Type 0 where
-  pub n : l .n ≤ 64
+  pub n : l .n ≤ maxStates
   pub rtol : (l .rtol ≡ 1) ⊎ (l .rtol ≡ l .n)
   pub atol : (l .atol ≡ 1) ⊎ (l .atol ≡ l .n)
-  pub work : l .work ≡ l .n * l .n + 19 * l .n
+  pub work : l .work ≡ workLength (l .n)
   pub pivots : l .pivots ≡ l .n
-  pub session : l .session ≡ 1448
+  pub session : l .session ≡ sessionLength
   pub question : l .question ≡ 14 * l .n + 6
 
-pub record Limits (o : Options) : Type 0 where
+pub record WithinLimits (o : Options) : Type 0 where
   pub maxsteps : (1 ≤ o .«max_steps») × (o .«max_steps» ≤ 1000000)
   pub mxordn : (1 ≤ o .mxordn) × (o .mxordn ≤ 1000000)
   pub mxords : (1 ≤ o .mxords) × (o .mxords ≤ 1000000)
@@ -32,7 +35,7 @@ pub record Limits (o : Options) : Type 0 where
 -- no tolerance is below 0; a first step that is given is none of 11
 pub record Started (x0 xend : Float) (o : Options) (l : Lengths) (rtol atol : List Float) : Type 0 where
   pub sizes : Sizes l
-  pub limits : Limits o
+  pub limits : WithinLimits o
   pub relative : (i : ℕ) → i < l .n → isNegative rtol i ≡ false
   pub absolute : (i : ℕ) → i < l .n → isNegative atol i ≡ false
   pub step : (o .«has_first_step» ≡ 0) ⊎ (refused (o .«first_step») (signumOf (xend ⊖ x0)) ≡ false)

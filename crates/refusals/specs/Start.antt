@@ -11,6 +11,9 @@ use Rattle.loops.specs.For.{for}
 use Rattle.numbers.specs.Float.{_⊖_, _⊘_, zeroF, oneF}
 use Rattle.numbers.specs.Sign.{absOf, signumOf, refused}
 use Rattle.common.specs.declared.Settings.{Settings}
+use Rattle.common.specs.Layout.{workLength}
+use Rattle.common.specs.Limits.{maxStates}
+use Rattle.common.specs.SessionWords.{sessionLength}
 use Rattle.refusals.specs.declared.Options.{Options}
 use Rattle.refusals.specs.declared.Lengths.{Lengths}
 use Rattle.refusals.specs.declared.Refusal.{Refusal}
@@ -21,25 +24,25 @@ abbrev pub isList : ℕ → ℕ → Bool
 isList len n = eqb len 1 || eqb len n
 
 -- 2: a tolerance list not 1 or n long; 3: work, pivot, session or question length
-unfoldable pub listsOf : Lengths → ℕ → Refusal
+unfoldable pub lengthRefusal : Lengths → ℕ → Refusal
 unfolding inOrder
-listsOf l n = inOrder none (
+lengthRefusal l n = inOrder none (
     when (not (isList (l .rtol) n)) 2
     ∷ when (not (isList (l .atol) n)) 2
-    ∷ when (not (eqb (l .work) (n * n + 19 * n))) 3
+    ∷ when (not (eqb (l .work) (workLength n))) 3
     ∷ when (not (eqb (l .pivots) n)) 3
-    ∷ when (not (eqb (l .session) 1448)) 3
+    ∷ when (not (eqb (l .session) sessionLength)) 3
     ∷ when (not (eqb (l .question) (14 * n + 6))) 3
     ∷ [])
 
--- 1: n above 64, before all that needs n
-unfoldable pub sizesOf : Lengths → Refusal
-sizesOf l = cond (ltb 64 (l .n)) (plain 1) (listsOf l (l .n))
+-- 1: n above the largest number of states, before all that needs n
+unfoldable pub sizeRefusal : Lengths → Refusal
+sizeRefusal l = cond (ltb maxStates (l .n)) (plain 1) (lengthRefusal l (l .n))
 
 -- 4: a setting above 1,000,000
-unfoldable pub largeOf : Options → Refusal
+unfoldable pub largeRefusal : Options → Refusal
 unfolding inOrder
-largeOf o = inOrder none (
+largeRefusal o = inOrder none (
     when (ltb 1000000 (o .«max_steps»)) 4
     ∷ when (ltb 1000000 (o .mxordn)) 4
     ∷ when (ltb 1000000 (o .mxords)) 4
@@ -49,9 +52,9 @@ largeOf o = inOrder none (
     ∷ [])
 
 -- 5: max_steps 0; 6: maxcor 0; 7: mxordn or mxords 0; 8: banded storage
-unfoldable pub limitsOf : Options → Refusal
+unfoldable pub limitRefusal : Options → Refusal
 unfolding inOrder
-limitsOf o = inOrder (largeOf o) (
+limitRefusal o = inOrder (largeRefusal o) (
     when (eqb (o .«max_steps») 0) 5
     ∷ when (eqb (o .maxcor) 0) 6
     ∷ when (eqb (o .mxordn) 0) 7
@@ -70,19 +73,20 @@ toleranceAt rtol atol i r =
     (cond (isNegative rtol i) (record { number = 9; index = i; value = zeroF })
     (cond (isNegative atol i) (record { number = 10; index = i; value = zeroF }) r))
 
-unfoldable pub tolerancesOf : ℕ → List Float → List Float → Refusal
-tolerancesOf n rtol atol = for 0 n (toleranceAt rtol atol) none
+unfoldable pub toleranceRefusal : ℕ → List Float → List Float → Refusal
+toleranceRefusal n rtol atol = for 0 n (toleranceAt rtol atol) none
 
 -- 11: the first step, where one is given
-unfoldable pub stepOf : Float → Float → Options → Refusal
-stepOf x0 xend o =
+unfoldable pub stepRefusal : Float → Float → Options → Refusal
+stepRefusal x0 xend o =
     cond (eqb (o .«has_first_step») 0) none
     (cond (refused (o .«first_step») (signumOf (xend ⊖ x0)))
     (record { number = 11; index = 0; value = o .«first_step» }) none)
 
 unfoldable pub startRefusalOf : Float → Float → Options → Lengths → List Float → List Float → Refusal
 startRefusalOf x0 xend o l rtol atol =
-    orElse (sizesOf l) (orElse (limitsOf o) (orElse (tolerancesOf (l .n) rtol atol) (stepOf x0 xend o)))
+    orElse (sizeRefusal l) (orElse (limitRefusal o)
+    (orElse (toleranceRefusal (l .n) rtol atol) (stepRefusal x0 xend o)))
 
 -- ---- the settings of an accepted start
 
@@ -101,8 +105,8 @@ inverseOf hmax = cond (Ieee.lt zeroF hmax) (oneF ⊘ hmax) zeroF
 unfoldable pub inverseLargestOf : Float → Float → Options → Float
 inverseLargestOf x0 xend o = inverseOf (largestOf o (xend ⊖ x0))
 
-unfoldable pub settingsOf : Float → Float → Options → Lengths → Settings
-settingsOf x0 xend o l = record {
+unfoldable pub acceptedSettings : Float → Float → Options → Lengths → Settings
+acceptedSettings x0 xend o l = record {
   n = l .n;
   xend = xend;
   direction = signumOf (xend ⊖ x0);
@@ -119,5 +123,5 @@ settingsOf x0 xend o l = record {
 }
 
 -- the first step where it is given
-unfoldable pub firstStepOf : Options → Float
-firstStepOf o = cond (eqb (o .«has_first_step») 0) zeroF (o .«first_step»)
+unfoldable pub givenStepOf : Options → Float
+givenStepOf o = cond (eqb (o .«has_first_step») 0) zeroF (o .«first_step»)

@@ -10,6 +10,9 @@ use lib.ListN.{length, getD}
 use lib.Ieee as Ieee
 use lib.Ieee.{Float, nan}
 use Rattle.numbers.specs.Float.{_⊖_, zeroF}
+use Rattle.common.specs.Layout.{workLength}
+use Rattle.common.specs.Limits.{maxStates}
+use Rattle.common.specs.SessionWords.{sessionLength}
 use Rattle.refusals.specs.declared.Options.{Options}
 use Rattle.refusals.specs.declared.Lengths.{Lengths}
 use Rattle.refusals.specs.Rows.{Row, row}
@@ -25,7 +28,7 @@ WrongList l = NotOneOrN (l .rtol) (l .n) ⊎ NotOneOrN (l .atol) (l .n)
 
 abbrev pub WrongSlice : Lengths → Type 0
 WrongSlice l =
-    (l .work ≢ l .n * l .n + 19 * l .n) ⊎ (l .pivots ≢ l .n) ⊎ (l .session ≢ 1448) ⊎ (l .question ≢ 14 * l .n + 6)
+    (l .work ≢ workLength (l .n)) ⊎ (l .pivots ≢ l .n) ⊎ (l .session ≢ sessionLength) ⊎ (l .question ≢ 14 * l .n + 6)
 
 abbrev pub LargeSetting : Options → Type 0
 LargeSetting o =
@@ -55,7 +58,7 @@ stepRow x0 xend o = record {
 
 abbrev pub startRows : Float → Float → Options → Lengths → List Float → List Float → List Row
 startRows x0 xend o l rtol atol =
-    row 1 (64 < l .n)
+    row 1 (maxStates < l .n)
     ∷ row 2 (WrongList l)
     ∷ row 3 (WrongSlice l)
     ∷ row 4 (LargeSetting o)

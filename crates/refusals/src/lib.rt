@@ -4,10 +4,11 @@ ghost use mathlib.Core.Path.{_≡_};
 ghost use mathlib.Core.Bool.{Bool};
 ghost use Prim.Native.Nat.{ℕ, _≤_, _<_};
 ghost use lib.ListN.{length};
-ghost use Rattle.refusals.specs.Start.{isList, listsOf, sizesOf, largeOf, limitsOf};
-ghost use Rattle.refusals.specs.Start.{isNegative, toleranceAt, tolerancesOf};
-ghost use Rattle.refusals.specs.Start.{largestOf, smallestOf, inverseOf, inverseLargestOf, settingsOf};
-ghost use Rattle.refusals.specs.Start.{firstStepOf, stepOf, startRefusalOf};
+ghost use Rattle.common.specs.Limits.{maxStates};
+ghost use Rattle.refusals.specs.Start.{isList, lengthRefusal, sizeRefusal, largeRefusal, limitRefusal};
+ghost use Rattle.refusals.specs.Start.{isNegative, toleranceAt, toleranceRefusal};
+ghost use Rattle.refusals.specs.Start.{largestOf, smallestOf, inverseOf, inverseLargestOf, acceptedSettings};
+ghost use Rattle.refusals.specs.Start.{givenStepOf, stepRefusal, startRefusalOf};
 ghost use Rattle.refusals.specs.Refusal.{none, plain, alsoOf};
 
 use common::Settings;
@@ -87,24 +88,24 @@ pub fn is_list(len: usize, n: usize) -> bool
     len == n
 }
 
-// 2 and 3, for n up to 64.
+// 2 and 3, for n up to the largest number of states.
 fn lists(l: Lengths, n: usize) -> Refusal
-    requires { ⌜ n ≤ 64 ⌝ }
-    ensures { λ r. ⌜ r ≡ listsOf l n ⌝ }
+    requires { ⌜ n ≤ maxStates ⌝ }
+    ensures { λ r. ⌜ r ≡ lengthRefusal l n ⌝ }
 {
     let a = also(none(), !is_list(l.rtol, n), 2);
     let b = also(a, !is_list(l.atol, n), 2);
-    let c = also(b, l.work != n * n + 19 * n, 3);
+    let c = also(b, l.work != n * n + common::MATRIX * n, 3);
     let d = also(c, l.pivots != n, 3);
-    let e = also(d, l.session != 1448, 3);
+    let e = also(d, l.session != common::SESSION_LENGTH, 3);
     also(e, l.question != 14 * n + 6, 3)
 }
 
 // 1, 2, 3.
 fn sizes(l: Lengths) -> Refusal
-    ensures { λ r. ⌜ r ≡ sizesOf l ⌝ }
+    ensures { λ r. ⌜ r ≡ sizeRefusal l ⌝ }
 {
-    if l.n > 64 {
+    if l.n > common::MAX_STATES {
         return plain(1);
     }
     lists(l, l.n)
@@ -114,7 +115,7 @@ fn sizes(l: Lengths) -> Refusal
 
 // 4.
 fn large(o: Options) -> Refusal
-    ensures { λ r. ⌜ r ≡ largeOf o ⌝ }
+    ensures { λ r. ⌜ r ≡ largeRefusal o ⌝ }
 {
     let a = also(none(), o.max_steps > 1000000, 4);
     let b = also(a, o.mxordn > 1000000, 4);
@@ -126,7 +127,7 @@ fn large(o: Options) -> Refusal
 
 // 4 to 8.
 fn limits(o: Options) -> Refusal
-    ensures { λ r. ⌜ r ≡ limitsOf o ⌝ }
+    ensures { λ r. ⌜ r ≡ limitRefusal o ⌝ }
 {
     let a = also(large(o), o.max_steps == 0, 5);
     let b = also(a, o.maxcor == 0, 6);
@@ -165,7 +166,7 @@ fn tolerance(r: Refusal, rtol: &[f64], atol: &[f64], i: usize) -> Refusal
 
 // 9 and 10: the first index at which a tolerance is below 0.
 fn tolerances(n: usize, rtol: &[f64], atol: &[f64]) -> Refusal
-    ensures { λ r. ⌜ r ≡ tolerancesOf n (now (rtol .entry)) (now (atol .entry)) ⌝ }
+    ensures { λ r. ⌜ r ≡ toleranceRefusal n (now (rtol .entry)) (now (atol .entry)) ⌝ }
 {
     let mut r = none();
     for i in 0..n {
@@ -214,7 +215,7 @@ pub fn inverse_largest(x0: f64, xend: f64, o: Options) -> f64
 }
 
 pub fn settings(x0: f64, xend: f64, o: Options, l: Lengths) -> Settings
-    ensures { λ r. ⌜ r ≡ settingsOf x0 xend o l ⌝ }
+    ensures { λ r. ⌜ r ≡ acceptedSettings x0 xend o l ⌝ }
 {
     let difference = xend - x0;
     Settings {
@@ -236,7 +237,7 @@ pub fn settings(x0: f64, xend: f64, o: Options, l: Lengths) -> Settings
 
 // The first step where it is given.
 pub fn first_step(o: Options) -> f64
-    ensures { λ r. ⌜ r ≡ firstStepOf o ⌝ }
+    ensures { λ r. ⌜ r ≡ givenStepOf o ⌝ }
 {
     if o.has_first_step == 0 {
         return 0.0;
@@ -246,7 +247,7 @@ pub fn first_step(o: Options) -> f64
 
 // 11: a first step that is given, and zero, a NaN or of another sign.
 fn step(x0: f64, xend: f64, o: Options) -> Refusal
-    ensures { λ r. ⌜ r ≡ stepOf x0 xend o ⌝ }
+    ensures { λ r. ⌜ r ≡ stepRefusal x0 xend o ⌝ }
 {
     if o.has_first_step == 0 {
         return none();

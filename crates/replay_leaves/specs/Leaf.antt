@@ -97,14 +97,14 @@ leafOf h a b m =
 abbrev pub storedFloatAt : List ℕ → ℕ → ℕ → List Float → List Float
 storedFloatAt stored at i list = set list i (Ieee.ofBits binary64 (getD stored (at + i) 0))
 
-unfoldable pub storedFloats : List ℕ → ℕ → List Float → List Float
-storedFloats stored at list = for 0 (length list) (storedFloatAt stored at) list
+unfoldable pub leafFloats : List ℕ → ℕ → List Float → List Float
+leafFloats stored at list = for 0 (length list) (storedFloatAt stored at) list
 
 abbrev pub storedCountAt : List ℕ → ℕ → ℕ → List ℕ → List ℕ
 storedCountAt stored at i list = set list i (getD stored (at + i) 0)
 
-unfoldable pub storedCounts : List ℕ → ℕ → List ℕ → List ℕ
-storedCounts stored at list = for 0 (length list) (storedCountAt stored at) list
+unfoldable pub leafCounts : List ℕ → ℕ → List ℕ → List ℕ
+leafCounts stored at list = for 0 (length list) (storedCountAt stored at) list
 
 abbrev pub isFloatAt : List Float → List ℕ → ℕ → ℕ → Bool → Bool
 isFloatAt list stored at i ok = ok && eqb (bits (getD list i nan)) (getD stored (at + i) 0)
@@ -121,8 +121,8 @@ areCounts list stored at = for 0 (length list) (isCountAt list stored at) true
 -- the lists a, b and m are stored from `at` on, and what is left of them behind
 unfoldable pub calledOf : Call → List ℕ → List Float → List Float → List ℕ → LeafAfter
 calledOf h stored a b m =
-    leafOf h (storedFloats stored (h .at) a) (storedFloats stored (h .at + length a) b)
-    (storedCounts stored (h .at + length a + length b) m)
+    leafOf h (leafFloats stored (h .at) a) (leafFloats stored (h .at + length a) b)
+    (leafCounts stored (h .at + length a + length b) m)
 
 unfoldable pub isLeft : Call → List ℕ → List Float → List Float → List ℕ → Bool
 isLeft h stored a b m =

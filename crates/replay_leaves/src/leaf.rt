@@ -4,7 +4,7 @@ ghost use mathlib.Core.Path.{_≡_};
 ghost use Prim.Native.Nat.{_+_, _*_, _≤_};
 ghost use lib.ListN.{length, getD};
 ghost use Rattle.replay_leaves.specs.Leaf.{LeafAfter, leafNorms, leafFirstStep, leafLists, leafRecords, leafOf};
-ghost use Rattle.replay_leaves.specs.Leaf.{leafWeights, leafSnapshot, storedFloats, storedCounts};
+ghost use Rattle.replay_leaves.specs.Leaf.{leafWeights, leafSnapshot, leafFloats, leafCounts};
 ghost use Rattle.replay_leaves.specs.Leaf.{areFloats, areCounts, calledOf, isLeft, isAgain, callOf, lengthOf};
 ghost use Rattle.replay_leaves.specs.Leaf.{isSame, callsDiffer};
 ghost use Rattle.loops.specs.Count.{countedAt};
@@ -202,7 +202,7 @@ fn length_of(heads: &[u64], k: usize, limit: usize) -> usize
 
 fn get_floats(stored: &[u64], at: usize, list: &mut [f64])
     requires { ⌜ at + length (now list) ≤ 1000000 ⌝ }
-    ensures { λ _. ⌜ now (list .exit) ≡ storedFloats (now (stored .entry)) at (now (list .entry)) ⌝ }
+    ensures { λ _. ⌜ now (list .exit) ≡ leafFloats (now (stored .entry)) at (now (list .entry)) ⌝ }
 {
     for i in 0..list.len() {
         list[i] = numbers::from_bits(word(stored, at + i));
@@ -211,7 +211,7 @@ fn get_floats(stored: &[u64], at: usize, list: &mut [f64])
 
 fn get_counts(stored: &[u64], at: usize, list: &mut [usize])
     requires { ⌜ at + length (now list) ≤ 1000000 ⌝ }
-    ensures { λ _. ⌜ now (list .exit) ≡ storedCounts (now (stored .entry)) at (now (list .entry)) ⌝ }
+    ensures { λ _. ⌜ now (list .exit) ≡ leafCounts (now (stored .entry)) at (now (list .entry)) ⌝ }
 {
     for i in 0..list.len() {
         list[i] = word(stored, at + i) as usize;

@@ -1,6 +1,7 @@
 // A stored answer beside the one that a call gave. How it is read follows from the stored number alone.
 ghost use Prim.Native.Nat.{_+_, _*_, _≤_};
 ghost use lib.ListN.{length};
+ghost use Rattle.common.specs.Limits.{maxStates};
 use crate::words;
 use raimsklo::Reply;
 
@@ -15,7 +16,7 @@ pub fn is_asked(stored: &[u64], at: usize) -> bool {
 
 // How many numbers a report has: y, and the snapshot behind it.
 fn reported(order: usize, n: usize) -> usize
-    requires { ⌜ (order ≤ 12) × (n ≤ 64) ⌝ }
+    requires { ⌜ (order ≤ 12) × (n ≤ maxStates) ⌝ }
     ensures { λ r. ⌜ (n ≤ r) × (r ≤ 14 * n + 6) ⌝ }
 {
     n + 6 + (order + 1) * n
@@ -23,7 +24,7 @@ fn reported(order: usize, n: usize) -> usize
 
 // How many words the stored answer has.
 pub fn size(stored: &[u64], at: usize, n: usize) -> usize
-    requires { ⌜ (at ≤ 1010000) × (n ≤ 64) ⌝ }
+    requires { ⌜ (at ≤ 1010000) × (n ≤ maxStates) ⌝ }
     ensures { λ r. ⌜ (1 ≤ r) × (r ≤ 1000) ⌝ }
 {
     let number = words::word(stored, at);
@@ -50,7 +51,7 @@ fn is_refusal(stored: &[u64], at: usize, r: Reply) -> bool
 
 // A derivative or a Jacobian wanted, or the first report, whose previous time is its time.
 fn is_question(stored: &[u64], at: usize, r: Reply, y: &[f64]) -> bool
-    requires { ⌜ (at ≤ 1010000) × (length (now y) ≤ 64) ⌝ }
+    requires { ⌜ (at ≤ 1010000) × (length (now y) ≤ maxStates) ⌝ }
 {
     if r.number == 102 {
         if numbers::to_bits(r.previous) != numbers::to_bits(r.time) {
@@ -108,7 +109,7 @@ fn is_end(stored: &[u64], at: usize, r: Reply) -> bool
 
 // Whether the call answered what is stored.
 pub fn is_stored(stored: &[u64], at: usize, n: usize, r: Reply, question: &[f64]) -> bool
-    requires { ⌜ (at ≤ 1010000) × (n ≤ 64) × (14 * n + 6 ≤ length (now question)) ⌝ }
+    requires { ⌜ (at ≤ 1010000) × (n ≤ maxStates) × (14 * n + 6 ≤ length (now question)) ⌝ }
 {
     if !words::is_count(stored, at, r.number) {
         return false;

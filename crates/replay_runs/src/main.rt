@@ -4,6 +4,7 @@ ghost use Prim.Native.Nat.{_+_, _*_, _≤_, _<_};
 ghost use mathlib.Core.Bool.{false};
 ghost use mathlib.Core.Path.{_≡_};
 ghost use lib.ListN.{length};
+ghost use Rattle.common.specs.Limits.{maxStates};
 
 mod answer;
 mod runs;
@@ -60,7 +61,7 @@ fn start(
     session: &mut [u8],
     question: &mut [f64],
 ) -> Reply
-    requires { ⌜ (head .at ≤ 1000000) × (head .n ≤ 64) × (head .nrtol ≤ 64) × (head .natol ≤ 64) ⌝ }
+    requires { ⌜ (head .at ≤ 1000000) × (head .n ≤ maxStates) × (head .nrtol ≤ maxStates) × (head .natol ≤ maxStates) ⌝ }
 {
     let n = head.n;
     let rtol = n + head.nrtol;
@@ -84,7 +85,7 @@ fn start(
 
 // Our answer beside the stored one.
 fn compared(stored: &[u64], n: usize, r: Reply, question: &[f64], f: Found) -> Found
-    requires { ⌜ (n ≤ 64) × (14 * n + 6 ≤ length (now question)) ⌝ }
+    requires { ⌜ (n ≤ maxStates) × (14 * n + 6 ≤ length (now question)) ⌝ }
     requires { ⌜ (f .at ≤ 1010000) × (f .answers ≤ f .at) × (f .differ ≤ f .at) ⌝ }
     ensures { λ g. ⌜ (g .at ≤ f .at + 1000) × (g .answers ≤ g .at) × (g .differ ≤ g .at) × (g .runs ≡ f .runs) ⌝ }
 {
@@ -101,7 +102,7 @@ fn compared(stored: &[u64], n: usize, r: Reply, question: &[f64], f: Found) -> F
 
 // How many numbers a reply has: n, of a Jacobian n·n.
 fn size(kind: usize, n: usize, squared: usize) -> usize
-    requires { ⌜ (n ≤ 64) × (squared ≤ 4096) ⌝ }
+    requires { ⌜ (n ≤ maxStates) × (squared ≤ 4096) ⌝ }
     ensures { λ r. ⌜ r ≤ 4096 ⌝ }
 {
     if kind == 2 {
@@ -121,7 +122,7 @@ fn replied(
     session: &mut [u8],
     question: &mut [f64],
 ) -> Reply
-    requires { ⌜ (at ≤ 1000000) × (n ≤ 64) × (squared ≤ 4096) ⌝ }
+    requires { ⌜ (at ≤ 1000000) × (n ≤ maxStates) × (squared ≤ 4096) ⌝ }
 {
     let kind = words::count(stored, at);
     let time = words::float(stored, at + 1);
@@ -140,7 +141,7 @@ fn replied(
 
 // Behind the stored reply.
 fn passed(stored: &[u64], f: Found, n: usize, squared: usize) -> Found
-    requires { ⌜ (n ≤ 64) × (squared ≤ 4096) ⌝ }
+    requires { ⌜ (n ≤ maxStates) × (squared ≤ 4096) ⌝ }
     requires { ⌜ (f .at ≤ 1000000) × (f .answers ≤ f .at) × (f .differ ≤ f .at) ⌝ }
     ensures { λ g. ⌜ (g .at ≤ 1010000) × (g .answers ≤ g .at) × (g .differ ≤ g .at) × (g .runs ≡ f .runs) ⌝ }
 {
@@ -170,7 +171,7 @@ fn turn(
     session: &mut [u8],
     question: &mut [f64],
 ) -> Found
-    requires { ⌜ (n ≤ 64) × (squared ≤ 4096) × (14 * n + 6 ≤ length (now question)) ⌝ }
+    requires { ⌜ (n ≤ maxStates) × (squared ≤ 4096) × (14 * n + 6 ≤ length (now question)) ⌝ }
     requires { ⌜ (f .at ≤ 1000000) × (f .answers ≤ f .at) × (f .differ ≤ f .at) ⌝ }
     ensures { λ g. ⌜ (g .at ≤ 1020000) × (g .answers ≤ g .at) × (g .differ ≤ g .at) × (g .runs ≡ f .runs) ⌝ }
 {
@@ -189,7 +190,7 @@ fn replay(
     session: &mut [u8],
     question: &mut [f64],
 ) -> Found
-    requires { ⌜ (head .at ≤ 1000000) × (head .n ≤ 64) × (head .nrtol ≤ 64) × (head .natol ≤ 64) ⌝ }
+    requires { ⌜ (head .at ≤ 1000000) × (head .n ≤ maxStates) × (head .nrtol ≤ maxStates) × (head .natol ≤ maxStates) ⌝ }
     requires { ⌜ (squared ≤ 4096) × (14 * head .n + 6 ≤ length (now question)) × (length (now stored) ≤ 1000000) ⌝ }
     requires { ⌜ (found .at ≤ 1010000) × (found .answers ≤ found .at) × (found .differ ≤ found .at) ⌝ }
     ensures { λ g. ⌜ (g .at ≤ 1020000) × (g .answers ≤ g .at) × (g .differ ≤ g .at) × (g .runs ≡ found .runs) ⌝ }
@@ -207,7 +208,7 @@ fn replay(
 }
 
 fn square(n: usize) -> usize
-    requires { ⌜ n ≤ 64 ⌝ }
+    requires { ⌜ n ≤ maxStates ⌝ }
     ensures { λ r. ⌜ r ≤ 4096 ⌝ }
 {
     n * n
@@ -220,9 +221,9 @@ fn run(stored: &[u64], f: Found) -> Found
     ensures { λ g. ⌜ (g .at ≤ 1020000) × (g .answers ≤ g .at) × (g .differ ≤ g .at) × (g .runs ≡ f .runs + 1) ⌝ }
 {
     let at = f.at;
-    let n = words::limited(stored, at, 64);
-    let nrtol = words::limited(stored, at + 1, 64);
-    let natol = words::limited(stored, at + 2, 64);
+    let n = words::limited(stored, at, common::MAX_STATES);
+    let nrtol = words::limited(stored, at + 1, common::MAX_STATES);
+    let natol = words::limited(stored, at + 2, common::MAX_STATES);
     let head = Head {
         at: at,
         n: n,
@@ -233,11 +234,11 @@ fn run(stored: &[u64], f: Found) -> Found
     found.at = at + 19 + n + nrtol + natol;
     found.runs = f.runs + 1;
     let squared = square(n);
-    let works = squared + 19 * n;
+    let works = squared + common::MATRIX * n;
     let asked = 14 * n + 6;
     let mut work = [0.0; 5312];
-    let mut pivots = [0usize; 64];
-    let mut session = [0u8; 1448];
+    let mut pivots = [0usize; common::MAX_STATES];
+    let mut session = [0u8; common::SESSION_LENGTH];
     let mut question = [0.0; 902];
     replay(
         stored,

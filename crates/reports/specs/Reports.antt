@@ -2,20 +2,17 @@
 -- report does.
 use mathlib.Core.Bool.{Bool, true, false}
 use mathlib.Core.List.{List}
-use Prim.Native.Nat.{_+_, max}
 use lib.Ieee.{Float}
-use Rattle.numbers.specs.Float.{_⊕_, zeroF, oneF, d0·7}
+use Rattle.numbers.specs.Float.{_⊕_}
 use Rattle.numbers.specs.Sign.{refused}
+use lib.Ieee as Ieee
 use Rattle.vectors.specs.declared.Weights.{Weights}
 use Rattle.vectors.specs.declared.Weights.the-variants.{Inverted, Refused}
 use Rattle.vectors.specs.Weights.{ewsetOf, ewsetLikeOf, invertOf, weightsOutcome}
 use Rattle.common.specs.declared.Settings.{Settings}
 use Rattle.common.specs.declared.Common.{Common}
-use Rattle.common.specs.declared.MethodFamily.the-variants.{Adams}
 use Rattle.common.specs.Layout.{ewtAt, yAt, ewt}
-use Rattle.common.specs.Limits.{mxordnOf, mxordsOf}
 use Rattle.common.specs.Record.{with-h, with-tn}
-use Rattle.common.specs.Rules.{icount20}
 use Rattle.history.specs.Columns.{copyOf, slopeOf}
 use Rattle.between_steps.specs.declared.Answer.{Answer}
 use Rattle.between_steps.specs.declared.Answer.the-variants.{Continue, Interrupt, Modified}
@@ -28,17 +25,6 @@ use Rattle.questions.specs.Begin.{goOnOf}
 
 -- ---- the start
 
--- the record at the start, h being the first step where it is given; the first derivative is asked for
-unfoldable pub initialOf : Settings → Float → Float → Float → Float → Common
-initialOf s x0 h hmin hmxi = record {
-  hmin = hmin; hmxi = hmxi;
-  tn = x0; h = h; hu = zeroF; told = x0; rc = zeroF; el0 = oneF; conit = zeroF; rmax = zeroF;
-  pdest = zeroF; pdlast = zeroF; pdnorm = zeroF; convrate = d0·7; pnorm = zeroF; rate = zeroF; delp = zeroF;
-  meth = Adams; nq = 1; lmax = max (mxordnOf s) (mxordsOf s) + 1; nqnyh = s .n; ialth = 2; icount = icount20; table = 0;
-  nslp = 0; nst = 0; nfe = 1; nje = 0; nlu = 0; rejected = 0; total = 0; count = 0; kflag = 0; ncf = 0; m = 0;
-  column = 0;
-  due = false; jcur = false; setup = true;
-}
 
 -- 11: a first step that is zero, NaN or of another sign
 unfoldable pub sizedAt : Settings → Bool → Common → Float → List Float → TurnWork

@@ -6,6 +6,7 @@
 ghost use Prim.Native.Nat.{_≤_};
 ghost use mathlib.Core.Path.{_≡_};
 ghost use lib.ListN.{length};
+ghost use Rattle.common.specs.SessionWords.{sessionLength};
 
 mod chain;
 mod show;
@@ -175,7 +176,7 @@ fn is_first(r: Reply, at: f64, pose: &[f64], y: &[f64]) -> bool
 
 // What was seen with this question, whose pose is kept. The family is a byte of the session: docs/SESSION.md.
 fn watched(w: Watch, r: Reply, pose: &mut [f64], session: &[u8], y: &[f64]) -> Watch
-    requires { ⌜ (length (now pose) ≡ 64) × (length (now session) ≡ 1448) × (length (now y) ≡ 902) ⌝ }
+    requires { ⌜ (length (now pose) ≡ 64) × (length (now session) ≡ sessionLength) × (length (now y) ≡ 902) ⌝ }
 {
     if r.number > 101 {
         return reported(w, r, session[96]);
@@ -308,7 +309,7 @@ fn turn(
 ) -> Outcome
     requires {
         ⌜ (length (now pose) ≡ 64) × (length (now numbers) ≡ 64) × (length (now columns) ≡ 4096)
-        × (length (now session) ≡ 1448) × (length (now question) ≡ 902) ⌝
+        × (length (now session) ≡ sessionLength) × (length (now question) ≡ 902) ⌝
     }
 {
     let w = watched(o.watch, o.end, pose, session, question);
@@ -328,7 +329,7 @@ fn drive(
 ) -> Outcome
     requires {
         ⌜ (length (now pose) ≡ 64) × (length (now numbers) ≡ 64) × (length (now columns) ≡ 4096)
-        × (length (now session) ≡ 1448) × (length (now question) ≡ 902) ⌝
+        × (length (now session) ≡ sessionLength) × (length (now question) ≡ 902) ⌝
     }
 {
     let w = Watch {
@@ -383,7 +384,7 @@ fn run(options: Options) {
     let mut columns = [0.0; 4096];
     let mut work = [0.0; 5312];
     let mut pivots = [0usize; 64];
-    let mut session = [0u8; 1448];
+    let mut session = [0u8; common::SESSION_LENGTH];
     let mut question = [0.0; 902];
     let o = drive(
         options,

@@ -20,19 +20,19 @@ use Rattle.common.specs.declared.MethodFamily.the-variants.{Adams}
 use Rattle.common.specs.declared.Settings.{Settings}
 use Rattle.common.specs.Rules.{firstCallInitOf, resetOf}
 use Rattle.common.specs.State.{Given}
-use Rattle.history.specs.Columns.{predictColumnsOf, retractColumnsOf, scalePartOf, rescaleColumnsOf}
-use Rattle.history.specs.Columns.{copyOf, slopeOf, fillOf}
+use Rattle.history.specs.Columns.{predictColumnsOf, retractColumnsOf, scalePartOf, rescaleColumnsOf, copyOf, slopeOf}
+use Rattle.history.specs.Columns.{fillOf}
 use Rattle.history.specs.Steps.{limitedOf, adjustOf, staleOf, predictedOf}
 use Rattle.corrector.specs.Verdict.{judgeOf, ratedOf, dconOf, estimatedOf, judgedConverged, giveUpOf, judgedFurther}
 use Rattle.corrector.specs.Verdict.{judgedTested}
 use Rattle.corrector.specs.Iterate.{openOf, adamsResidualOf, adamsUpdateOf, adamsOf, correctOf}
-use Rattle.attempt.specs.Attempt.{retractedOf, repredictOf, errorOf, shrunkOf, tenthOf, missedAt, missedOf, overshotOf}
-use Rattle.attempt.specs.Attempt.{failedOf, restepOf}
+use Rattle.attempt.specs.Attempt.{retractedOf, repredictOf, errorOf, shrunkOf, tenthOf, missedAt, missedOf}
+use Rattle.attempt.specs.Attempt.{overshotOf, failedOf, restepOf}
 use Rattle.between_steps.specs.declared.Answer.the-variants.{Continue}
 use Rattle.between_steps.specs.declared.Kind.the-variants.{Derivative, Report}
 use Rattle.between_steps.specs.Begin.{setupOf, preparedAt, preparedOf, predictedAt}
 use Rattle.between_steps.specs.Start.{firstSizeOf}
-use Rattle.reports.specs.Reports.{initialOf}
+use Rattle.common.specs.Initial.{initialOf}
 use Rattle.rules.specs.Play.{tooSmall}
 use Rattle.rules.specs.Pass.{iterated, turns, iterations, passAt, pass}
 use Rattle.rules.specs.Rules.{follow, attempted, tested, decide, attempts, stepped, step, solveAt, Start}

@@ -25,7 +25,7 @@ use Rattle.between_steps.specs.declared.Answer.{Answer}
 use Rattle.between_steps.specs.declared.Answer.the-variants.{Continue, Interrupt, Modified}
 use Rattle.between_steps.specs.Ranges.{Accepted}
 use Rattle.between_steps.specs.Begin.{cutOf, setupOf, preparedAt, preparedOf, predictedAt}
-use Rattle.reports.specs.Reports.{initialOf}
+use Rattle.common.specs.Initial.{initialOf}
 use Rattle.rules.specs.Play.{Play}
 use Rattle.rules.specs.Pass.{put-c, put-w}
 use Rattle.rules.specs.Rules.{timed, stepped, predicted, limitsOf, passesAllowed, step, solveAt, solve, Start}

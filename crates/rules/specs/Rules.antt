@@ -33,10 +33,9 @@ use Rattle.between_steps.specs.declared.Answer.the-variants.{Continue, Interrup
 use Rattle.between_steps.specs.declared.Status.the-variants as Status
 use Rattle.between_steps.specs.Begin.{isGoing, preparedOf, enteredOf, predictedAt}
 use Rattle.between_steps.specs.Start.{firstSizeOf, firstStepOf, inverted, takenOf, restartOf}
-use Rattle.reports.specs.Reports.{initialOf}
-use Rattle.rules.specs.Play.{Report, Limits, accepted, gap, tooSmall, poor}
-use Rattle.rules.specs.Play.{begins, ends, finished, stepRefused, weightRefused, exhausted}
-use Rattle.rules.specs.Play.{Play, ret, ask, tell, say}
+use Rattle.common.specs.Initial.{initialOf}
+use Rattle.rules.specs.Play.{Report, Limits, accepted, gap, tooSmall, poor, begins, ends, finished, stepRefused}
+use Rattle.rules.specs.Play.{weightRefused, exhausted, Play, ret, ask, tell, say}
 use Rattle.rules.specs.Pass.{made, put-c, put-w, movedTo, asked, askedInStep, wanted, stored, columnsOf}
 use Rattle.rules.specs.Pass.{Outcome, converged, toRetry, unconverged, pass}
 

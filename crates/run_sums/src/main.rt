@@ -134,7 +134,7 @@ fn run(
 fn outcome_of(sum: Sum) -> Outcome {
     let mut work = [0.0; 20];
     let mut pivots = [0usize; 1];
-    let mut session = [0u8; 1448];
+    let mut session = [0u8; common::SESSION_LENGTH];
     let mut question = [0.0; 20];
     run(sum, &mut work, &mut pivots, &mut session, &mut question)
 }

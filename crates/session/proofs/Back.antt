@@ -6,8 +6,7 @@
 --     n-encode, finished-encode      what a finished session is judged by
 --     stored-n, finished-phase       n and phase as they are decoded
 -- Assumes nothing.
-use mathlib.Core.Path.{_≡_, refl, sym, _∙_, ap}
-use mathlib.Core.Bool.{Bool, true, false}
+use mathlib.Core.Path.{_≡_, sym, _∙_, ap}
 use mathlib.Core.List.{List}
 use mathlib.Core.Logic.{inl, inr, ⊎-elim}
 use Prim.Native.Nat.{ℕ, _+_, _-_, _≤_, _<_, _^_}
@@ -20,64 +19,28 @@ use lib.Ieee.{Float, nan, binary64, ofBits}
 use lib.Ieee.Bits.{ofBits-toBits, toBits-lt}
 use Rattle.loops.specs.Part.{part}
 use Rattle.numbers.specs.Float.{zeroF}
-use Rattle.common.specs.declared.MethodFamily.{MethodFamily}
-use Rattle.common.specs.declared.MethodFamily.the-variants.{Adams, Bdf}
-use Rattle.questions.specs.declared.Phase.{Phase}
 use Rattle.questions.specs.declared.Phase.the-variants as Phase
 use Rattle.questions.specs.declared.Session.{Session}
-use Rattle.words.specs.Words.{word, float, countsIn, floatsIn, slotOf, putCountsOf, putFloatsOf}
-use Rattle.fields.specs.States.{flagNumber, flagOf, familyNumber, familyOf, phaseNumber, phaseOf}
-use Rattle.fields.specs.Fields.{countsOf, floatsOf, sessionOf, Fit, Fits}
-use Rattle.session.specs.Session.{encodeOf, decodeOf, putTolerancesOf, rtolSlots, atolSlots}
-use Rattle.session.specs.Session.{storedN, finishedIn, ListFits}
-use Rattle.words.proofs.Rows.{same-default, length-put-counts, length-put-floats}
-use Rattle.words.proofs.Rows.{length-counts, counts-at, length-floats, floats-at}
-use Rattle.words.proofs.Rows.{put-counts-at, put-counts-other, put-floats-at, put-floats-other}
-use Rattle.fields.proofs.Listed.{counts-small, floats-fit, phase-small, zero-fits}
-
--- ---- states
-
-flag-back : (b : Bool) → flagOf (flagNumber b) ≡ b
-flag-back true = refl
-flag-back false = refl
-
-family-back : (m : MethodFamily) → familyOf (familyNumber m) ≡ m
-unfolding familyOf
-family-back Adams = refl
-family-back Bdf = refl
-
-pub phase-back : (p : Phase) → phaseOf (phaseNumber p) ≡ p
-unfolding phaseOf
-phase-back Phase.FirstDerivative = refl
-phase-back Phase.FirstReport = refl
-phase-back Phase.FirstModified = refl
-phase-back Phase.Opened = refl
-phase-back Phase.JacobianAsked = refl
-phase-back Phase.DifferenceColumn = refl
-phase-back Phase.FurtherDerivative = refl
-phase-back Phase.Restep = refl
-phase-back Phase.Report = refl
-phase-back Phase.Modified = refl
-phase-back Phase.Finished = refl
-
--- the record from its own words
-record-back : (x : Session) → sessionOf (countsOf x) (floatsOf x) ≡ x
-record-back x =
-    rw (
-      flag-back (x .settings .supplied),
-      flag-back (x .settings .given),
-      family-back (x .common .meth),
-      flag-back (x .common .due),
-      flag-back (x .common .jcur),
-      flag-back (x .common .setup),
-      phase-back (x .phase),
-    )
+use Rattle.words.specs.Words.{word, float, floatsIn, slotOf, putCountsOf, putFloatsOf}
+use Rattle.session.specs.States.{phaseNumber}
+use Rattle.session.specs.Fields.{sessionOf, countsOf, floatsOf, Fit, Fits}
+use Rattle.session.specs.Session.{encodeOf, decodeOf, putTolerancesOf, rtolSlots, atolSlots, storedCounts}
+use Rattle.session.specs.Session.{storedFloats, storedN, finishedIn, ListFits}
+use Rattle.common.specs.Limits.{maxStates}
+use Rattle.common.specs.SessionWords.{countWords, floatWords, rtolAt, atolAt, sessionLength}
+use Rattle.words.proofs.Rows.{same-default, length-put-counts, length-put-floats, length-counts, counts-at}
+use Rattle.words.proofs.Rows.{length-floats, floats-at, put-counts-at, put-counts-other, put-floats-at}
+use Rattle.words.proofs.Rows.{put-floats-other}
+use Rattle.session.proofs.Listed.{counts-small, floats-fit, record-back, zero-fits}
+use Rattle.session.proofs.StateNumbers.{phase-small}
 
 -- ---- the record
 
 pub length-encode : (x : Session) (b : List ℕ) → length (encodeOf x b) ≡ length b
 unfolding encodeOf
-length-encode x b = length-put-floats 34 19 (floatsOf x) (putCountsOf (countsOf x) b) ∙ length-put-counts (countsOf x) b
+length-encode x b =
+    length-put-floats countWords floatWords (floatsOf x) (putCountsOf 0 (countsOf x) b)
+    ∙ length-put-counts 0 (countsOf x) b
 
 -- a slot that was put and read is the entry
 pub slot-back : (list : List Float) (i : ℕ) → Fit (getD list i zeroF)
@@ -87,77 +50,80 @@ slot-back list i f = ofBits-toBits binary64 (getD list i zeroF) f
 slot-small : (list : List Float) (i : ℕ) → Fit (getD list i zeroF) → slotOf list i < 2 ^ 64
 slot-small list i f = toBits-lt binary64 (getD list i zeroF) f
 
-module _ (x : Session) (b : List ℕ) (room : 1448 ≤ length b) where
-  -- words 0 to 33 are the counts
-  pub encoded-count : (k : ℕ) → k < 34 → getD (countsOf x) k 0 < 2 ^ 64 → word (encodeOf x b) k ≡ getD (countsOf x) k 0
+module _ (x : Session) (b : List ℕ) (room : sessionLength ≤ length b) where
+  -- the first words are the counts
+  pub encoded-count : (k : ℕ) → k < countWords → getD (countsOf x) k 0 < 2 ^ 64
+      → word (encodeOf x b) (0 + k) ≡ getD (countsOf x) k 0
   unfolding encodeOf
   encoded-count k h small =
-      put-floats-other 34 19 (floatsOf x) (putCountsOf (countsOf x) b) k (inl h)
-      ∙ put-counts-at (countsOf x) b k h (omega arith) small
+      put-floats-other countWords floatWords (floatsOf x) (putCountsOf 0 (countsOf x) b) (0 + k) (inl (omega arith))
+      ∙ put-counts-at 0 (countsOf x) b k h (omega arith) small
 
-  -- words from 53 on stay
-  pub encoded-other : (j : ℕ) → 53 ≤ j → word (encodeOf x b) j ≡ word b j
+  -- words from the tolerances on stay
+  pub encoded-other : (j : ℕ) → rtolAt ≤ j → word (encodeOf x b) j ≡ word b j
   unfolding encodeOf
   encoded-other j h =
-      put-floats-other 34 19 (floatsOf x) (putCountsOf (countsOf x) b) j (inr h)
-      ∙ put-counts-other (countsOf x) b j (omega arith)
+      put-floats-other countWords floatWords (floatsOf x) (putCountsOf 0 (countsOf x) b) j (inr h)
+      ∙ put-counts-other 0 (countsOf x) b j (inr (omega arith))
 
-  encoded-float : (k : ℕ) → k < 19 → Fit (getD (floatsOf x) k zeroF)
-      → float (encodeOf x b) (34 + k) ≡ getD (floatsOf x) k zeroF
+  encoded-float : (k : ℕ) → k < floatWords → Fit (getD (floatsOf x) k zeroF)
+      → float (encodeOf x b) (countWords + k) ≡ getD (floatsOf x) k zeroF
   unfolding encodeOf
   encoded-float k h f =
       ap (ofBits binary64)
-      (put-floats-at 34 19 (floatsOf x) (putCountsOf (countsOf x) b) k h (rw length-put-counts (omega arith))
+      (put-floats-at countWords floatWords (floatsOf x) (putCountsOf 0 (countsOf x) b) k h
+      (rw length-put-counts (omega arith))
       (slot-small (floatsOf x) k f))
       ∙ slot-back (floatsOf x) k f
 
-  slots-kept : (at : ℕ) → 53 ≤ at → floatsIn (encodeOf x b) at 64 ≡ floatsIn b at 64
+  slots-kept : (at : ℕ) → rtolAt ≤ at → floatsIn (encodeOf x b) at maxStates ≡ floatsIn b at maxStates
   slots-kept at h =
-      ext-getD nan (floatsIn (encodeOf x b) at 64) (floatsIn b at 64)
-      (length-floats (encodeOf x b) at 64 ∙ sym (length-floats b at 64))
+      ext-getD nan (floatsIn (encodeOf x b) at maxStates) (floatsIn b at maxStates)
+      (length-floats (encodeOf x b) at maxStates ∙ sym (length-floats b at maxStates))
       (λ i l.
-      let m : i < 64 = omega (arith, length-floats (encodeOf x b) at 64) in
-      floats-at (encodeOf x b) at 64 i nan m ∙ ap (ofBits binary64) (encoded-other (at + i) (omega arith))
-      ∙ sym (floats-at b at 64 i nan m))
+      let m : i < maxStates = omega (arith, length-floats (encodeOf x b) at maxStates) in
+      floats-at (encodeOf x b) at maxStates i nan m ∙ ap (ofBits binary64) (encoded-other (at + i) (omega arith))
+      ∙ sym (floats-at b at maxStates i nan m))
 
   pub rtol-kept : rtolSlots (encodeOf x b) ≡ rtolSlots b
-  rtol-kept = slots-kept 53 (omega arith)
+  rtol-kept = slots-kept rtolAt (omega arith)
 
   pub atol-kept : atolSlots (encodeOf x b) ≡ atolSlots b
-  atol-kept = slots-kept 117 (omega arith)
+  atol-kept = slots-kept atolAt (omega arith)
 
   module _ (fits : Fits x) where
-    pub counts-back : countsIn (encodeOf x b) ≡ countsOf x
+    pub counts-back : storedCounts (encodeOf x b) ≡ countsOf x
     counts-back =
-        ext-getD 0 (countsIn (encodeOf x b)) (countsOf x) (length-counts (encodeOf x b))
+        ext-getD 0 (storedCounts (encodeOf x b)) (countsOf x) (length-counts (encodeOf x b) 0 countWords)
         (λ i l.
-        let m : i < 34 = omega (arith, length-counts (encodeOf x b)) in
-        counts-at (encodeOf x b) i m ∙ encoded-count i m (counts-small x (fits .counts) i))
+        let m : i < countWords = omega (arith, length-counts (encodeOf x b) 0 countWords) in
+        counts-at (encodeOf x b) 0 countWords i 0 m ∙ encoded-count i m (counts-small x (fits .counts) i))
 
-    pub floats-back : floatsIn (encodeOf x b) 34 19 ≡ floatsOf x
+    pub floats-back : storedFloats (encodeOf x b) ≡ floatsOf x
     floats-back =
-        ext-getD nan (floatsIn (encodeOf x b) 34 19) (floatsOf x) (length-floats (encodeOf x b) 34 19)
+        let e = length-floats (encodeOf x b) countWords floatWords in
+        ext-getD nan (storedFloats (encodeOf x b)) (floatsOf x) e
         (λ i l.
-        let m : i < 19 = omega (arith, length-floats (encodeOf x b) 34 19) in
-        floats-at (encodeOf x b) 34 19 i nan m ∙ encoded-float i m (floats-fit x (fits .floats) i)
+        let m : i < floatWords = omega (arith, e) in
+        floats-at (encodeOf x b) countWords floatWords i nan m ∙ encoded-float i m (floats-fit x (fits .floats) i)
         ∙ same-default (floatsOf x) i zeroF nan m)
 
     pub decode-encode : decodeOf (encodeOf x b) ≡ x
     unfolding decodeOf
     decode-encode =
-        ap (λ (u : List ℕ). sessionOf u (floatsIn (encodeOf x b) 34 19)) counts-back
+        ap (λ (u : List ℕ). sessionOf u (storedFloats (encodeOf x b))) counts-back
         ∙ ap (λ (f : List Float). sessionOf (countsOf x) f) floats-back
         ∙ record-back x
 
 -- ---- n and the phase
 
-pub finished-encode : (x : Session) (b : List ℕ) → 1448 ≤ length b
+pub finished-encode : (x : Session) (b : List ℕ) → sessionLength ≤ length b
     → finishedIn (encodeOf x b) ≡ eqb (phaseNumber (x .phase)) 10
 finished-encode x b room = rw (encoded-count x b room 0 (lit< tt) (phase-small (x .phase)))
 
 pub stored-n : (b : List ℕ) → decodeOf b .settings .n ≡ storedN b
 unfolding decodeOf
-stored-n b = counts-at b 1 (lit< tt)
+stored-n b = counts-at b 0 countWords 1 0 (lit< tt)
 
 -- ---- the tolerances
 
@@ -169,16 +135,17 @@ slot-fits list f i =
     (eq-zero-or-pos (length list - i))
 
 -- the first entries of slots that were put are the list
-slots-back : (b : List ℕ) (at : ℕ) (list : List Float) → length list ≤ 64 → ListFits list
-    → ((i : ℕ) → i < 64 → word b (at + i) ≡ slotOf list i) → part 0 (length list) (floatsIn b at 64) ≡ list
+slots-back : (b : List ℕ) (at : ℕ) (list : List Float) → length list ≤ maxStates → ListFits list
+    → ((i : ℕ) → i < maxStates → word b (at + i) ≡ slotOf list i)
+    → part 0 (length list) (floatsIn b at maxStates) ≡ list
 slots-back b at list h f put =
-    let l = length-floats b at 64 in
-    let m : length (take (length list) (floatsIn b at 64)) ≡ length list =
-    length-take-le (length list) (floatsIn b at 64) (omega arith) in
-    ext-getD nan (take (length list) (floatsIn b at 64)) list m
+    let l = length-floats b at maxStates in
+    let m : length (take (length list) (floatsIn b at maxStates)) ≡ length list =
+    length-take-le (length list) (floatsIn b at maxStates) (omega arith) in
+    ext-getD nan (take (length list) (floatsIn b at maxStates)) list m
     (λ i k.
     let o : i < length list = omega arith in
-    getD-take (length list) (floatsIn b at 64) i nan o ∙ floats-at b at 64 i nan (omega arith)
+    getD-take (length list) (floatsIn b at maxStates) i nan o ∙ floats-at b at maxStates i nan (omega arith)
     ∙ ap (ofBits binary64) (put i (omega arith)) ∙ slot-back list i (slot-fits list f i)
     ∙ same-default list i zeroF nan o)
 
@@ -186,55 +153,60 @@ module _ (rtol atol : List Float) (b : List ℕ) where
   pub length-put-tolerances : length (putTolerancesOf rtol atol b) ≡ length b
   unfolding putTolerancesOf
   length-put-tolerances =
-      length-put-floats 117 64 atol (putFloatsOf 53 64 rtol b) ∙ length-put-floats 53 64 rtol b
+      length-put-floats atolAt maxStates atol (putFloatsOf rtolAt maxStates rtol b)
+      ∙ length-put-floats rtolAt maxStates rtol b
 
-  -- words below 53 stay
-  pub put-other : (j : ℕ) → j < 53 → word (putTolerancesOf rtol atol b) j ≡ word b j
+  -- the record's words stay
+  pub put-other : (j : ℕ) → j < rtolAt → word (putTolerancesOf rtol atol b) j ≡ word b j
   unfolding putTolerancesOf
   put-other j h =
-      put-floats-other 117 64 atol (putFloatsOf 53 64 rtol b) j (inl (omega arith))
-      ∙ put-floats-other 53 64 rtol b j (inl h)
+      put-floats-other atolAt maxStates atol (putFloatsOf rtolAt maxStates rtol b) j (inl (omega arith))
+      ∙ put-floats-other rtolAt maxStates rtol b j (inl h)
 
-  pub counts-put : countsIn (putTolerancesOf rtol atol b) ≡ countsIn b
+  pub counts-put : storedCounts (putTolerancesOf rtol atol b) ≡ storedCounts b
   counts-put =
       let t = putTolerancesOf rtol atol b in
-      ext-getD 0 (countsIn t) (countsIn b) (length-counts t ∙ sym (length-counts b))
+      let e = length-counts t 0 countWords in
+      ext-getD 0 (storedCounts t) (storedCounts b) (e ∙ sym (length-counts b 0 countWords))
       (λ i l.
-      let m : i < 34 = omega (arith, length-counts t) in
-      counts-at t i m ∙ put-other i (omega arith) ∙ sym (counts-at b i m))
+      let m : i < countWords = omega (arith, e) in
+      counts-at t 0 countWords i 0 m ∙ put-other (0 + i) (omega arith) ∙ sym (counts-at b 0 countWords i 0 m))
 
-  floats-put : floatsIn (putTolerancesOf rtol atol b) 34 19 ≡ floatsIn b 34 19
+  floats-put : storedFloats (putTolerancesOf rtol atol b) ≡ storedFloats b
   floats-put =
       let t = putTolerancesOf rtol atol b in
-      ext-getD nan (floatsIn t 34 19) (floatsIn b 34 19) (length-floats t 34 19 ∙ sym (length-floats b 34 19))
+      let e = length-floats t countWords floatWords in
+      ext-getD nan (storedFloats t) (storedFloats b) (e ∙ sym (length-floats b countWords floatWords))
       (λ i l.
-      let m : i < 19 = omega (arith, length-floats t 34 19) in
-      floats-at t 34 19 i nan m ∙ ap (ofBits binary64) (put-other (34 + i) (omega arith))
-      ∙ sym (floats-at b 34 19 i nan m))
+      let m : i < floatWords = omega (arith, e) in
+      floats-at t countWords floatWords i nan m ∙ ap (ofBits binary64) (put-other (countWords + i) (omega arith))
+      ∙ sym (floats-at b countWords floatWords i nan m))
 
   pub decode-put : decodeOf (putTolerancesOf rtol atol b) ≡ decodeOf b
   unfolding decodeOf
   decode-put =
-      ap (λ (u : List ℕ). sessionOf u (floatsIn (putTolerancesOf rtol atol b) 34 19)) counts-put
-      ∙ ap (λ (f : List Float). sessionOf (countsIn b) f) floats-put
+      ap (λ (u : List ℕ). sessionOf u (storedFloats (putTolerancesOf rtol atol b))) counts-put
+      ∙ ap (λ (f : List Float). sessionOf (storedCounts b) f) floats-put
 
-  module _ (room : 1448 ≤ length b) where
-    pub rtol-slot : ListFits rtol → (i : ℕ) → i < 64 → word (putTolerancesOf rtol atol b) (53 + i) ≡ slotOf rtol i
+  module _ (room : sessionLength ≤ length b) where
+    pub rtol-slot : ListFits rtol → (i : ℕ) → i < maxStates
+        → word (putTolerancesOf rtol atol b) (rtolAt + i) ≡ slotOf rtol i
     unfolding putTolerancesOf
     rtol-slot f i h =
-        put-floats-other 117 64 atol (putFloatsOf 53 64 rtol b) (53 + i) (inl (omega arith))
-        ∙ put-floats-at 53 64 rtol b i h (omega arith) (slot-small rtol i (slot-fits rtol f i))
+        put-floats-other atolAt maxStates atol (putFloatsOf rtolAt maxStates rtol b) (rtolAt + i) (inl (omega arith))
+        ∙ put-floats-at rtolAt maxStates rtol b i h (omega arith) (slot-small rtol i (slot-fits rtol f i))
 
-    pub atol-slot : ListFits atol → (i : ℕ) → i < 64 → word (putTolerancesOf rtol atol b) (117 + i) ≡ slotOf atol i
+    pub atol-slot : ListFits atol → (i : ℕ) → i < maxStates
+        → word (putTolerancesOf rtol atol b) (atolAt + i) ≡ slotOf atol i
     unfolding putTolerancesOf
     atol-slot f i h =
-        put-floats-at 117 64 atol (putFloatsOf 53 64 rtol b) i h (rw length-put-floats (omega arith))
-        (slot-small atol i (slot-fits atol f i))
+        put-floats-at atolAt maxStates atol (putFloatsOf rtolAt maxStates rtol b) i h
+        (rw length-put-floats (omega arith)) (slot-small atol i (slot-fits atol f i))
 
-    pub rtol-put : length rtol ≤ 64 → ListFits rtol
+    pub rtol-put : length rtol ≤ maxStates → ListFits rtol
         → part 0 (length rtol) (rtolSlots (putTolerancesOf rtol atol b)) ≡ rtol
-    rtol-put h f = slots-back (putTolerancesOf rtol atol b) 53 rtol h f (rtol-slot f)
+    rtol-put h f = slots-back (putTolerancesOf rtol atol b) rtolAt rtol h f (rtol-slot f)
 
-    pub atol-put : length atol ≤ 64 → ListFits atol
+    pub atol-put : length atol ≤ maxStates → ListFits atol
         → part 0 (length atol) (atolSlots (putTolerancesOf rtol atol b)) ≡ atol
-    atol-put h f = slots-back (putTolerancesOf rtol atol b) 117 atol h f (atol-slot f)
+    atol-put h f = slots-back (putTolerancesOf rtol atol b) atolAt atol h f (atol-slot f)

@@ -1,6 +1,6 @@
 -- A test of every index below an end, `every p e`, and a loop that is left at the first index that fails.
 --     every-again, every-fails, every-ends     the steps of a proof whose invariant is `for i e (andAt p) true ≡ r`
---     every-halves, lost-for                   the test of all words in two runs, and the first of them failed
+--     every-parts, lost-for                    the test in two runs, and the first of them failed
 --     run-again, run-fails, run-of-four        the same steps by a run of n indices, and what a run of four tests
 --     every-at, every-all                      every index passes, if and only if the test does
 -- Assumes nothing.
@@ -28,11 +28,6 @@ module _ (p : ℕ → Bool) where
   pub every-ends : (i e : ℕ) (r : Bool) → e ≤ i → for i e (andAt p) true ≡ r → true ≡ r
   every-ends i e r h q = ended (andAt p) i e true r h q
 
-  -- the test of 34 in two halves
-  pub every-halves : every p 34 ≡ for 17 34 (andAt p) (for 0 17 (andAt p) true)
-  unfolding every times
-  every-halves = refl
-
   pub lost-for : (i e : ℕ) → for i e (andAt p) false ≡ false
   lost-for i e = stays (andAt p) i e false (λ k. refl)
 
@@ -46,6 +41,12 @@ module _ (p : ℕ → Bool) where
       let s : i + suc n ≡ i + 1 + n = omega arith in
       rw (s, turn (andAt p) i e ok (omega arith), turn (andAt p) i (i + 1 + n) ok (omega arith))
       (parts n (i + 1) e (ok && p i) (omega arith))
+
+  pub every-parts : (n e : ℕ) → n ≤ e → every p e ≡ for n e (andAt p) (for 0 n (andAt p) true)
+  unfolding every
+  every-parts n e h =
+      let z : 0 + n ≡ n = omega arith in
+      rw z at (parts n 0 e true (omega arith))
 
   pub run-again : (n i e : ℕ) (r : Bool) → i + n ≤ e → for i (i + n) (andAt p) true ≡ true
       → for i e (andAt p) true ≡ r → for (i + n) e (andAt p) true ≡ r

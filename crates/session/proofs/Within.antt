@@ -1,24 +1,26 @@
 -- The tests of 13 on the record, as facts and back.
 --     low, high            what one word says
 --     related, relates     what fields say of each other
---     small, lists-small   the sizes that the tests themselves need
+--     between              words between the least and the greatest values pass
 -- Assumes nothing.
 use mathlib.Core.Path.{_≡_, refl}
 use mathlib.Core.Bool.{Bool, true, false, _&&_, _||_}
-use mathlib.Core.List.{List}
+use mathlib.Core.List.{List, [], _∷_}
 use mathlib.Core.Logic.{_⊎_, inl, inr, ⊎-elim}
-use Prim.Native.Nat.{ℕ, _*_, _%_, _≤_, _<_}
+use Prim.Native.Nat.{ℕ, zero, suc, _*_, _%_, _≤_, _<_}
+use native.Mathlib.Nat.{not-suc-le-zero, le-of-suc-le-suc}
 use native.Mathlib.Omega.{arith}
-use lib.Dec.{eqb, ltb, leb, lit<}
-use lib.ListN.{getD}
+use lib.Dec.{eqb, ltb, leb}
+use lib.ListN.{length, getD}
 use borrow.Author.Tests.{ltb-true, leb-true, eqb-true, lt-ltb, le-leb, eq-eqb}
 use Rattle.loops.specs.Test.{both}
 use Rattle.common.specs.declared.Settings.{Settings}
 use Rattle.common.specs.declared.Common.{Common}
 use Rattle.common.specs.Limits.{mxncfOf}
-use Rattle.fields.specs.Fields.{lowest, highest}
-use Rattle.session.specs.Session.{every, wordInRange, oneOrN, OneOrN}
-use Rattle.session.specs.Session.{listsInRange, ordersInRange, countersInRange, fieldsInRange}
+use Rattle.common.specs.SessionWords.{countWords}
+use Rattle.session.specs.Fields.{lowest, highest}
+use Rattle.session.specs.Session.{every, wordInRange, oneOrN, OneOrN, listsInRange, ordersInRange}
+use Rattle.session.specs.Session.{countersInRange, fieldsInRange}
 use Rattle.session.proofs.Every.{every-at}
 
 either : (a b : Bool) → a || b ≡ true → (a ≡ true) ⊎ (b ≡ true)
@@ -27,18 +29,33 @@ either false b e = inr e
 
 -- ---- what one word says
 
-module _ (u : List ℕ) (q : every (wordInRange u) 34 ≡ true) where
-  in-range : (i : ℕ) → i < 34
+module _ (u : List ℕ) (q : every (wordInRange u) countWords ≡ true) where
+  in-range : (i : ℕ) → i < countWords
       → (leb (getD lowest i 0) (getD u i 0) ≡ true) × (leb (getD u i 0) (getD highest i 0) ≡ true)
   in-range i h =
       both (leb (getD lowest i 0) (getD u i 0)) (leb (getD u i 0) (getD highest i 0))
-      (every-at (wordInRange u) 34 q i h)
+      (every-at (wordInRange u) countWords q i h)
 
-  pub low : (i : ℕ) → i < 34 → getD lowest i 0 ≤ getD u i 0
+  pub low : (i : ℕ) → i < countWords → getD lowest i 0 ≤ getD u i 0
   low i h = leb-true _ _ (in-range i h .0)
 
-  pub high : (i : ℕ) → i < 34 → getD u i 0 ≤ getD highest i 0
+  pub high : (i : ℕ) → i < countWords → getD u i 0 ≤ getD highest i 0
   high i h = leb-true _ _ (in-range i h .1)
+
+infixr 30 _▹_
+-- each word between its least and its greatest value
+pub data Between : List ℕ → List ℕ → List ℕ → Type 0 where
+  between-none : Between [] [] []
+  _▹_ : {l h w : ℕ} {ls hs ws : List ℕ} → (l ≤ w) × (w ≤ h) → Between ls hs ws → Between (l ∷ ls) (h ∷ hs) (w ∷ ws)
+
+pub between : {ls hs ws : List ℕ} → Between ls hs ws → (i : ℕ) → i < length ws
+    → leb (getD ls i 0) (getD ws i 0) && leb (getD ws i 0) (getD hs i 0) ≡ true
+between between-none i h = absurd (not-suc-le-zero h)
+between (p ▹ r) zero h = rw (le-leb _ _ (p .0), le-leb _ _ (p .1))
+between (p ▹ r) (suc i) h = between r i (le-of-suc-le-suc h)
+
+pub upto : {w h : ℕ} → w ≤ h → (0 ≤ w) × (w ≤ h)
+upto p = (omega arith, p)
 
 -- ---- what fields say of each other
 
@@ -67,11 +84,11 @@ pub record Related (s : Settings) (c : Common) : Type 0 where
 module _ (u : List ℕ) (s : Settings) (c : Common) where
   -- the four tests
   tests : fieldsInRange u s c ≡ true
-      → (every (wordInRange u) 34 ≡ true) × (listsInRange s ≡ true) × (ordersInRange s c ≡ true)
+      → (every (wordInRange u) countWords ≡ true) × (listsInRange s ≡ true) × (ordersInRange s c ≡ true)
       × (countersInRange s c ≡ true)
   unfolding fieldsInRange
   tests q =
-      let w = every (wordInRange u) 34 in
+      let w = every (wordInRange u) countWords in
       let l = listsInRange s in
       let o = ordersInRange s c in
       let k = countersInRange s c in
@@ -80,7 +97,7 @@ module _ (u : List ℕ) (s : Settings) (c : Common) where
       let d = both w l (b .0) in
       (d .0, d .1, b .1, a .1)
 
-  pub words-pass : fieldsInRange u s c ≡ true → every (wordInRange u) 34 ≡ true
+  pub words-pass : fieldsInRange u s c ≡ true → every (wordInRange u) countWords ≡ true
   words-pass q = tests q .0
 
   pub related : fieldsInRange u s c ≡ true → Related s c
@@ -105,7 +122,7 @@ module _ (u : List ℕ) (s : Settings) (c : Common) where
         column = ltb-true _ _ (k2 .1);
       }
 
-  pub relates : every (wordInRange u) 34 ≡ true → Related s c → fieldsInRange u s c ≡ true
+  pub relates : every (wordInRange u) countWords ≡ true → Related s c → fieldsInRange u s c ≡ true
   unfolding fieldsInRange listsInRange ordersInRange countersInRange
   relates q r =
       rw (
@@ -120,24 +137,3 @@ module _ (u : List ℕ) (s : Settings) (c : Common) where
         lt-ltb _ _ (r .m),
         lt-ltb _ _ (r .column),
       )
-
--- ---- what the tests themselves need
-
-module _ (u : List ℕ) (s : Settings) (c : Common) (n : s .n ≡ getD u 1 0) where
-  pub small : c .nq ≡ getD u 13 0 → every (wordInRange u) 34 ≡ true → (1 ≤ s .n) × (s .n ≤ 64) × (c .nq ≤ 12)
-  unfolding lowest highest
-  small e q =
-      let a = low u q 1 (lit< tt) in
-      let b = high u q 1 (lit< tt) in
-      let d = high u q 13 (lit< tt) in
-      omega arith
-
-  at-most : (k : ℕ) → s .n ≤ 64 → OneOrN (s .n) k → k ≤ 64
-  at-most k b h = ⊎-elim (λ e. omega arith) (λ e. omega arith) h
-
-  pub lists-small : fieldsInRange u s c ≡ true → (s .nrtol ≤ 64) × (s .natol ≤ 64)
-  unfolding highest
-  lists-small q =
-      let b = high u (words-pass u s c q) 1 (lit< tt) in
-      let r = related u s c q in
-      (at-most (s .nrtol) (omega arith) (r .nrtol), at-most (s .natol) (omega arith) (r .natol))

@@ -1,3 +1,6 @@
-pub mod Session
+pub mod States
+pub mod Fields
 pub mod Names
+pub mod Session
+pub mod WordRanges
 pub mod InRange

@@ -1,5 +1,6 @@
--- A session's record and tolerances in its 1448 bytes, and the ranges of 13 (01-scope, 'Limits and refusals').
--- 181 words: 34 counts, 19 floats, 64 slots of relative and 64 of absolute tolerances; a slot beyond a list's end is 0.
+-- A session's record and tolerances in its bytes, and the test of 13 (01-scope, 'Limits and refusals').
+-- Counts, floats, then a slot for each state of relative and of absolute tolerances; a slot beyond a list's end is 0.
+-- That a session is of a run is not claimed: whatever passes the test is taken.
 use mathlib.Core.Bool.{Bool, true, not, _&&_, _||_}
 use mathlib.Core.List.{List}
 use mathlib.Core.Logic.{_⊎_}
@@ -14,41 +15,49 @@ use Rattle.loops.specs.Part.{part}
 use Rattle.numbers.specs.Float.{zeroF}
 use Rattle.common.specs.declared.Settings.{Settings}
 use Rattle.common.specs.declared.Common.{Common}
-use Rattle.common.specs.Limits.{mxncfOf}
+use Rattle.common.specs.Limits.{mxncfOf, maxStates}
 use Rattle.questions.specs.declared.Session.{Session}
-use Rattle.words.specs.Words.{word, float, countsIn, putCountsOf, floatsIn, slotsOver, putFloatsOf}
-use Rattle.fields.specs.Fields.{countsOf, floatsOf, sessionOf, lowest, highest, Fit}
+use Rattle.words.specs.Words.{float, countsIn, putCountsOf, floatsIn, putFloatsOf, floatsOver}
+use Rattle.session.specs.Fields.{sessionOf, countsOf, floatsOf, lowest, highest, Fit}
+use Rattle.common.specs.SessionWords.{countWords, floatWords, rtolAt, atolAt}
+use Rattle.session.specs.Names.{phaseWord, nWord}
 
 -- ---- record and tolerances
 
 abbrev pub encodeCountsOf : Session → List ℕ → List ℕ
-encodeCountsOf x bytes = putCountsOf (countsOf x) bytes
+encodeCountsOf x bytes = putCountsOf 0 (countsOf x) bytes
 
 abbrev pub encodeFloatsOf : Session → List ℕ → List ℕ
-encodeFloatsOf x bytes = putFloatsOf 34 19 (floatsOf x) bytes
+encodeFloatsOf x bytes = putFloatsOf countWords floatWords (floatsOf x) bytes
 
 unfoldable pub encodeOf : Session → List ℕ → List ℕ
 encodeOf x bytes = encodeFloatsOf x (encodeCountsOf x bytes)
 
+abbrev pub storedCounts : List ℕ → List ℕ
+storedCounts bytes = countsIn bytes 0 countWords
+
+abbrev pub storedFloats : List ℕ → List Float
+storedFloats bytes = floatsIn bytes countWords floatWords
+
 unfoldable pub decodeOf : List ℕ → Session
-decodeOf bytes = sessionOf (countsIn bytes) (floatsIn bytes 34 19)
+decodeOf bytes = sessionOf (storedCounts bytes) (storedFloats bytes)
 
 unfoldable pub putTolerancesOf : List Float → List Float → List ℕ → List ℕ
-putTolerancesOf rtol atol bytes = putFloatsOf 117 64 atol (putFloatsOf 53 64 rtol bytes)
+putTolerancesOf rtol atol bytes = putFloatsOf atolAt maxStates atol (putFloatsOf rtolAt maxStates rtol bytes)
 
 -- the slots, and of these, below, the lists
 abbrev pub rtolSlots : List ℕ → List Float
-rtolSlots bytes = floatsIn bytes 53 64
+rtolSlots bytes = floatsIn bytes rtolAt maxStates
 
 abbrev pub atolSlots : List ℕ → List Float
-atolSlots bytes = floatsIn bytes 117 64
+atolSlots bytes = floatsIn bytes atolAt maxStates
 
--- the first k slots read over those of a list
+-- the first k of them, read to the first entries of a list
 abbrev pub rtolFirst : List ℕ → ℕ → List Float → List Float
-rtolFirst bytes k list = slotsOver bytes 53 k list
+rtolFirst bytes k list = floatsOver bytes rtolAt k list
 
 abbrev pub atolFirst : List ℕ → ℕ → List Float → List Float
-atolFirst bytes k list = slotsOver bytes 117 k list
+atolFirst bytes k list = floatsOver bytes atolAt k list
 
 abbrev pub rtolOf : List ℕ → List Float
 rtolOf bytes = part 0 (decodeOf bytes .settings .nrtol) (rtolSlots bytes)
@@ -63,10 +72,10 @@ ListFits list = (i : ℕ) → i < length list → Fit (getD list i nan)
 -- ---- the ranges of 13
 
 abbrev pub storedN : List ℕ → ℕ
-storedN bytes = word bytes 1
+storedN bytes = nWord bytes
 
 abbrev pub finishedIn : List ℕ → Bool
-finishedIn bytes = eqb (word bytes 0) 10
+finishedIn bytes = eqb (phaseWord bytes) 10
 
 -- p at 0, 1, …, below e
 abbrev pub andAt : (ℕ → Bool) → ℕ → Bool → Bool
@@ -100,9 +109,9 @@ ordersInRange s c =
 unfoldable pub countersInRange : Settings → Common → Bool
 countersInRange s c = ltb (c .ncf) (mxncfOf s) && ltb (c .m) (s .maxcor) && ltb (c .column) (s .n)
 
--- all of it, u being words 0 to 33
+-- all of it, u being the counts
 unfoldable pub fieldsInRange : List ℕ → Settings → Common → Bool
-fieldsInRange u s c = every (wordInRange u) 34 && listsInRange s && ordersInRange s c && countersInRange s c
+fieldsInRange u s c = every (wordInRange u) countWords && listsInRange s && ordersInRange s c && countersInRange s c
 
 -- a tolerance below 0 is out of range; a NaN passes
 abbrev pub notNegativeAt : List ℕ → ℕ → ℕ → Bool
@@ -112,7 +121,7 @@ unfoldable pub notNegative : List ℕ → ℕ → ℕ → Bool
 notNegative bytes at k = every (notNegativeAt bytes at) k
 
 unfoldable pub tolerancesInRange : List ℕ → Settings → Bool
-tolerancesInRange bytes s = notNegative bytes 53 (s .nrtol) && notNegative bytes 117 (s .natol)
+tolerancesInRange bytes s = notNegative bytes rtolAt (s .nrtol) && notNegative bytes atolAt (s .natol)
 
 abbrev pub pivotBelow : List ℕ → ℕ → ℕ → Bool
 pivotBelow ipiv n i = ltb (getD ipiv i 0) n
@@ -122,6 +131,6 @@ pivotsBelow ipiv n = every (pivotBelow ipiv n) (length ipiv)
 
 unfoldable pub inRangeOf : List ℕ → List ℕ → Bool
 inRangeOf bytes ipiv =
-    fieldsInRange (countsIn bytes) (decodeOf bytes .settings) (decodeOf bytes .common)
+    fieldsInRange (storedCounts bytes) (decodeOf bytes .settings) (decodeOf bytes .common)
     && tolerancesInRange bytes (decodeOf bytes .settings)
     && pivotsBelow ipiv (decodeOf bytes .settings .n)

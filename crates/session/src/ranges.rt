@@ -2,18 +2,29 @@
 ghost use mathlib.Core.Path.{_≡_};
 ghost use mathlib.Core.Bool.{Bool, true};
 ghost use Prim.Native.Nat.{_+_, _*_, _≤_, _<_};
-ghost use lib.ListN.{length, getD};
+ghost use mathlib.Core.List.{[]};
+ghost use lib.ListN.{length};
 ghost use Rattle.loops.specs.For.{for};
-ghost use Rattle.fields.specs.Fields.{lowest, highest};
+ghost use Rattle.common.specs.Limits.{maxStates};
+ghost use Rattle.common.specs.SessionWords.{countWords, sessionLength};
+ghost use Rattle.session.specs.Fields.{lowest, highest, settingsOf, commonOf};
 ghost use Rattle.session.specs.Session.{every, andAt, wordInRange, oneOrN, listsInRange, ordersInRange};
 ghost use Rattle.session.specs.Session.{countersInRange, fieldsInRange};
 ghost use Rattle.session.specs.Session.{notNegative, tolerancesInRange, pivotBelow, pivotsBelow};
 use common::Common;
 use common::Settings;
 
-// Whether each word from a to e is between its least and its greatest value.
-fn run(u: &[usize; 34], low: &[usize; 34], high: &[usize; 34], a: usize, e: usize) -> bool
-    requires { ⌜ (now low ≡ lowest) × (now high ≡ highest) × (a ≤ e) × (e ≤ 34) ⌝ }
+const HALF: usize = common::COUNT_WORDS / 2;
+
+// Whether each count from a to e is between its least and its greatest value.
+fn run(
+    u: &[usize; common::COUNT_WORDS],
+    low: &[usize; common::COUNT_WORDS],
+    high: &[usize; common::COUNT_WORDS],
+    a: usize,
+    e: usize,
+) -> bool
+    requires { ⌜ (now low ≡ lowest) × (now high ≡ highest) × (a ≤ e) × (e ≤ countWords) ⌝ }
     ensures { λ r. ⌜ r ≡ for a e (andAt (wordInRange (now (u .entry)))) true ⌝ }
 {
     for i in a..e {
@@ -27,16 +38,16 @@ fn run(u: &[usize; 34], low: &[usize; 34], high: &[usize; 34], a: usize, e: usiz
     true
 }
 
-// Whether each of all words is. Two runs, each short enough to be unrolled, so that the tables become constants.
-fn words(u: &[usize; 34]) -> bool
-    ensures { λ r. ⌜ r ≡ every (wordInRange (now (u .entry))) 34 ⌝ }
+// Whether each of all counts is. Two runs, each short enough to be unrolled, so that the tables become constants.
+fn words(u: &[usize; common::COUNT_WORDS]) -> bool
+    ensures { λ r. ⌜ r ≡ every (wordInRange (now (u .entry))) countWords ⌝ }
 {
-    let low = fields::lowest();
-    let high = fields::highest();
-    if !run(u, &low, &high, 0, 17) {
+    let low = crate::fields::lowest();
+    let high = crate::fields::highest();
+    if !run(u, &low, &high, 0, HALF) {
         return false;
     }
-    run(u, &low, &high, 17, 34)
+    run(u, &low, &high, HALF, common::COUNT_WORDS)
 }
 
 // Whether a list of k entries is 1 or n long.
@@ -61,7 +72,7 @@ fn lists(s: Settings) -> bool
 
 // The order against the columns in use and against the order at the last reset.
 fn orders(s: Settings, c: Common) -> bool
-    requires { ⌜ (1 ≤ s .n) × (s .n ≤ 64) × (c .nq ≤ 12) ⌝ }
+    requires { ⌜ (1 ≤ s .n) × (s .n ≤ maxStates) × (c .nq ≤ 12) ⌝ }
     ensures { λ r. ⌜ r ≡ ordersInRange s c ⌝ }
 {
     if c.nq >= c.lmax {
@@ -89,9 +100,10 @@ fn counters(s: Settings, c: Common) -> bool
     c.column < s.n
 }
 
-// All fields but the floats: first word by word, so that n is not 0 where it divides.
-pub fn fields(u: &[usize; 34], s: Settings, c: Common) -> bool
-    requires { ⌜ (s .n ≡ getD (now u) 1 0) × (c .nq ≡ getD (now u) 13 0) ⌝ }
+// All fields but the floats, of a record whose n and nq are those of the counts u: first word by word, so that n is not
+// 0 where it divides.
+pub fn fields(u: &[usize; common::COUNT_WORDS], s: Settings, c: Common) -> bool
+    requires { ⌜ (s .n ≡ settingsOf (now u) [] .n) × (c .nq ≡ commonOf (now u) [] .nq) ⌝ }
     ensures { λ r. ⌜ r ≡ fieldsInRange (now (u .entry)) s c ⌝ }
 {
     if !words(u) {
@@ -121,13 +133,13 @@ fn not_negative(bytes: &[u8], at: usize, k: usize) -> bool
 
 // Whether no entry of the two tolerance lists is below 0.
 pub fn tolerances(bytes: &[u8], s: Settings) -> bool
-    requires { ⌜ (1448 ≤ length (now bytes)) × (s .nrtol ≤ 64) × (s .natol ≤ 64) ⌝ }
+    requires { ⌜ (sessionLength ≤ length (now bytes)) × (s .nrtol ≤ maxStates) × (s .natol ≤ maxStates) ⌝ }
     ensures { λ r. ⌜ r ≡ tolerancesInRange (now (bytes .entry)) s ⌝ }
 {
-    if !not_negative(bytes, 53, s.nrtol) {
+    if !not_negative(bytes, common::RTOL_AT, s.nrtol) {
         return false;
     }
-    not_negative(bytes, 117, s.natol)
+    not_negative(bytes, common::ATOL_AT, s.natol)
 }
 
 // Whether the four pivots from index i on are below n.

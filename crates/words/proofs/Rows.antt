@@ -1,7 +1,7 @@
 -- Rows of words: what was put is read back, and what stands elsewhere stays.
 --     length-put-counts, length-put-floats     the bytes keep their number
 --     counts-at, floats-at                     an entry of the counts or floats that are read
---     length-slots, slots-part                 the slots after a list was read to them, and that list
+--     length-over, over-part                   a list after floats were read to its first entries, and those
 --     put-counts-at, put-counts-other          a word after the counts were put, among them and elsewhere
 --     put-floats-at, put-floats-other          the same for floats
 -- Assumes nothing.
@@ -17,8 +17,8 @@ use lib.Ieee.{Float, binary64, toBits, ofBits}
 use Rattle.loops.specs.For.{times}
 use Rattle.loops.specs.Part.{part, length-part}
 use Rattle.numbers.specs.Float.{zeroF}
-use Rattle.words.specs.Words.{putWord, word, float, countsIn, putCountsOf}
-use Rattle.words.specs.Words.{floatsOver, floatsIn, slotsOver, slotOf, putFloatsOf}
+use Rattle.words.specs.Words.{putWord, word, float, countsOver, countsIn, putCountsOf, floatsOver, floatsIn}
+use Rattle.words.specs.Words.{slotOf, putFloatsOf}
 use Rattle.words.proofs.Eight.{length-put, word-back, word-other}
 
 -- an entry within the list is the same by every default
@@ -64,48 +64,49 @@ module _ {A : Type 0} (r : ℕ → A) where
       read-at n (i + 1) k (set l i (r i)) d (omega arith) (omega arith) (rw length-set (omega arith)))
       (eq-or-lt-of-le a)
 
-pub length-counts : (b : List ℕ) → length (countsIn b) ≡ 34
-unfolding countsIn
-length-counts b = length-read (word b) 34 0 (replicate 34 0)
+module _ (b : List ℕ) (at k : ℕ) where
+  pub length-counts : length (countsIn b at k) ≡ k
+  unfolding countsOver
+  length-counts = length-read (λ i. word b (at + i)) (k - 0) 0 (replicate k 0) ∙ length-replicate k 0
 
-pub counts-at : (b : List ℕ) (k : ℕ) → k < 34 → getD (countsIn b) k 0 ≡ word b k
-unfolding countsIn
-counts-at b k h = read-at (word b) 34 0 k (replicate 34 0) 0 (omega arith) (omega arith) (omega arith)
+  pub counts-at : (i d : ℕ) → i < k → getD (countsIn b at k) i d ≡ word b (at + i)
+  unfolding countsOver
+  counts-at i d h =
+      let e = length-replicate {A = ℕ} k 0 in
+      read-at (λ i. word b (at + i)) (k - 0) 0 i (replicate k 0) d (omega arith) (omega arith) (omega arith)
 
-pub length-floats : (b : List ℕ) (at k : ℕ) → length (floatsIn b at k) ≡ k
-unfolding floatsOver
-length-floats b at k =
-    length-read (λ i. float b (at + i)) (length (replicate k zeroF) - 0) 0 (replicate k zeroF)
-    ∙ length-replicate k zeroF
+  pub length-floats : length (floatsIn b at k) ≡ k
+  unfolding floatsOver
+  length-floats = length-read (λ i. float b (at + i)) (k - 0) 0 (replicate k zeroF) ∙ length-replicate k zeroF
 
-pub floats-at : (b : List ℕ) (at k i : ℕ) (d : Float) → i < k → getD (floatsIn b at k) i d ≡ float b (at + i)
-unfolding floatsOver
-floats-at b at k i d h =
-    let e = length-replicate k zeroF in
-    read-at (λ i. float b (at + i)) (length (replicate k zeroF) - 0) 0 i (replicate k zeroF) d
-    (omega arith) (omega arith) (omega arith)
+  pub floats-at : (i : ℕ) (d : Float) → i < k → getD (floatsIn b at k) i d ≡ float b (at + i)
+  unfolding floatsOver
+  floats-at i d h =
+      let e = length-replicate k zeroF in
+      read-at (λ i. float b (at + i)) (k - 0) 0 i (replicate k zeroF) d (omega arith) (omega arith) (omega arith)
 
-module _ (b : List ℕ) (at k : ℕ) (list : List Float) (h : k ≤ 64) (e : length list ≡ 64) where
-  pub length-slots : length (slotsOver b at k list) ≡ 64
-  unfolding slotsOver
-  length-slots = length-read (λ i. float b (at + i)) (k - 0) 0 list ∙ e
+-- k floats read to the first entries of a list, and those entries
+module _ (b : List ℕ) (at k : ℕ) (list : List Float) (h : k ≤ length list) where
+  pub length-over : length (floatsOver b at k list) ≡ length list
+  unfolding floatsOver
+  length-over = length-read (λ i. float b (at + i)) (k - 0) 0 list
 
-  slots-at : (i : ℕ) (d : Float) → i < k → getD (slotsOver b at k list) i d ≡ float b (at + i)
-  unfolding slotsOver
-  slots-at i d l = read-at (λ i. float b (at + i)) (k - 0) 0 i list d (omega arith) (omega arith) (omega arith)
+  over-at : (i : ℕ) (d : Float) → i < k → getD (floatsOver b at k list) i d ≡ float b (at + i)
+  unfolding floatsOver
+  over-at i d l = read-at (λ i. float b (at + i)) (k - 0) 0 i list d (omega arith) (omega arith) (omega arith)
 
-  -- the list of the first k entries needs no slot beyond them
-  pub slots-part : part 0 k (slotsOver b at k list) ≡ part 0 k (floatsIn b at 64)
-  slots-part =
-      let m = length-slots in
-      let l = length-floats b at 64 in
-      let left = length-part 0 k (slotsOver b at k list) (omega arith) in
-      let right = length-part 0 k (floatsIn b at 64) (omega arith) in
-      ext-getD zeroF (part 0 k (slotsOver b at k list)) (part 0 k (floatsIn b at 64)) (left ∙ sym right)
+  -- they are the first of any longer row
+  pub over-part : (n : ℕ) → k ≤ n → part 0 k (floatsOver b at k list) ≡ part 0 k (floatsIn b at n)
+  over-part n m =
+      let o = length-over in
+      let l = length-floats b at n in
+      let left = length-part 0 k (floatsOver b at k list) (omega arith) in
+      let right = length-part 0 k (floatsIn b at n) (omega arith) in
+      ext-getD zeroF (part 0 k (floatsOver b at k list)) (part 0 k (floatsIn b at n)) (left ∙ sym right)
       (λ i j.
       let s : i < k = omega arith in
-      getD-take k (slotsOver b at k list) i zeroF s ∙ slots-at i zeroF s
-      ∙ sym (getD-take k (floatsIn b at 64) i zeroF s ∙ floats-at b at 64 i zeroF (omega arith)))
+      getD-take k (floatsOver b at k list) i zeroF s ∙ over-at i zeroF s
+      ∙ sym (getD-take k (floatsIn b at n) i zeroF s ∙ floats-at b at n i zeroF (omega arith)))
 
 -- ---- a row that is put: word p i becomes w i
 
@@ -147,19 +148,23 @@ module _ (p w : ℕ → ℕ) where
       clear : (k j : ℕ) → k + 1 ≤ j → j ≡ k → ⊥
       clear k j l e = omega arith
 
-pub length-put-counts : (u b : List ℕ) → length (putCountsOf u b) ≡ length b
-unfolding putCountsOf
-length-put-counts u b = length-row (λ i. i) (λ i. getD u i 0) 34 0 b
+module _ (at : ℕ) (u b : List ℕ) where
+  pub length-put-counts : length (putCountsOf at u b) ≡ length b
+  unfolding putCountsOf
+  length-put-counts = length-row (λ i. at + i) (λ i. getD u i 0) (length u - 0) 0 b
 
-pub put-counts-at : (u b : List ℕ) (k : ℕ) → k < 34 → 272 ≤ length b → getD u k 0 < 2 ^ 64
-    → word (putCountsOf u b) k ≡ getD u k 0
-unfolding putCountsOf
-put-counts-at u b k h room small =
-    row-at (λ i. i) (λ i. getD u i 0) 34 0 k b (λ i j e. e) (omega arith) (omega arith) (omega arith) small
+  pub put-counts-at : (k : ℕ) → k < length u → 8 * (at + length u) ≤ length b → getD u k 0 < 2 ^ 64
+      → word (putCountsOf at u b) (at + k) ≡ getD u k 0
+  unfolding putCountsOf
+  put-counts-at k h room small =
+      row-at (λ i. at + i) (λ i. getD u i 0) (length u - 0) 0 k b (λ i j e. omega arith)
+      (omega arith) (omega arith) (omega arith) small
 
-pub put-counts-other : (u b : List ℕ) (j : ℕ) → 34 ≤ j → word (putCountsOf u b) j ≡ word b j
-unfolding putCountsOf
-put-counts-other u b j h = row-other (λ i. i) (λ i. getD u i 0) 34 0 j b (λ k l m e. omega arith)
+  pub put-counts-other : (j : ℕ) → (j < at) ⊎ (at + length u ≤ j) → word (putCountsOf at u b) j ≡ word b j
+  unfolding putCountsOf
+  put-counts-other j h =
+      row-other (λ i. at + i) (λ i. getD u i 0) (length u - 0) 0 j b
+      (λ k l m e. ⊎-elim (λ o. omega arith) (λ o. omega arith) h)
 
 module _ (at n : ℕ) (list : List Float) (b : List ℕ) where
   pub length-put-floats : length (putFloatsOf at n list b) ≡ length b

@@ -1,6 +1,6 @@
--- A session's bytes: words of eight bytes, little-endian; word k stands at byte 8·k.
+-- Words of eight bytes, little-endian, in a list of bytes; word k stands at byte 8·k.
 -- A word is a count or the pattern of a float: a NaN is written as 7ff8000000000000, and every pattern of a NaN is
--- read as one. Fields says which field is which word.
+-- read as one. Nothing is said of what a word stands for.
 use mathlib.Core.List.{List}
 use Prim.Native.Nat.{ℕ, _+_, _*_, _/_, _%_}
 use lib.ListN.{length, getD, set, replicate}
@@ -29,35 +29,35 @@ word bytes k = wordAt bytes (8 * k)
 abbrev pub float : List ℕ → ℕ → Float
 float bytes k = ofBits binary64 (word bytes k)
 
--- ---- the counts: words 0 to 33
+-- ---- counts, from word `at` on
 
-abbrev pub countAt : List ℕ → ℕ → List ℕ → List ℕ
-countAt bytes i u = set u i (word bytes i)
+abbrev pub countAt : List ℕ → ℕ → ℕ → List ℕ → List ℕ
+countAt bytes at i list = set list i (word bytes (at + i))
 
-unfoldable pub countsIn : List ℕ → List ℕ
-countsIn bytes = for 0 34 (countAt bytes) (replicate 34 0)
+-- k of them, to the first entries of a list
+unfoldable pub countsOver : List ℕ → ℕ → ℕ → List ℕ → List ℕ
+countsOver bytes at k list = for 0 k (countAt bytes at) list
 
-abbrev pub putCountAt : List ℕ → ℕ → List ℕ → List ℕ
-putCountAt u i bytes = putWord bytes (8 * i) (getD u i 0)
+abbrev pub countsIn : List ℕ → ℕ → ℕ → List ℕ
+countsIn bytes at k = countsOver bytes at k (replicate k 0)
 
-unfoldable pub putCountsOf : List ℕ → List ℕ → List ℕ
-putCountsOf u bytes = for 0 34 (putCountAt u) bytes
+abbrev pub putCountAt : ℕ → List ℕ → ℕ → List ℕ → List ℕ
+putCountAt at list i bytes = putWord bytes (8 * (at + i)) (getD list i 0)
+
+unfoldable pub putCountsOf : ℕ → List ℕ → List ℕ → List ℕ
+putCountsOf at list bytes = for 0 (length list) (putCountAt at list) bytes
 
 -- ---- floats, from word `at` on
 
 abbrev pub floatAt : List ℕ → ℕ → ℕ → List Float → List Float
 floatAt bytes at i list = set list i (float bytes (at + i))
 
--- as many as the list has
-unfoldable pub floatsOver : List ℕ → ℕ → List Float → List Float
-floatsOver bytes at list = for 0 (length list) (floatAt bytes at) list
+-- k of them, to the first entries of a list
+unfoldable pub floatsOver : List ℕ → ℕ → ℕ → List Float → List Float
+floatsOver bytes at k list = for 0 k (floatAt bytes at) list
 
 abbrev pub floatsIn : List ℕ → ℕ → ℕ → List Float
-floatsIn bytes at k = floatsOver bytes at (replicate k zeroF)
-
--- the first k of them; the list's further entries stay
-unfoldable pub slotsOver : List ℕ → ℕ → ℕ → List Float → List Float
-slotsOver bytes at k list = for 0 k (floatAt bytes at) list
+floatsIn bytes at k = floatsOver bytes at k (replicate k zeroF)
 
 -- entry i of a list, 0 beyond its end
 abbrev pub slotOf : List Float → ℕ → ℕ

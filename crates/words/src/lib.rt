@@ -1,9 +1,10 @@
-// Words of eight bytes, little-endian: read and written one by one, and in rows of counts and of floats.
+// Words of eight bytes, little-endian, in a slice of bytes: one by one at any byte, and rows of counts and of floats.
+// Word k of a slice stands at byte 8·k; a row elsewhere is a row of a part of the slice.
 ghost use mathlib.Core.Path.{_≡_};
 ghost use Prim.Native.Nat.{_+_, _*_, _%_, _≤_, _<_};
 ghost use lib.ListN.{length};
-ghost use Rattle.words.specs.Words.{wordAt, putWord, word, countsIn, putCountsOf};
-ghost use Rattle.words.specs.Words.{float, floatsOver, floatsIn, slotsOver, slotOf, putFloatsOf};
+ghost use Rattle.words.specs.Words.{wordAt, putWord, word, countsOver, putCountsOf};
+ghost use Rattle.words.specs.Words.{float, floatsOver, slotOf, putFloatsOf};
 
 fn wide(x: u8) -> u64
     ensures { λ r. ⌜ (r ≡ x) × (r < 256) ⌝ }
@@ -18,7 +19,7 @@ fn low(x: u64) -> u8
 }
 
 // The word at byte `at`.
-fn get(bytes: &[u8], at: usize) -> u64
+pub fn get(bytes: &[u8], at: usize) -> u64
     requires { ⌜ at + 8 ≤ length (now bytes) ⌝ }
     ensures { λ r. ⌜ r ≡ wordAt (now (bytes .entry)) at ⌝ }
 {
@@ -33,7 +34,7 @@ fn get(bytes: &[u8], at: usize) -> u64
     b0 + 256 * (b1 + 256 * (b2 + 256 * (b3 + 256 * (b4 + 256 * (b5 + 256 * (b6 + 256 * b7))))))
 }
 
-fn put(bytes: &mut [u8], at: usize, w: u64)
+pub fn put(bytes: &mut [u8], at: usize, w: u64)
     requires { ⌜ at + 8 ≤ length (now bytes) ⌝ }
     ensures { λ _. ⌜ now (bytes .exit) ≡ putWord (now (bytes .entry)) at w ⌝ }
 {
@@ -63,51 +64,30 @@ pub fn float(bytes: &[u8], k: usize) -> f64
     numbers::from_bits(get(bytes, 8 * k))
 }
 
-// Words 0 to 33.
-pub fn counts(bytes: &[u8]) -> [usize; 34]
-    requires { ⌜ 1448 ≤ length (now bytes) ⌝ }
-    ensures { λ r. ⌜ r ≡ countsIn (now (bytes .entry)) ⌝ }
+// k counts from word `at` on, to the first entries of the list.
+pub fn get_counts(bytes: &[u8], at: usize, k: usize, list: &mut [usize])
+    requires { ⌜ (8 * (at + k) ≤ length (now bytes)) × (k ≤ length (now list)) ⌝ }
+    ensures { λ _. ⌜ now (list .exit) ≡ countsOver (now (bytes .entry)) at k (now (list .entry)) ⌝ }
 {
-    let mut u = [0usize; 34];
-    for i in 0..34usize {
-        u[i] = count(bytes, i);
-    }
-    u
-}
-
-pub fn put_counts(bytes: &mut [u8], u: &[usize; 34])
-    requires { ⌜ 1448 ≤ length (now bytes) ⌝ }
-    ensures { λ _. ⌜ now (bytes .exit) ≡ putCountsOf (now (u .entry)) (now (bytes .entry)) ⌝ }
-{
-    for i in 0..34usize {
-        put(bytes, 8 * i, u[i] as u64);
+    for i in 0..k {
+        list[i] = count(bytes, at + i);
     }
 }
 
-// The floats from word `at` on, as many as the list has.
-fn get_floats(bytes: &[u8], at: usize, list: &mut [f64])
+// The list, from word `at` on.
+pub fn put_counts(bytes: &mut [u8], at: usize, list: &[usize])
     requires { ⌜ 8 * (at + length (now list)) ≤ length (now bytes) ⌝ }
-    ensures { λ _. ⌜ now (list .exit) ≡ floatsOver (now (bytes .entry)) at (now (list .entry)) ⌝ }
+    ensures { λ _. ⌜ now (bytes .exit) ≡ putCountsOf at (now (list .entry)) (now (bytes .entry)) ⌝ }
 {
     for i in 0..list.len() {
-        list[i] = float(bytes, at + i);
+        put(bytes, 8 * (at + i), list[i] as u64);
     }
 }
 
-// Words 34 to 52.
-pub fn floats(bytes: &[u8]) -> [f64; 19]
-    requires { ⌜ 1448 ≤ length (now bytes) ⌝ }
-    ensures { λ r. ⌜ r ≡ floatsIn (now (bytes .entry)) 34 19 ⌝ }
-{
-    let mut list = [0.0; 19];
-    get_floats(bytes, 34, &mut list);
-    list
-}
-
-// The first k of 64 tolerance slots, read from word `at` on.
-pub fn slots(bytes: &[u8], at: usize, k: usize, list: &mut [f64; 64])
-    requires { ⌜ (8 * (at + 64) ≤ length (now bytes)) × (k ≤ 64) ⌝ }
-    ensures { λ _. ⌜ now (list .exit) ≡ slotsOver (now (bytes .entry)) at k (now (list .entry)) ⌝ }
+// k floats from word `at` on, to the first entries of the list.
+pub fn get_floats(bytes: &[u8], at: usize, k: usize, list: &mut [f64])
+    requires { ⌜ (8 * (at + k) ≤ length (now bytes)) × (k ≤ length (now list)) ⌝ }
+    ensures { λ _. ⌜ now (list .exit) ≡ floatsOver (now (bytes .entry)) at k (now (list .entry)) ⌝ }
 {
     for i in 0..k {
         list[i] = float(bytes, at + i);

@@ -7,7 +7,9 @@ import ctypes
 import os
 from ctypes import POINTER, Structure, c_double, c_size_t, c_uint8
 
+# made by tools/record.py: the length of a session
 SESSION_LENGTH = 1448
+# end of the length of a session
 
 
 class Options(Structure):

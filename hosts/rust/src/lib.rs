@@ -175,7 +175,9 @@ pub enum Control {
     Modified(Vec<f64>),
 }
 
+// made by tools/record.py: the length of a session
 const SESSION: usize = 1448;
+// end of the length of a session
 const DERIVATIVE: usize = 1;
 const JACOBIAN: usize = 2;
 const CONTINUE: usize = 3;

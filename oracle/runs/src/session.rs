@@ -11,19 +11,21 @@ macro_rules! fields {
     };
 }
 
+// made by tools/record.py: the fields
 fields! {
-    phase, n, maxsteps, mxordn, mxords, maxcor, msbp, mxncf, supplied, given, nrtol, natol,
-    meth, nq, lmax, nqnyh, ialth, icount, table, nslp, nst, nfe, nje, nlu, rejected, total, count, kflag, ncf, m,
-    column, due, jcur, setup,
+    phase, n, maxsteps, mxordn, mxords, maxcor, msbp, mxncf, supplied, given, nrtol, natol, meth, nq, lmax, nqnyh,
+    ialth, icount, table, nslp, nst, nfe, nje, nlu, rejected, total, count, kflag, ncf, m, column, due, jcur, setup,
     xend, direction, hmin, hmxi, tn, h, hu, told, rc, el0, conit, rmax, pdest, pdlast, pdnorm, convrate, pnorm, rate,
     delp,
 }
 
 pub const LENGTH: usize = 1448;
-/// The first word that is a float.
-pub const FLOATS: usize = Field::xend as usize;
 pub const RTOL: usize = 53;
 pub const ATOL: usize = 117;
+// end of the fields
+
+/// The first word that is a float.
+pub const FLOATS: usize = Field::xend as usize;
 /// Added to `icount`, so that it needs no sign.
 pub const ICOUNT: u64 = 1_000_000;
 

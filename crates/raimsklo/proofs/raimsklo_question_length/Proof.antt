@@ -2,12 +2,12 @@
 use Prim.Native.Nat.{_-_}
 use borrow.Author.Tests.{lt-ltb, le-ltb}
 use borrow.Author.Needs.{needs}
-use Rattle.raimsklo.specs.Defaults.{questionLength}
+use Rattle.raimsklo.specs.Defaults.{questionLengthFor}
 use Rattle.raimsklo.proofs.raimsklo_question_length.Statement.{statement}
 use Rattle.raimsklo.proofs.raimsklo_question_length.Tie as tie
 
 returns : tie.Need-returns
-unfolding questionLength
+unfolding questionLengthFor
 returns c = rw (lt-ltb _ _ (c .if1 .taken))
 
 mul-result : tie.Need-mul-result
@@ -17,7 +17,7 @@ add-result : tie.Need-add-result
 add-result c = search needs
 
 returns-2 : tie.Need-returns-2
-unfolding questionLength
+unfolding questionLengthFor
 returns-2 c = rw (le-ltb _ _ (c .if1 .left))
 
 pub raimsklo-question-length-spec : {M : Type 1} → statement M

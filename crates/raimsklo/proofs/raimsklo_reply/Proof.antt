@@ -2,10 +2,10 @@
 use mathlib.Core.Path.{sym, ap, _∙_}
 use borrow.Author.Tests.{eq-eqb, ne-eqb}
 use borrow.Author.Needs.{needs}
-use Rattle.replies.proofs.Taken.{taken}
+use Rattle.raimsklo.proofs.Taken.{taken}
 use Rattle.session.proofs.Back.{stored-n}
 use Rattle.refusals.specs.declared.Refusal.{Refusal}
-use Rattle.replies.specs.Replies.{replyRefusalOf}
+use Rattle.raimsklo.specs.Replies.{replyRefusalOf}
 use Rattle.raimsklo.specs.Calls.{replyOf, replyAt}
 use Rattle.raimsklo.proofs.raimsklo_reply.Statement.{statement}
 use Rattle.raimsklo.proofs.raimsklo_reply.Tie as tie
@@ -49,12 +49,13 @@ returns-2 c =
 kind-requires : tie.Need-kind-requires
 kind-requires c κs = search needs
 
-go-requires : tie.Need-go-requires
-go-requires c κs =
+accept-requires : tie.Need-accept-requires
+accept-requires c κs =
     let z = c .before .before .before .before .before in
     let r = z .before .before in
     let d = r .before .before .before .before in
-    let b = d .before .before .before .before .before .before .before .before .before .before .before .args .session .now in
+    let a = d .before .before .before .before .before .before .before .before .before .before .before .args in
+    let b = a .session .now in
     let t = taken _ _ _ _ _ (ap (λ (r : Refusal). r .number) (sym (r .refusal .ensures)) ∙ z .if2 .left) in
     (
       t .bytes,
@@ -82,7 +83,7 @@ returns-3 c =
     let g = c .before .before .before .before .before .before .before .before in
     let k = g .before .before .before .before .before in
     rw (← k .before .before .before .refusal .ensures, eq-eqb _ _ (k .before .if2 .left), ← k .kind .ensures)
-    (g .go .ensures)
+    (g .accept .ensures)
 
 pub raimsklo-reply-spec : {M : Type 1} → statement M
 raimsklo-reply-spec =
@@ -99,7 +100,7 @@ raimsklo-reply-spec =
     same-length-2
     returns-2
     kind-requires
-    go-requires
+    accept-requires
     same-length-3
     same-length-4
     same-length-5

@@ -5,7 +5,7 @@ use borrow.Author.Tests.{eq-eqb, ne-eqb}
 use native.Mathlib.Omega.{arith}
 use borrow.Author.Needs.{needs}
 use Rattle.refusals.proofs.Accepted.{accepted}
-use Rattle.refusals.specs.Start.{settingsOf}
+use Rattle.refusals.specs.Start.{acceptedSettings}
 use Rattle.refusals.specs.declared.Refusal.{Refusal}
 use Rattle.raimsklo.specs.Calls.{startOf, startAt}
 use Rattle.raimsklo.proofs.raimsklo_start.Statement.{statement}
@@ -46,9 +46,9 @@ smallest-requires c κs = search needs
 inverse-largest-requires : tie.Need-inverse-largest-requires
 inverse-largest-requires c κs = search needs
 
-begin-requires : tie.Need-begin-requires
-unfolding settingsOf
-begin-requires c κs =
+accept-requires : tie.Need-accept-requires
+unfolding acceptedSettings
+accept-requires c κs =
     let z = c .before .before .before .before .before .before .before .before in
     let q = ap (λ (r : Refusal). r .number) (sym (z .before .before .start-refusal .ensures)) ∙ z .if2 .left in
     let st = accepted _ _ _ _ _ _ q in
@@ -95,7 +95,7 @@ returns-3 c =
       ← c12 .before .before .smallest .ensures,
       ← c12 .before .inverse-largest .ensures,
     )
-    (c6 .before .before .begin .ensures)
+    (c6 .before .before .accept .ensures)
 
 pub raimsklo-start-spec : {M : Type 1} → statement M
 raimsklo-start-spec =
@@ -110,7 +110,7 @@ raimsklo-start-spec =
     first-step-requires
     smallest-requires
     inverse-largest-requires
-    begin-requires
+    accept-requires
     same-length
     same-length-2
     same-length-3

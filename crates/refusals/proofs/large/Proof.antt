@@ -2,7 +2,7 @@
 use Prim.Native.Nat.{_-_}
 use borrow.Author.Needs.{needs}
 use Rattle.refusals.specs.Refusal.{inOrder}
-use Rattle.refusals.specs.Start.{largeOf}
+use Rattle.refusals.specs.Start.{largeRefusal}
 use Rattle.refusals.proofs.large.Statement.{statement}
 use Rattle.refusals.proofs.large.Tie as tie
 
@@ -28,7 +28,7 @@ also-requires-6 : tie.Need-also-requires-6
 also-requires-6 c κs = search needs
 
 returns : tie.Need-returns
-unfolding largeOf inOrder
+unfolding largeRefusal inOrder
 returns c = rw (
       c .also6 .ensures,
       c .before .before .also5 .ensures,

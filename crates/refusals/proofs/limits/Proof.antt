@@ -2,7 +2,7 @@
 use Prim.Native.Nat.{_-_}
 use borrow.Author.Needs.{needs}
 use Rattle.refusals.specs.Refusal.{inOrder}
-use Rattle.refusals.specs.Start.{limitsOf}
+use Rattle.refusals.specs.Start.{limitRefusal}
 use Rattle.refusals.proofs.limits.Statement.{statement}
 use Rattle.refusals.proofs.limits.Tie as tie
 
@@ -25,7 +25,7 @@ also-requires-5 : tie.Need-also-requires-5
 also-requires-5 c κs = search needs
 
 returns : tie.Need-returns
-unfolding limitsOf inOrder
+unfolding limitRefusal inOrder
 returns c = rw (
       c .also5 .ensures,
       c .before .before .also4 .ensures,

@@ -4,7 +4,7 @@ use native.Mathlib.Nat.{mul-le-mul-right}
 use native.Mathlib.Omega.{arith}
 use borrow.Author.Needs.{needs}
 use Rattle.refusals.specs.Refusal.{inOrder}
-use Rattle.refusals.specs.Start.{listsOf}
+use Rattle.refusals.specs.Start.{lengthRefusal}
 use Rattle.refusals.proofs.lists.Statement.{statement}
 use Rattle.refusals.proofs.lists.Tie as tie
 
@@ -24,13 +24,17 @@ also-requires-2 : tie.Need-also-requires-2
 also-requires-2 c κs = search needs
 
 mul-also : tie.Need-mul-also
-mul-also c = omega (arith, mul-le-mul-right (c .before .before .before .before .before .args .n) (c .before .before .before .before .before .pre))
+mul-also c =
+    let a = c .before .before .before .before .before in
+    omega (arith, mul-le-mul-right (a .args .n) (a .pre))
 
 mul-also-2 : tie.Need-mul-also-2
 mul-also-2 c = search needs
 
 add-also : tie.Need-add-also
-add-also c = omega (arith, mul-le-mul-right (c .before .before .before .before .before .args .n) (c .before .before .before .before .before .pre))
+add-also c =
+    let a = c .before .before .before .before .before in
+    omega (arith, mul-le-mul-right (a .args .n) (a .pre))
 
 also-requires-3 : tie.Need-also-requires-3
 also-requires-3 c κs = search needs
@@ -51,7 +55,7 @@ also-requires-6 : tie.Need-also-requires-6
 also-requires-6 c κs = search needs
 
 returns : tie.Need-returns
-unfolding listsOf inOrder
+unfolding lengthRefusal inOrder
 returns c = rw (
       c .also6 .ensures,
       c .before .before .also5 .ensures,

@@ -1,7 +1,7 @@
 -- `settings` meets its contract. Assumes nothing.
 use Prim.Native.Nat.{_-_}
 use borrow.Author.Needs.{needs}
-use Rattle.refusals.specs.Start.{settingsOf}
+use Rattle.refusals.specs.Start.{acceptedSettings}
 use Rattle.refusals.proofs.settings.Statement.{statement}
 use Rattle.refusals.proofs.settings.Tie as tie
 
@@ -9,7 +9,7 @@ signum-requires : tie.Need-signum-requires
 signum-requires c κs = search needs
 
 returns : tie.Need-returns
-unfolding settingsOf
+unfolding acceptedSettings
 returns c = rw (c .before .before .signum .ensures)
 
 pub settings-spec : {M : Type 1} → statement M

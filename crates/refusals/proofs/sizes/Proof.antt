@@ -2,7 +2,7 @@
 use Prim.Native.Nat.{_-_}
 use borrow.Author.Tests.{lt-ltb, le-ltb}
 use borrow.Author.Needs.{needs}
-use Rattle.refusals.specs.Start.{sizesOf}
+use Rattle.refusals.specs.Start.{sizeRefusal}
 use Rattle.refusals.proofs.sizes.Statement.{statement}
 use Rattle.refusals.proofs.sizes.Tie as tie
 
@@ -10,14 +10,14 @@ plain-requires : tie.Need-plain-requires
 plain-requires c κs = search needs
 
 returns : tie.Need-returns
-unfolding sizesOf
+unfolding sizeRefusal
 returns c = rw (lt-ltb _ _ (c .before .if1 .taken)) (c .plain .ensures)
 
 lists-requires : tie.Need-lists-requires
 lists-requires c κs = search needs
 
 returns-2 : tie.Need-returns-2
-unfolding sizesOf
+unfolding sizeRefusal
 returns-2 c = rw (le-ltb _ _ (c .before .if1 .left)) (c .lists .ensures)
 
 pub sizes-spec : {M : Type 1} → statement M

@@ -19,21 +19,44 @@ limits-requires c κs = search needs
 
 returns-2 : tie.Need-returns-2
 unfolding startRefusalOf orElse
-returns-2 c = rw (← c .before .before .before .before .before .sizes .ensures, eq-eqb _ _ (c .before .before .before .if1 .left), ← c .before .before .limits .ensures, ne-eqb _ _ (c .if2 .taken))
+returns-2 c =
+    rw (
+      ← c .before .before .before .before .before .sizes .ensures,
+      eq-eqb _ _ (c .before .before .before .if1 .left),
+      ← c .before .before .limits .ensures,
+      ne-eqb _ _ (c .if2 .taken),
+    )
 
 tolerances-requires : tie.Need-tolerances-requires
 tolerances-requires c κs = search needs
 
 returns-3 : tie.Need-returns-3
 unfolding startRefusalOf orElse
-returns-3 c = rw (← c .before .before .before .before .before .before .before .before .sizes .ensures, eq-eqb _ _ (c .before .before .before .before .before .before .if1 .left), ← c .before .before .before .before .before .limits .ensures, eq-eqb _ _ (c .before .before .before .if2 .left), ← c .before .before .tolerances .ensures, ne-eqb _ _ (c .if3 .taken))
+returns-3 c =
+    rw (
+      ← c .before .before .before .before .before .before .before .before .sizes .ensures,
+      eq-eqb _ _ (c .before .before .before .before .before .before .if1 .left),
+      ← c .before .before .before .before .before .limits .ensures,
+      eq-eqb _ _ (c .before .before .before .if2 .left),
+      ← c .before .before .tolerances .ensures,
+      ne-eqb _ _ (c .if3 .taken),
+    )
 
 step-requires : tie.Need-step-requires
 step-requires c κs = search needs
 
 returns-4 : tie.Need-returns-4
 unfolding startRefusalOf orElse
-returns-4 c = rw (← c .before .before .before .before .before .before .before .before .before .sizes .ensures, eq-eqb _ _ (c .before .before .before .before .before .before .before .if1 .left), ← c .before .before .before .before .before .before .limits .ensures, eq-eqb _ _ (c .before .before .before .before .if2 .left), ← c .before .before .before .tolerances .ensures, eq-eqb _ _ (c .before .if3 .left)) (c .step .ensures)
+returns-4 c =
+    rw (
+      ← c .before .before .before .before .before .before .before .before .before .sizes .ensures,
+      eq-eqb _ _ (c .before .before .before .before .before .before .before .if1 .left),
+      ← c .before .before .before .before .before .before .limits .ensures,
+      eq-eqb _ _ (c .before .before .before .before .if2 .left),
+      ← c .before .before .before .tolerances .ensures,
+      eq-eqb _ _ (c .before .if3 .left),
+    )
+    (c .step .ensures)
 
 pub start-refusal-spec : {M : Type 1} → statement M
 start-refusal-spec =

@@ -2,7 +2,7 @@
 use Prim.Native.Nat.{_-_}
 use borrow.Author.Tests.{eq-eqb, ne-eqb}
 use borrow.Author.Needs.{needs}
-use Rattle.refusals.specs.Start.{stepOf}
+use Rattle.refusals.specs.Start.{stepRefusal}
 use Rattle.refusals.proofs.step.Statement.{statement}
 use Rattle.refusals.proofs.step.Tie as tie
 
@@ -10,7 +10,7 @@ none-requires : tie.Need-none-requires
 none-requires c κs = search needs
 
 returns : tie.Need-returns
-unfolding stepOf
+unfolding stepRefusal
 returns c = rw (eq-eqb _ _ (c .before .if1 .taken)) (c .none .ensures)
 
 signum-requires : tie.Need-signum-requires
@@ -20,15 +20,28 @@ is-refused-requires : tie.Need-is-refused-requires
 is-refused-requires c κs = search needs
 
 returns-2 : tie.Need-returns-2
-unfolding stepOf
-returns-2 c = rw (ne-eqb _ _ (c .before .before .before .if1 .left), ← c .before .before .signum .ensures, ← c .before .is-refused .ensures, c .if2 .taken)
+unfolding stepRefusal
+returns-2 c =
+    rw (
+      ne-eqb _ _ (c .before .before .before .if1 .left),
+      ← c .before .before .signum .ensures,
+      ← c .before .is-refused .ensures,
+      c .if2 .taken,
+    )
 
 none-requires-2 : tie.Need-none-requires-2
 none-requires-2 c κs = search needs
 
 returns-3 : tie.Need-returns-3
-unfolding stepOf
-returns-3 c = rw (ne-eqb _ _ (c .before .before .before .before .if1 .left), ← c .before .before .before .signum .ensures, ← c .before .before .is-refused .ensures, c .before .if2 .left) (c .none2 .ensures)
+unfolding stepRefusal
+returns-3 c =
+    rw (
+      ne-eqb _ _ (c .before .before .before .before .if1 .left),
+      ← c .before .before .before .signum .ensures,
+      ← c .before .before .is-refused .ensures,
+      c .before .if2 .left,
+    )
+    (c .none2 .ensures)
 
 pub step-spec : {M : Type 1} → statement M
 step-spec =

@@ -22,11 +22,25 @@ is-negative-requires-2 c κs = search needs
 
 returns-3 : tie.Need-returns-3
 unfolding orElse
-returns-3 c = rw (eq-eqb _ _ (c .before .before .before .before .if1 .left), ← c .before .before .before .is-negative .ensures, c .before .before .if2 .left, ← c .before .is-negative2 .ensures, c .if3 .taken)
+returns-3 c =
+    rw (
+      eq-eqb _ _ (c .before .before .before .before .if1 .left),
+      ← c .before .before .before .is-negative .ensures,
+      c .before .before .if2 .left,
+      ← c .before .is-negative2 .ensures,
+      c .if3 .taken,
+    )
 
 returns-4 : tie.Need-returns-4
 unfolding orElse
-returns-4 c = rw (eq-eqb _ _ (c .before .before .before .before .if1 .left), ← c .before .before .before .is-negative .ensures, c .before .before .if2 .left, ← c .before .is-negative2 .ensures, c .if3 .left)
+returns-4 c =
+    rw (
+      eq-eqb _ _ (c .before .before .before .before .if1 .left),
+      ← c .before .before .before .is-negative .ensures,
+      c .before .before .if2 .left,
+      ← c .before .is-negative2 .ensures,
+      c .if3 .left,
+    )
 
 pub tolerance-spec : {M : Type 1} → statement M
 tolerance-spec =

@@ -4,12 +4,12 @@ use mathlib.Core.Path.{_≡_}
 use native.Mathlib.Omega.{arith}
 use borrow.Author.Needs.{needs}
 use Rattle.loops.specs.For.{for, again, ended}
-use Rattle.refusals.specs.Start.{toleranceAt, tolerancesOf}
+use Rattle.refusals.specs.Start.{toleranceAt, toleranceRefusal}
 use Rattle.refusals.proofs.tolerances.Statement.{statement}
 use Rattle.refusals.proofs.tolerances.Tie as tie
 
 abbrev Inv-loop : tie.InvT-loop
-Inv-loop n rtol atol r₀ i₀ r i = for i n (toleranceAt rtol atol) r ≡ tolerancesOf n rtol atol
+Inv-loop n rtol atol r₀ i₀ r i = for i n (toleranceAt rtol atol) r ≡ toleranceRefusal n rtol atol
 
 abbrev μ-loop : tie.MeasureT-loop
 μ-loop n rtol atol r₀ i₀ r i = n - i
@@ -18,7 +18,7 @@ none-requires : tie.Need-none-requires Inv-loop μ-loop
 none-requires c κs = search needs
 
 loop-holds : tie.Need-loop-holds Inv-loop μ-loop
-unfolding tolerancesOf
+unfolding toleranceRefusal
 loop-holds c = rw (c .none .ensures)
 
 tolerance-requires : tie.Need-tolerance-requires Inv-loop μ-loop

@@ -4,6 +4,7 @@ use mathlib.Core.Path.{_≡_}
 use native.Mathlib.Omega.{arith}
 use borrow.Author.Needs.{needs}
 use lib.ListN.{length}
+use Rattle.common.specs.SessionWords.{sessionLength}
 use Rattle.rig.proofs.drive.Statement.{statement}
 use Rattle.rig.proofs.drive.Tie as tie
 
@@ -11,7 +12,7 @@ abbrev Inv-loop : tie.InvT-loop
 Inv-loop _ _ _ work₀ pivots₀ _ _ _ _ pose numbers columns work pivots session question _ counter =
     (counter ≤ 100000)
     × (length pose ≡ 64) × (length numbers ≡ 64) × (length columns ≡ 4096)
-    × (length session ≡ 1448) × (length question ≡ 902)
+    × (length session ≡ sessionLength) × (length question ≡ 902)
     × (length work ≡ length work₀) × (length pivots ≡ length pivots₀)
 
 abbrev μ-loop : tie.MeasureT-loop

@@ -1,4 +1,4 @@
--- `decode` meets its contract: the record of the words and floats that were read.
+-- `decode` meets its contract: the record of the counts and floats that were read.
 -- Assumes nothing.
 use mathlib.Core.Path.{ap, _∙_}
 use mathlib.Core.List.{List}
@@ -6,14 +6,16 @@ use Prim.Native.Nat.{ℕ}
 use lib.Ieee.{Float}
 use denote.Ref.{now}
 use borrow.Author.Needs.{needs}
-use Rattle.words.specs.Words.{floatsIn}
-use Rattle.fields.specs.Fields.{sessionOf}
-use Rattle.session.specs.Session.{decodeOf}
+use Rattle.session.specs.Fields.{sessionOf}
+use Rattle.session.specs.Session.{storedFloats, decodeOf}
 use Rattle.session.proofs.decode.Statement.{statement}
 use Rattle.session.proofs.decode.Tie as tie
 
-floats-requires : tie.Need-floats-requires
-floats-requires c κs = search needs
+slice-aggregate-get-floats : tie.Need-slice-aggregate-get-floats
+slice-aggregate-get-floats c = search needs
+
+get-floats-requires : tie.Need-get-floats-requires
+get-floats-requires c κs = search needs
 
 session-requires : tie.Need-session-requires
 session-requires c κs = search needs
@@ -21,12 +23,13 @@ session-requires c κs = search needs
 returns : tie.Need-returns
 unfolding decodeOf
 returns c =
-    let f = c .before .before in
-    let a = f .before .before in
+    let f = c .before .before .before in
+    let a = f .before .before .before in
     let b = a .args .bytes .now in
     c .session .ensures
-    ∙ ap (λ (l : List Float). sessionOf (a .args .u .now) l) (f .floats .ensures)
-    ∙ ap (λ (l : List ℕ). sessionOf l (floatsIn b 34 19)) (a .pre .1)
+    ∙ ap (λ (l : List Float). sessionOf (a .args .u .now) l) (f .get-floats .ensures)
+    ∙ ap (λ (l : List ℕ). sessionOf l (storedFloats b)) (a .pre .1)
 
 pub decode-spec : {M : Type 1} → statement M
-decode-spec = tie.close (tie.spec floats-requires session-requires returns)
+decode-spec =
+    tie.close (tie.spec slice-aggregate-get-floats get-floats-requires session-requires returns)

@@ -7,6 +7,9 @@ use Rattle.session.proofs.encode_counts.Tie as tie
 counts-requires : tie.Need-counts-requires
 counts-requires c κs = search needs
 
+slice-aggregate-put-counts : tie.Need-slice-aggregate-put-counts
+slice-aggregate-put-counts c = search needs
+
 put-counts-requires : tie.Need-put-counts-requires
 put-counts-requires c κs = search needs
 
@@ -19,4 +22,6 @@ returns c =
     p .put-counts .ensures ∙ rw (p .before .before .before .counts .ensures)
 
 pub encode-counts-spec : {M : Type 1} → statement M
-encode-counts-spec = tie.close (tie.spec counts-requires put-counts-requires same-length returns)
+encode-counts-spec =
+    tie.close
+    (tie.spec counts-requires slice-aggregate-put-counts put-counts-requires same-length returns)

@@ -2,20 +2,20 @@
 -- Assumes nothing.
 use mathlib.Core.Path.{_≡_, sym, _∙_}
 use mathlib.Core.Bool.{_&&_}
-use mathlib.Core.List.{List}
+use mathlib.Core.List.{List, []}
 use Prim.Native.Nat.{ℕ}
-use lib.ListN.{getD}
 use borrow.Author.Needs.{needs}
 use borrow.Author.Tests.{not-true, not-false}
 use Rattle.questions.specs.declared.Session.{Session}
-use Rattle.words.specs.Words.{countsIn}
 use Rattle.session.specs.Session.{decodeOf, fieldsInRange, tolerancesInRange, pivotsBelow, inRangeOf}
-use Rattle.session.proofs.Within.{lists-small}
+use Rattle.session.specs.Session.{storedCounts}
+use Rattle.session.proofs.Thirteen.{lists-small}
+use Rattle.session.specs.Fields.{settingsOf, commonOf}
 use Rattle.session.proofs.in_range.Statement.{statement}
 use Rattle.session.proofs.in_range.Tie as tie
 
-module _ (b ipiv : List ℕ) (x : Session) (u : List ℕ) (e : x ≡ decodeOf b) (f : u ≡ countsIn b) where
-  read : (x .settings .n ≡ getD u 1 0) × (x .common .nq ≡ getD u 13 0)
+module _ (b ipiv : List ℕ) (x : Session) (u : List ℕ) (e : x ≡ decodeOf b) (f : u ≡ storedCounts b) where
+  read : (x .settings .n ≡ settingsOf u [] .n) × (x .common .nq ≡ commonOf u [] .nq)
   unfolding decodeOf
   read = (rw (e, f), rw (e, f))
 

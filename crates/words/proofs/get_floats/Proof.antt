@@ -10,16 +10,15 @@ use Rattle.words.proofs.get_floats.Statement.{statement}
 use Rattle.words.proofs.get_floats.Tie as tie
 
 abbrev Inv-loop : tie.InvT-loop
-Inv-loop bytes at list₀ i₀ i-end list i =
-    (i-end ≡ length list₀) × (length list ≡ length list₀)
-    × (for i (length list₀) (floatAt bytes at) list ≡ floatsOver bytes at list₀)
+Inv-loop bytes at k list₀ i₀ list i =
+    (length list ≡ length list₀) × (for i k (floatAt bytes at) list ≡ floatsOver bytes at k list₀)
 
 abbrev μ-loop : tie.MeasureT-loop
-μ-loop bytes at list₀ i₀ i-end list i = i-end - i
+μ-loop bytes at k list₀ i₀ list i = k - i
 
 loop-holds : tie.Need-loop-holds Inv-loop μ-loop
 unfolding floatsOver
-loop-holds c = (refl, refl, refl)
+loop-holds c = (refl, refl)
 
 add-float : tie.Need-add-float Inv-loop μ-loop
 add-float c = omega arith
@@ -42,13 +41,13 @@ loop-less c = omega arith
 loop-again : tie.Need-loop-again Inv-loop μ-loop
 loop-again c =
     let l = c .before .before .loop in
-    (l .inv .0, simp length-set (l .inv .1), onward _ _ _ _ _ _ (omega arith) (rw (c .float .ensures)) (l .inv .2))
+    (simp length-set (l .inv .0), onward _ _ _ _ _ _ (omega arith) (rw (c .float .ensures)) (l .inv .1))
 
 same-length : tie.Need-same-length Inv-loop μ-loop
 same-length c = omega arith
 
 returns : tie.Need-returns Inv-loop μ-loop
-returns c = ended _ _ _ _ _ (omega arith) (c .before .loop .inv .2)
+returns c = ended _ _ _ _ _ (omega arith) (c .before .loop .inv .1)
 
 pub get-floats-spec : {M : Type 1} → statement M
 get-floats-spec =

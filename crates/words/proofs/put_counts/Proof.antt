@@ -11,15 +11,19 @@ use Rattle.words.proofs.put_counts.Statement.{statement}
 use Rattle.words.proofs.put_counts.Tie as tie
 
 abbrev Inv-loop : tie.InvT-loop
-Inv-loop bytes₀ u i₀ bytes i =
-    (length bytes ≡ length bytes₀) × (for i 34 (putCountAt u) bytes ≡ putCountsOf u bytes₀)
+Inv-loop bytes₀ at list i₀ i-end bytes i =
+    (i-end ≡ length list) × (length bytes ≡ length bytes₀)
+    × (for i (length list) (putCountAt at list) bytes ≡ putCountsOf at list bytes₀)
 
 abbrev μ-loop : tie.MeasureT-loop
-μ-loop bytes₀ u i₀ bytes i = 34 - i
+μ-loop bytes₀ at list i₀ i-end bytes i = i-end - i
 
 loop-holds : tie.Need-loop-holds Inv-loop μ-loop
 unfolding putCountsOf
-loop-holds c = (refl, refl)
+loop-holds c = (refl, refl, refl)
+
+add-put : tie.Need-add-put Inv-loop μ-loop
+add-put c = omega arith
 
 mul-put : tie.Need-mul-put Inv-loop μ-loop
 mul-put c = omega arith
@@ -27,8 +31,8 @@ mul-put c = omega arith
 mul-put-2 : tie.Need-mul-put-2 Inv-loop μ-loop
 mul-put-2 c = omega arith
 
-element-copy-out-put : tie.Need-element-copy-out-put Inv-loop μ-loop
-element-copy-out-put c = omega arith
+shared-slice-read-put : tie.Need-shared-slice-read-put Inv-loop μ-loop
+shared-slice-read-put c = omega arith
 
 put-requires : tie.Need-put-requires Inv-loop μ-loop
 put-requires c κs = omega arith
@@ -43,13 +47,13 @@ loop-again : tie.Need-loop-again Inv-loop μ-loop
 loop-again c =
     let l = c .before .before .before .before .before .before .loop in
     let e = c .before .before .put .ensures in
-    (ap length e ∙ length-put _ _ _ ∙ l .inv .0, onward _ _ _ _ _ _ (omega arith) (sym e) (l .inv .1))
+    (l .inv .0, ap length e ∙ length-put _ _ _ ∙ l .inv .1, onward _ _ _ _ _ _ (omega arith) (sym e) (l .inv .2))
 
 same-length : tie.Need-same-length Inv-loop μ-loop
 same-length c = omega arith
 
 returns : tie.Need-returns Inv-loop μ-loop
-returns c = ended _ _ _ _ _ (omega arith) (c .before .loop .inv .1)
+returns c = ended _ _ _ _ _ (omega arith) (c .before .loop .inv .2)
 
 pub put-counts-spec : {M : Type 1} → statement M
 put-counts-spec =
@@ -58,9 +62,10 @@ put-counts-spec =
     Inv-loop
     μ-loop
     loop-holds
+    add-put
     mul-put
     mul-put-2
-    element-copy-out-put
+    shared-slice-read-put
     put-requires
     add-i
     loop-less

@@ -6,20 +6,20 @@ use native.Mathlib.Omega.{arith}
 use lib.ListN.{length, length-set}
 use borrow.Author.Needs.{needs}
 use Rattle.loops.specs.For.{for, onward, ended}
-use Rattle.replay_leaves.specs.Leaf.{storedFloatAt, storedFloats}
+use Rattle.replay_leaves.specs.Leaf.{storedFloatAt, leafFloats}
 use Rattle.replay_leaves.proofs.leaf.get_floats.Statement.{statement}
 use Rattle.replay_leaves.proofs.leaf.get_floats.Tie as tie
 
 abbrev Inv-loop : tie.InvT-loop
 Inv-loop stored at list₀ i₀ i-end list i =
     (i-end ≡ length list₀) × (length list ≡ length list₀)
-    × (for i (length list₀) (storedFloatAt stored at) list ≡ storedFloats stored at list₀)
+    × (for i (length list₀) (storedFloatAt stored at) list ≡ leafFloats stored at list₀)
 
 abbrev μ-loop : tie.MeasureT-loop
 μ-loop stored at list₀ i₀ i-end list i = i-end - i
 
 loop-holds : tie.Need-loop-holds Inv-loop μ-loop
-unfolding storedFloats
+unfolding leafFloats
 loop-holds c = (refl, refl, refl)
 
 add-word : tie.Need-add-word Inv-loop μ-loop

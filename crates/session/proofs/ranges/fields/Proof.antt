@@ -5,7 +5,7 @@ use denote.Ref.{now}
 use borrow.Author.Needs.{needs}
 use borrow.Author.Tests.{not-true, not-false}
 use Rattle.session.specs.Session.{fieldsInRange}
-use Rattle.session.proofs.Within.{small}
+use Rattle.session.proofs.Thirteen.{small}
 use Rattle.session.proofs.ranges.fields.Statement.{statement}
 use Rattle.session.proofs.ranges.fields.Tie as tie
 

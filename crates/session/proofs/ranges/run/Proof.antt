@@ -6,7 +6,7 @@ use Prim.Native.Nat.{_-_}
 use native.Mathlib.Omega.{arith}
 use borrow.Author.Tests.{lt-leb, le-leb}
 use Rattle.loops.specs.For.{for}
-use Rattle.fields.specs.Fields.{lowest, highest}
+use Rattle.session.specs.Fields.{lowest, highest}
 use Rattle.session.specs.Session.{andAt, wordInRange}
 use Rattle.session.proofs.Every.{every-again, every-fails, every-ends}
 use Rattle.session.proofs.ranges.run.Statement.{statement}

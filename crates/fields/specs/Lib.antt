@@ -1,2 +1,0 @@
-pub mod States
-pub mod Fields

@@ -1,0 +1,206 @@
+-- `accept` meets its contract: work and pivots beside what the turn leaves of session and question. Assumes nothing.
+use mathlib.Core.List.{List}
+use mathlib.Core.Path.{ap, _∙_, _≡_}
+use mathlib.Core.Bool.{true}
+use Prim.Native.Nat.{ℕ, _-_, _≤_}
+use lib.Ieee.{Float}
+use native.Mathlib.Omega.{arith}
+use lib.ListN.{length, replicate}
+use borrow.Author.Needs.{needs}
+use Rattle.numbers.specs.Float.{zeroF}
+use Rattle.questions.specs.declared.Session.{Session}
+use Rattle.questions.specs.Turns.{RunState}
+use Rattle.common.specs.Limits.{maxStates}
+use Rattle.common.specs.SessionWords.{rtolAt, atolAt}
+use Rattle.machine.specs.Resume.{With}
+use Rattle.invariants.proofs.Ranges.{order-after}
+use Rattle.invariants.proofs.Lent.{resume-lent}
+use Rattle.session.specs.Session.{decodeOf, rtolOf, atolOf, inRangeOf}
+use Rattle.words.proofs.Rows.{length-over, over-part}
+use Rattle.session.proofs.Thirteen.{lists-fit, resumes}
+use Rattle.answers.specs.Called.{Buffers, Called}
+use Rattle.raimsklo.specs.Replies.{TurnWritten, written, acceptedReplyOf}
+use Rattle.raimsklo.proofs.Taken.{unless}
+use Rattle.raimsklo.proofs.replies.accept.Statement.{statement}
+use Rattle.raimsklo.proofs.replies.accept.Tie as tie
+
+abbrev put : List Float → List ℕ → TurnWritten → Called
+put w p y = record {
+  reply = y .reply; lent = record { work = w; pivots = p; session = y .session; question = y .question };
+}
+
+abbrev empty : List Float
+empty = replicate maxStates zeroF
+
+same-size : (k : ℕ) → k - 0 ≡ k
+same-size k = omega arith
+
+-- the lists of a session in range have slots
+few : (b p : List ℕ) (x : Session) → inRangeOf b p ≡ true → x ≡ decodeOf b
+    → (x .settings .nrtol ≤ maxStates) × (x .settings .natol ≤ maxStates)
+few b p x q e = rw e (lists-fit b p q)
+
+slice-aggregate-rtol : tie.Need-slice-aggregate-rtol
+slice-aggregate-rtol c = search needs
+
+rtol-requires : tie.Need-rtol-requires
+rtol-requires c κs =
+    let a = c .before .before .before .before .before .before .before in
+    let l = few (a .args .bytes .now) (a .args .pivots .now) (a .args .x) (a .pre .1 .0 .0) (a .pre .1 .0 .1) in
+    (search needs, l .0, l .0)
+
+slice-aggregate-atol : tie.Need-slice-aggregate-atol
+slice-aggregate-atol c = search needs
+
+atol-requires : tie.Need-atol-requires
+atol-requires c κs =
+    let a = c .before .before .before .before .before .before .before .before .before .before .before in
+    let l = few (a .args .bytes .now) (a .args .pivots .now) (a .args .x) (a .pre .1 .0 .0) (a .pre .1 .0 .1) in
+    (search needs, l .1, l .1)
+
+sub-resume : tie.Need-sub-resume
+sub-resume c = search needs
+
+part-resume-start : tie.Need-part-resume-start
+part-resume-start c = search needs
+
+part-resume-end : tie.Need-part-resume-end
+part-resume-end c =
+    let r = c .before .before .before .before .before .before in
+    let a = r .before .before .before .before .before .before .before .before in
+    let x = a .args in
+    let b = x .bytes .now in
+    let l = few b (x .pivots .now) (x .x) (a .pre .1 .0 .0) (a .pre .1 .0 .1) in
+    let e = r .rtol2 .ensures in
+    omega (arith, ap length e ∙ length-over b rtolAt (x .x .settings .nrtol) empty (l .0))
+
+sub-resume-2 : tie.Need-sub-resume-2
+sub-resume-2 c = search needs
+
+part-resume-start-2 : tie.Need-part-resume-start-2
+part-resume-start-2 c = search needs
+
+part-resume-end-2 : tie.Need-part-resume-end-2
+part-resume-end-2 c =
+    let r = c .before .before .before .before in
+    let a = r .before .before .before .before .before .before .before .before .before .before .before .before in
+    let x = a .args in
+    let b = x .bytes .now in
+    let l = few b (x .pivots .now) (x .x) (a .pre .1 .0 .0) (a .pre .1 .0 .1) in
+    let e = r .atol2 .ensures in
+    omega (arith, ap length e ∙ length-over b atolAt (x .x .settings .natol) empty (l .1))
+
+resume-requires : tie.Need-resume-requires
+resume-requires c κs =
+    let t = c .before .before .before .before .before .before .before in
+    let a = t .before .before .before .before .before .before .before .before .before .before .before .before in
+    let x = a .args in
+    let b = x .bytes .now in
+    let s = decodeOf b .settings in
+    let q = a .pre .1 .0 .0 in
+    let l = lists-fit b (x .pivots .now) q in
+    let z = a .pre .1 .1 in
+    let r = resumes b (x .pivots .now) q (x .work .now) (z .sized) (z .pivoted) in
+    rw (
+      t .before .before .before .before .rtol2 .ensures,
+      t .atol2 .ensures,
+      a .pre .1 .0 .1,
+      same-size (s .nrtol),
+      same-size (s .natol),
+      over-part b rtolAt (s .nrtol) empty (l .0) maxStates (l .0),
+      over-part b atolAt (s .natol) empty (l .1) maxStates (l .1),
+    )
+    (z .states .1, unless (decodeOf b .phase) r)
+
+write-turn-requires : tie.Need-write-turn-requires
+write-turn-requires c κs =
+    let m = c .before .before .before .before .before .before .before in
+    let t = m .before .before .before .before .before .before .before .before in
+    let a = t .before .before .before .before .before .before .before .before .before .before .before .before in
+    let x = a .args in
+    let b = x .bytes .now in
+    let s = decodeOf b .settings in
+    let q = a .pre .1 .0 .0 in
+    let l = lists-fit b (x .pivots .now) q in
+    let z = a .pre .1 .1 in
+    let r = resumes b (x .pivots .now) q (x .work .now) (z .sized) (z .pivoted) in
+    let turned = rw (
+      t .before .before .before .before .rtol2 .ensures,
+      t .atol2 .ensures,
+      a .pre .1 .0 .1,
+      same-size (s .nrtol),
+      same-size (s .natol),
+      over-part b rtolAt (s .nrtol) empty (l .0) maxStates (l .0),
+      over-part b atolAt (s .natol) empty (l .1) maxStates (l .1),
+    ) at (m .resume .ensures) in
+    let w : With = record { rtol = rtolOf b; atol = atolOf b; work = x .work .now; ipiv = x .pivots .now } in
+    let order = order-after (decodeOf b) (x .kind) (x .numbers .now) (x .time) w (r .ranges) in
+    let room = resume-lent (decodeOf b) (x .numbers .now) (x .time) w (r .lent) (x .kind) .sized in
+    let low = ap (λ (l : RunState). l .turn .common .nq) turned in
+    let long = ap (λ (l : RunState). length (l .work)) turned in
+    rw (a .pre .1 .0 .1)
+    (
+      (z .states .0, z .states .1, omega (arith, low, order)),
+      ((omega (arith, long, room), omega (arith, z .asked)), omega (arith, a .pre .0)),
+    )
+
+same-length : tie.Need-same-length
+same-length c = search needs
+
+same-length-2 : tie.Need-same-length-2
+same-length-2 c = search needs
+
+same-length-3 : tie.Need-same-length-3
+same-length-3 c = search needs
+
+same-length-4 : tie.Need-same-length-4
+same-length-4 c = search needs
+
+returns : tie.Need-returns
+unfolding acceptedReplyOf
+returns c =
+    let e = c .before .before .before .before in
+    let m = e .before .before .before .before .before .before .before .before in
+    let t = m .before .before .before .before .before .before .before .before in
+    let a = t .before .before .before .before .before .before .before .before .before .before .before .before in
+    let x = a .args in
+    let b = x .bytes .now in
+    let s = decodeOf b .settings in
+    let q = a .pre .1 .0 .0 in
+    let l = lists-fit b (x .pivots .now) q in
+    let turned = rw (
+      t .before .before .before .before .rtol2 .ensures,
+      t .atol2 .ensures,
+      a .pre .1 .0 .1,
+      same-size (s .nrtol),
+      same-size (s .natol),
+      over-part b rtolAt (s .nrtol) empty (l .0) maxStates (l .0),
+      over-part b atolAt (s .natol) empty (l .1) maxStates (l .1),
+    ) at (m .resume .ensures) in
+    let wrote = rw (a .pre .1 .0 .1) at (e .write-turn .ensures) in
+    let lent : Buffers = record {
+      work = x .work .now; pivots = x .pivots .now; session = b; question = x .question .now;
+    } in
+    ap (put _ _) wrote ∙ ap (λ (l : RunState). written s l lent) turned
+
+pub accept-spec : {M : Type 1} → statement M
+accept-spec =
+    tie.close
+    (tie.spec
+    slice-aggregate-rtol
+    rtol-requires
+    slice-aggregate-atol
+    atol-requires
+    sub-resume
+    part-resume-start
+    part-resume-end
+    sub-resume-2
+    part-resume-start-2
+    part-resume-end-2
+    resume-requires
+    write-turn-requires
+    same-length
+    same-length-2
+    same-length-3
+    same-length-4
+    returns)

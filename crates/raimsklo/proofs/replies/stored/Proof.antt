@@ -1,0 +1,63 @@
+-- `stored` meets its contract. Assumes nothing.
+use mathlib.Core.Path.{sym, _∙_}
+use borrow.Author.Tests.{not-true, not-false}
+use borrow.Author.Needs.{needs}
+use Rattle.refusals.specs.Refusal.{inOrder, alsoOf}
+use Rattle.raimsklo.specs.Replies.{storedRefusal}
+use Rattle.raimsklo.proofs.replies.stored.Statement.{statement}
+use Rattle.raimsklo.proofs.replies.stored.Tie as tie
+
+is-finished-requires : tie.Need-is-finished-requires
+is-finished-requires c κs = search needs
+
+plain-requires : tie.Need-plain-requires
+plain-requires c κs = search needs
+
+returns : tie.Need-returns
+unfolding storedRefusal inOrder alsoOf
+returns c = rw (sym (c .before .before .is-finished .ensures) ∙ c .before .if1 .taken) (c .plain .ensures)
+
+in-range-requires : tie.Need-in-range-requires
+in-range-requires c κs = search needs
+
+plain-requires-2 : tie.Need-plain-requires-2
+plain-requires-2 c κs = search needs
+
+returns-2 : tie.Need-returns-2
+unfolding storedRefusal inOrder alsoOf
+returns-2 c =
+    rw (
+      sym (c .before .before .before .before .is-finished .ensures) ∙ c .before .before .before .if1 .left,
+      sym (c .before .before .in-range .ensures) ∙ not-true _ (c .before .if2 .taken),
+    )
+    (c .plain2 .ensures)
+
+none-requires : tie.Need-none-requires
+none-requires c κs = search needs
+
+also-requires : tie.Need-also-requires
+also-requires c κs = search needs
+
+returns-3 : tie.Need-returns-3
+unfolding storedRefusal inOrder alsoOf
+returns-3 c =
+    let f = c .before .before .before .before in
+    rw (
+      sym (f .before .is-finished .ensures) ∙ f .if1 .left,
+      sym (c .before .before .before .in-range .ensures) ∙ not-false _ (c .before .before .if2 .left),
+    )
+    (rw (c .before .none .ensures) at (c .also .ensures))
+
+pub stored-spec : {M : Type 1} → statement M
+stored-spec =
+    tie.close
+    (tie.spec
+    is-finished-requires
+    plain-requires
+    returns
+    in-range-requires
+    plain-requires-2
+    returns-2
+    none-requires
+    also-requires
+    returns-3)

@@ -1,0 +1,114 @@
+-- `write_question` meets its contract. Assumes nothing.
+use mathlib.Core.List.{List, [], _∷_}
+use mathlib.Core.Path.{_≡_, refl, sym}
+use denote.Enum.Declared.{tagOf}
+use lib.Ieee.{Float}
+use borrow.Author.Needs.{needs}
+use types.Run.{OneOf, miss}
+use Rattle.common.specs.declared.Settings.{Settings}
+use Rattle.common.specs.declared.Common.{Common}
+use Rattle.questions.specs.declared.Phase.{Phase}
+use Rattle.questions.specs.declared.Phase.the-variants as Phase
+use Rattle.questions.proofs.Phase.{the-type}
+use Rattle.raimsklo.specs.Replies.{questionOf, withY}
+use Rattle.raimsklo.proofs.replies.write_question.Statement.{statement}
+use Rattle.raimsklo.proofs.replies.write_question.Tie as tie
+
+-- the phases whose question is y alone
+plainly : (s : Settings) (p : Phase) (c : Common) (work q : List Float)
+    → OneOf (0 ∷ 1 ∷ 2 ∷ 3 ∷ 4 ∷ 6 ∷ 7 ∷ 9 ∷ []) (tagOf the-type p) → questionOf s p c work q ≡ withY s work q
+unfolding questionOf
+plainly s Phase.FirstDerivative c work q h = refl
+plainly s Phase.FirstReport c work q h = refl
+plainly s Phase.FirstModified c work q h = refl
+plainly s Phase.Opened c work q h = refl
+plainly s Phase.JacobianAsked c work q h = refl
+plainly s Phase.DifferenceColumn c work q h = absurd (miss (0 ∷ 1 ∷ 2 ∷ 3 ∷ 4 ∷ 6 ∷ 7 ∷ 9 ∷ []) 5 tt h)
+plainly s Phase.FurtherDerivative c work q h = refl
+plainly s Phase.Restep c work q h = refl
+plainly s Phase.Report c work q h = absurd (miss (0 ∷ 1 ∷ 2 ∷ 3 ∷ 4 ∷ 6 ∷ 7 ∷ 9 ∷ []) 8 tt h)
+plainly s Phase.Modified c work q h = refl
+plainly s Phase.Finished c work q h = absurd (miss (0 ∷ 1 ∷ 2 ∷ 3 ∷ 4 ∷ 6 ∷ 7 ∷ 9 ∷ []) 10 tt h)
+
+enum-told : tie.Need-enum-told
+enum-told c = search needs
+
+enum-told-2 : tie.Need-enum-told-2
+enum-told-2 c = search needs
+
+mul-show : tie.Need-mul-show
+mul-show c = search needs
+
+show-requires : tie.Need-show-requires
+show-requires c κs = search needs
+
+enum-told-3 : tie.Need-enum-told-3
+enum-told-3 c = search needs
+
+mul-show-2 : tie.Need-mul-show-2
+mul-show-2 c = search needs
+
+show-requires-2 : tie.Need-show-requires-2
+show-requires-2 c κs = search needs
+
+snapshot-step-requires : tie.Need-snapshot-step-requires
+snapshot-step-requires c κs = search needs
+
+mul-show-3 : tie.Need-mul-show-3
+mul-show-3 c = search needs
+
+show-requires-3 : tie.Need-show-requires-3
+show-requires-3 c κs = search needs
+
+returns : tie.Need-returns
+unfolding questionOf
+returns c = rw (c .enum-told .given .1)
+
+same-length : tie.Need-same-length
+same-length c = search needs
+
+returns-2 : tie.Need-returns-2
+unfolding questionOf
+returns-2 c = rw (c .before .before .before .before .enum-told2 .given .1) (c .before .before .show .ensures)
+
+same-length-2 : tie.Need-same-length-2
+same-length-2 c = search needs
+
+returns-3 : tie.Need-returns-3
+unfolding questionOf
+returns-3 c =
+    let h = c .before .before .before .before .before .before in
+    rw (h .before .before .enum-told3 .given .1)
+    (rw (h .show2 .ensures) at (c .before .before .snapshot-step .ensures))
+
+same-length-3 : tie.Need-same-length-3
+same-length-3 c = search needs
+
+returns-4 : tie.Need-returns-4
+returns-4 c =
+    let m = c .before .before .before .before in
+    let a = m .before .before .before .args in
+    rw (c .before .before .show3 .ensures)
+    (sym (plainly (a .s) (a .phase) (a .c) (a .work .now) _ (m .match .keys4)))
+
+pub write-question-spec : {M : Type 1} → statement M
+write-question-spec =
+    tie.close
+    (tie.spec
+    enum-told
+    enum-told-2
+    mul-show
+    show-requires
+    enum-told-3
+    mul-show-2
+    show-requires-2
+    snapshot-step-requires
+    mul-show-3
+    show-requires-3
+    returns
+    same-length
+    returns-2
+    same-length-2
+    returns-3
+    same-length-3
+    returns-4)

@@ -1,0 +1,72 @@
+-- `accept` meets its contract. Assumes nothing.
+use native.Mathlib.Omega.{arith}
+use borrow.Author.Needs.{needs}
+use Rattle.raimsklo.specs.Starts.{acceptedStartOf}
+use Rattle.raimsklo.proofs.starts.accept.Statement.{statement}
+use Rattle.raimsklo.proofs.starts.accept.Tie as tie
+
+lay-requires : tie.Need-lay-requires
+lay-requires c κs = search needs
+
+clear-requires : tie.Need-clear-requires
+clear-requires c κs = search needs
+
+initial-requires : tie.Need-initial-requires
+initial-requires c κs = search needs
+
+keep-requires : tie.Need-keep-requires
+keep-requires c κs =
+    let l = c .before .before .before .before .before .before .before .before in
+    l .before .before .before .before .before .before .before .before .before .pre .1 .1 .0
+
+store-requires : tie.Need-store-requires
+store-requires c κs =
+    let l = c .before .before .before .before .before .before .before .before .before .before .before .before in
+    let p = l .before .before .before .before .before .before .before .before .before .pre in
+    omega (arith, p .1 .0 .0, p .1 .1 .1)
+
+answer-requires : tie.Need-answer-requires
+answer-requires c κs = search needs
+
+same-length : tie.Need-same-length
+same-length c = search needs
+
+same-length-2 : tie.Need-same-length-2
+same-length-2 c = search needs
+
+same-length-3 : tie.Need-same-length-3
+same-length-3 c = search needs
+
+same-length-4 : tie.Need-same-length-4
+same-length-4 c = search needs
+
+returns : tie.Need-returns
+unfolding acceptedStartOf
+returns c =
+    let s = c .before .before .before in
+    let k = s .before .before .before .before in
+    let p = k .before .before .before .before .before in
+    rw (
+      c .answer .ensures,
+      s .store .ensures,
+      k .keep .ensures,
+      k .before .before .initial .ensures,
+      p .clear .ensures,
+      p .before .before .before .before .lay .ensures,
+    )
+
+pub accept-spec : {M : Type 1} → statement M
+accept-spec =
+    tie.close
+    (tie.spec
+    lay-requires
+    clear-requires
+    initial-requires
+    keep-requires
+    store-requires
+    answer-requires
+    same-length
+    same-length-2
+    same-length-3
+    same-length-4
+    returns)
