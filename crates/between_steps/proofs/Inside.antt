@@ -41,10 +41,10 @@ inside-ranges p =
 
 -- nst stays inside a reply until a step is accepted, so icount stays at least 20
 module _ {s : Settings} {c : Common} (p : Inside s c) where
-  abbrev Core-of : Common → Type 0
-  Core-of d = Within s (20 + c .nst) (c .nst + 1) 1 (coreOf d)
+  abbrev InStep : Common → Type 0
+  InStep d = Within s (20 + c .nst) (c .nst + 1) 1 (coreOf d)
 
-  within-of : Core-of c
+  within-of : InStep c
   within-of =
       let o = p .orders in
       record {
@@ -53,7 +53,7 @@ module _ {s : Settings} {c : Common} (p : Inside s c) where
         kflag = o .kflag; ncf = o .ncf; m = o .m; column = o .column; nslp = p .steps .0; steps = omega arith;
       }
 
-  inside-by : (d : Common) → Core-of d → (d .nfe < 2 ^ 63) × (d .count < 2 ^ 63) × (d .rejected < 2 ^ 63) → Inside s d
+  inside-by : (d : Common) → InStep d → (d .nfe < 2 ^ 63) × (d .count < 2 ^ 63) × (d .rejected < 2 ^ 63) → Inside s d
   inside-by d q k = record {
     settings = p .settings;
     orders = orders-of (p .settings) d q (omega arith);

@@ -35,10 +35,11 @@ use Rattle.questions.specs.Turns.{RunState}
 abbrev pub Invariant : Type 1
 Invariant = State → Type 0
 
+-- a state by its parts
 abbrev pub at : Common → List Float → List ℕ → State
 at c w p = record { c = c; w = w; p = p }
 
--- ---- by phase
+-- ---- by phase: B between steps, S in a step, O when the run is over
 
 abbrev pub Held : Phase → Type 0 → Type 0 → Type 0 → Type 0
 Held Phase.FirstDerivative B S O = B
@@ -110,6 +111,7 @@ with-c c x = at c (x .w) (x .p)
 abbrev with-w : List Float → State → State
 with-w w x = at (x .c) w (x .p)
 
+-- between-work, step-work: a part of the work is written; over: the run ends between steps
 pub record Keeps (s : Settings) (rtol atol : List Float) (time : Float) (B S O : Invariant) : Type 0 where
   pub between-work : (x : State) → B x → (w : List Float)
       → (matrixAt (s .n) ≤ length (x .w) → length w ≡ length (x .w)) → B (with-w w x)
@@ -121,7 +123,7 @@ pub record Keeps (s : Settings) (rtol atol : List Float) (time : Float) (B S O :
   pub timed : (x : State) → B x → B (with-c (with-tn time (x .c)) x)
   pub retimed : (x : State) → B x → B (with-c (with-tn (x .c .told ⊕ x .c .hu) (x .c)) x)
   pub first-step : (x : State) → B x → (w : List Float)
-    → B (with-c (with-h (firstStepOf s (x .c) rtol atol w) (x .c)) x)
+      → B (with-c (with-h (firstStepOf s (x .c) rtol atol w) (x .c)) x)
   pub first-size : (x : State) → B x → (w : List Float)
       → B (with-c (with-h (firstSizeOf s (x .c) (firstStepOf s (x .c) rtol atol w)) (x .c)) x)
   pub restarted : (x : State) → B x → B (with-c (restartOf (x .c)) x)

@@ -1,5 +1,4 @@
-// What a run asks, what it is replied, what it then waits for, and what it keeps; and the way from one step to the
-// next.
+// What a run asks, what it then waits for and keeps until the reply; and the way from one step to the next.
 ghost use mathlib.Core.Path.{_≡_};
 ghost use Prim.Native.Nat.{_^_, _≤_, _<_};
 ghost use lib.ListN.{length};
