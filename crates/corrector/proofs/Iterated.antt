@@ -1,7 +1,6 @@
--- What callers need of the definitions.
+-- What callers need of an iteration (specs/Iterate.antt).
 --     length-..               work keeps its length
 --     same-open, open-flags   what changes of the record where the iterations begin
---     in-range-open           what stays in range
 -- Assumes nothing.
 use mathlib.Core.Path.{_≡_, refl, _∙_}
 use mathlib.Core.List.{List}

@@ -1,7 +1,6 @@
--- What callers need of the definitions.
+-- What callers need of the verdict (specs/Verdict.antt).
 --     judge-ways, judged      how a verdict can come out, and what each outcome tells
 --     same-judge              the fields of the record that a verdict leaves alone
---     in-range-judge          what stays in range
 -- Assumes nothing.
 use mathlib.Core.Path.{_≡_, refl}
 use mathlib.Core.Bool.{Bool, true, false, cond, not, _&&_}
