@@ -99,7 +99,8 @@ module _ (P : Play → List Step → Type 0) where
       → Waits t (countedBy (x .reply) (marks t xs))
   arrives n t x xs k h = rw (reply-of n t x k) (arrives-at n t (k .question) xs h)
 
-  leads : (n : ℕ) (t : Play) (r : Fed) (zs : List Step) → asks n t r ≡ true → Waits t zs → Throughout P (treeNext t r) zs
+  leads : (n : ℕ) (t : Play) (r : Fed) (zs : List Step) → asks n t r ≡ true → Waits t zs
+      → Throughout P (treeNext t r) zs
   leads n (ret e) r zs h w = differs h
   leads n (ask q x k) r zs h w = w .1 (r .numbers)
   leads n (tell p x k) r zs h w = w .1 _ (r .numbers) (r .time)
@@ -176,15 +177,15 @@ module _ (g : Given) (a : Start) (run : Runs g a) where
       → Stood (lastOf x rs) (stepsBy ours t zs x rs)
 
   -- a refused reply leaves the node and the steps, one that is taken goes on
-  stands-left : (r : ReplyCall) (rs : List ReplyCall) → Stands rs → (t : Play) (l : RunState) (x : Called) (zs : List Step)
-      → At g a run t l (replied x r) → Last t (replied x r) → Here g t zs → isRefusal (replied x r .reply) ≡ true
-      → Stood (lastOf x (r ∷ rs)) (stepsBy ours t zs x (r ∷ rs))
+  stands-left : (r : ReplyCall) (rs : List ReplyCall) → Stands rs → (t : Play) (l : RunState) (x : Called)
+      (zs : List Step) → At g a run t l (replied x r) → Last t (replied x r) → Here g t zs
+      → isRefusal (replied x r .reply) ≡ true → Stood (lastOf x (r ∷ rs)) (stepsBy ours t zs x (r ∷ rs))
   unfolding lastBy stepsBy
   stands-left r rs ih t l x zs at k h i = rw i (ih t l (replied x r) zs at k h)
 
-  stands-on : (r : ReplyCall) (rs : List ReplyCall) → Stands rs → (t : Play) (l : RunState) (x : Called) (zs : List Step)
-      → asks n t (fedAs r) ≡ true → Went g a run t l x r → Here g t zs → isRefusal (replied x r .reply) ≡ false
-      → Stood (lastOf x (r ∷ rs)) (stepsBy ours t zs x (r ∷ rs))
+  stands-on : (r : ReplyCall) (rs : List ReplyCall) → Stands rs → (t : Play) (l : RunState) (x : Called)
+      (zs : List Step) → asks n t (fedAs r) ≡ true → Went g a run t l x r → Here g t zs
+      → isRefusal (replied x r .reply) ≡ false → Stood (lastOf x (r ∷ rs)) (stepsBy ours t zs x (r ∷ rs))
   unfolding lastBy stepsBy
   stands-on r rs ih t l x zs asked w h i =
       let y = replied x r in
@@ -194,8 +195,9 @@ module _ (g : Given) (a : Start) (run : Runs g a) where
       (ih u (resumed g l (fedAs r)) y (countedBy (y .reply) (marks u zs)) (w .at) (inl k)
       (arrives (Demand3At g) n u y zs k (leads (Demand3At g) n t (fedAs r) zs asked h)))
 
-  stands-by : (r : ReplyCall) (rs : List ReplyCall) → Stands rs → (t : Play) (l : RunState) (x : Called) (zs : List Step)
-      → Moves g a run t x r → Here g t zs → isRefusal (replied x r .reply) ≡ not (isFitting g a run t r)
+  stands-by : (r : ReplyCall) (rs : List ReplyCall) → Stands rs → (t : Play) (l : RunState) (x : Called)
+      (zs : List Step) → Moves g a run t x r → Here g t zs
+      → isRefusal (replied x r .reply) ≡ not (isFitting g a run t r)
       → Outcome g a run t l x r → Stood (lastOf x (r ∷ rs)) (stepsBy ours t zs x (r ∷ rs))
   stands-by r rs ih t l x zs m h i (refused e q) =
       stands-left r rs ih t (m .left) x zs (rw e at (m .at)) (inr (isSized n r, ap (λ (y : Called). y .reply) q)) h

@@ -121,7 +121,8 @@ module _ (g : Given) (a : Start) (run : Runs g a) where
   asked-by r rs f ih t l x at k true e w = (asked-ended n t (feds (r ∷ rs)) (end-node n t x k e), λ xs h. rw e)
   asked-by r rs f ih t l x at k false e w =
       let o = wanted t l x r f at k (w .0) (w .1) in
-      let on = ih (treeNext t (fedAs r)) (resumed g l (fedAs r)) (replied x r) (o .1 .at) (spoken t l x r (o .1)) (w .2) in
+      let on = ih (treeNext t (fedAs r)) (resumed g l (fedAs r)) (replied x r) (o .1 .at) (spoken t l x r (o .1))
+          (w .2) in
       (asked-one n t (fedAs r) (feds rs) (o .0) (on .0),
       λ xs h.
       let y = fed-one n t xs (fedAs r) (feds rs) (o .0) in

@@ -108,7 +108,8 @@ twoSteps = record {
 }
 
 accepted-two : Accepted twoSteps
-unfolding startRefusalOf orElse alsoOf inOrder Refusals.sizeRefusal Refusals.lengthRefusal Refusals.largeRefusal Refusals.limitRefusal
+unfolding startRefusalOf orElse alsoOf inOrder Refusals.sizeRefusal Refusals.lengthRefusal Refusals.largeRefusal
+    Refusals.limitRefusal
     Refusals.toleranceRefusal Refusals.stepRefusal times refused signumOf negative sub lt eq ne ofBits
 accepted-two = refl
 

@@ -32,7 +32,8 @@ module _ (s : Settings) (c : Common) (dsm : Float) (work : List Float) where
   meets = step-said .gap s c dsm work .gap .0
 
   -- what the gap leaves
-  gap-leaves : Meets → acceptOf s c dsm work ≡ tookBranch Branch.CoefficientGap (correctedOf c) (correctColumnsOf s c work)
+  gap-leaves : Meets
+      → acceptOf s c dsm work ≡ tookBranch Branch.CoefficientGap (correctedOf c) (correctColumnsOf s c work)
   unfolding acceptOf testFamilyOf correctedOf changeOf toAdamsOf testedOf
   gap-leaves m = rw (m .0, lt-ltb 5 (c .nq) (m .1), lt-ltb (c .icount - 1) 1000000 (m .2))
 

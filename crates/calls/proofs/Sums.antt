@@ -233,7 +233,8 @@ floats-12 : FloatsGiven (problemOf problem12)
 floats-12 = given-floats problem12 (literal _, literal _, literal _, literal _, literal _)
 
 pub accepted : Accepted problem8 × Accepted problem10 × Accepted problem11 × Accepted problem12
-unfolding startRefusalOf orElse alsoOf inOrder Refusals.sizeRefusal Refusals.lengthRefusal Refusals.largeRefusal Refusals.limitRefusal
+unfolding startRefusalOf orElse alsoOf inOrder Refusals.sizeRefusal Refusals.lengthRefusal Refusals.largeRefusal
+    Refusals.limitRefusal
     Refusals.toleranceRefusal Refusals.stepRefusal times refused signumOf negative sub lt eq ne ofBits
 accepted = (refl, refl, refl, refl)
 
@@ -241,7 +242,8 @@ computed : Ends row8 × Ends row9 × Ends row10 × Ends row11 × Ends row12
 unfolding allowed hosted shownAs acceptedSettings givenStepOf Refusals.smallestOf Refusals.largestOf Refusals.inverseOf
     Refusals.inverseLargestOf beginning dealtOf resumeOf askedInStepOf finishedOf
     Begin.setupOf Begin.preparedAt Begin.preparedOf Begin.predictedAt Begin.firstPredictionOf Turns.openPassOf
-    Turns.beganOf Turns.goOnAt Turns.goOnOf Pass.attemptedAt Pass.reportedOf Pass.closedAt Pass.endStepOf Pass.acceptedAt
+    Turns.beganOf Turns.goOnAt Turns.goOnOf Pass.attemptedAt Pass.reportedOf Pass.closedAt Pass.endStepOf
+    Pass.acceptedAt
     Pass.acceptedOf Pass.errorTestAt Pass.errorTestOf Pass.passFailedOf Pass.concludedAt Pass.iterateOf
     Pass.iterationsOf Pass.openedReplyAt Pass.openedReplyOf Pass.furtherReplyOf Reports.initialOf Start.firstSizeOf
     Reports.sizedAt Reports.sizedOf Reports.weightedAt Reports.firstDerivativeOf Reports.afterFirstReportOf

@@ -55,7 +55,8 @@ use Rattle.passes.specs.Pass.{errorTestAt, errorTestOf, passFailedOf, concluded
 use Rattle.between_steps.specs.Pass.{verdictOf}
 use Rattle.passes.specs.Pass.{matrixDoneAt, matrixDoneOf, askColumnOf, askJacobianAt, askJacobianOf}
 use Rattle.between_steps.specs.Pass.{isSupplied}
-use Rattle.passes.specs.Pass.{openedReplyAt, openedReplyOf, jacobianReplyOf, columnReplyAt, columnReplyOf, furtherReplyOf, restepReplyOf}
+use Rattle.passes.specs.Pass.{openedReplyAt, openedReplyOf, jacobianReplyOf, columnReplyAt, columnReplyOf}
+use Rattle.passes.specs.Pass.{furtherReplyOf, restepReplyOf}
 use Rattle.reports.specs.Reports.{sizedAt, sizedOf, weightedAt, firstDerivativeOf, afterFirstReportOf}
 use Rattle.between_steps.specs.Start.{firstStepOf}
 use Rattle.reports.specs.Reports.{firstModifiedOf, afterReportOf, modifiedOf}
@@ -282,7 +283,8 @@ module _ (B : ℕ) (x : Session) (reply : List Float) (time : Float) (w : With) 
   after-report Modified = record { low = low; agrees = refl; means = (refl, refl) }
 
   taken : (phase : Phase) (kind : Kind) → Asked phase kind → Taken phase kind
-  unfolding dealtOf firstDerivativeOf firstModifiedOf openedReplyOf jacobianReplyOf columnReplyOf furtherReplyOf restepReplyOf modifiedOf
+  unfolding dealtOf firstDerivativeOf firstModifiedOf openedReplyOf jacobianReplyOf columnReplyOf furtherReplyOf
+      restepReplyOf modifiedOf
   taken Phase.FirstDerivative kind e = weighted-at kind _ _
   taken Phase.FirstReport (Kind.Report a) e = first-report a
   taken Phase.FirstReport Kind.Derivative e = differs e

@@ -67,7 +67,8 @@ module _ (g : Given) (a : Start) (run : Runs g a) where
   abbrev Reached : RunState → Type 0
   Reached l = (rs : List Fed) × (l ≡ reachedAfter g l₀ rs)
 
-  after-one : (l : RunState) (rs : List Fed) (r : Fed) → reachedAfter g l (rs ++ (r ∷ [])) ≡ resumed g (reachedAfter g l rs) r
+  after-one : (l : RunState) (rs : List Fed) (r : Fed)
+      → reachedAfter g l (rs ++ (r ∷ [])) ≡ resumed g (reachedAfter g l rs) r
   unfolding reachedAfter
   after-one l [] r = refl
   after-one l (q ∷ rs) r = after-one (resumed g l q) rs r

@@ -115,7 +115,8 @@ isSized n r = eqb (length (r .question)) (14 * n + 6)
 abbrev pub saidTo : ℕ → Play → ReplyCall → Said
 saidTo n t r =
     cond (isSized n r)
-    (cond (isAwaited n t r) (saidAt n (treeNext t (fedAs r)) (r .question)) (says (plainReply 14 0 zeroF zeroF) (r .question)))
+    (cond (isAwaited n t r) (saidAt n (treeNext t (fedAs r)) (r .question))
+    (says (plainReply 14 0 zeroF zeroF) (r .question)))
     (says (plainReply 3 0 zeroF zeroF) (r .question))
 
 -- where the tree stands then; a refused reply is passed over

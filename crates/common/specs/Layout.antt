@@ -1,4 +1,4 @@
--- The one lent slice `work`: the history of 13 columns, six vectors of n, then the matrix, `workLength n` numbers in all.
+-- The one lent slice `work`: the history of 13 columns, six vectors of n, then the matrix, `workLength n` numbers.
 --     0 history   13n ewt   14n savf   15n ftem   16n acor   17n y   18n y_fd   19n matrix
 -- `ewtAt` to `matrixAt` are where the parts begin (EWT to MATRIX in src/lib.rt), `ewt` to `matrix` what stands there.
 use mathlib.Core.List.{List}

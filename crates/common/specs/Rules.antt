@@ -9,7 +9,9 @@ use Rattle.numbers.specs.Sign.{absOf}
 use Rattle.coefficients.specs.Table.{elcoOf}
 use Rattle.common.specs.declared.Settings.{Settings}
 use Rattle.common.specs.declared.Common.{Common}
-use Rattle.common.specs.Record.{isBdf, with-lmax, with-nq, with-ialth, with-rmax, with-rc, with-el0, with-conit, with-convrate, with-nslp, with-due, with-icount, with-pdest, with-pdlast, with-table, with-nqnyh}
+use Rattle.common.specs.Record.{isBdf, with-lmax, with-nq, with-ialth, with-rmax, with-rc, with-el0, with-conit}
+use Rattle.common.specs.Record.{with-convrate, with-nslp, with-due, with-icount, with-pdest, with-pdlast}
+use Rattle.common.specs.Record.{with-table, with-nqnyh}
 use Rattle.common.specs.Limits.{maxordOf}
 
 -- icount is kept with 1,000,000 added, so that it is never below 0: this is 20

@@ -61,7 +61,8 @@ fn start(
     session: &mut [u8],
     question: &mut [f64],
 ) -> Reply
-    requires { ⌜ (head .at ≤ 1000000) × (head .n ≤ maxStates) × (head .nrtol ≤ maxStates) × (head .natol ≤ maxStates) ⌝ }
+    requires { ⌜ (head .at ≤ 1000000) × (head .n ≤ maxStates) × (head .nrtol ≤ maxStates)
+        × (head .natol ≤ maxStates) ⌝ }
 {
     let n = head.n;
     let rtol = n + head.nrtol;
@@ -190,7 +191,8 @@ fn replay(
     session: &mut [u8],
     question: &mut [f64],
 ) -> Found
-    requires { ⌜ (head .at ≤ 1000000) × (head .n ≤ maxStates) × (head .nrtol ≤ maxStates) × (head .natol ≤ maxStates) ⌝ }
+    requires { ⌜ (head .at ≤ 1000000) × (head .n ≤ maxStates) × (head .nrtol ≤ maxStates)
+        × (head .natol ≤ maxStates) ⌝ }
     requires { ⌜ (squared ≤ 4096) × (14 * head .n + 6 ≤ length (now question)) × (length (now stored) ≤ 1000000) ⌝ }
     requires { ⌜ (found .at ≤ 1010000) × (found .answers ≤ found .at) × (found .differ ≤ found .at) ⌝ }
     ensures { λ g. ⌜ (g .at ≤ 1020000) × (g .answers ≤ g .at) × (g .differ ≤ g .at) × (g .runs ≡ found .runs) ⌝ }

@@ -87,7 +87,8 @@ returns-3 : tie.Need-returns-3
 unfolding testedOf
 returns-3 c =
     let e = c .before .before .before .before .before in
-    rw (← tested (e .before .before), e .change .given .1) (ap changedFamily (c .before .before .change-family .ensures))
+    rw (← tested (e .before .before), e .change .given .1)
+    (ap changedFamily (c .before .before .change-family .ensures))
 
 pub test-family-spec : {M : Type 1} → statement M
 test-family-spec =

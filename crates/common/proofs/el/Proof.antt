@@ -13,7 +13,8 @@ elco-requires c κs =
     let a = c .before in
     let n = a .args .s .n in
     let k = a .args .c .nqnyh in
-    rw (c .order-in-force .ensures) (a .pre .1, order-from n k (a .pre .0) (a .pre .2), order-to n k (a .pre .0) (a .pre .3), a .pre .4)
+    rw (c .order-in-force .ensures)
+    (a .pre .1, order-from n k (a .pre .0) (a .pre .2), order-to n k (a .pre .0) (a .pre .3), a .pre .4)
 
 returns : tie.Need-returns
 returns c = rw (← c .before .order-in-force .ensures) (c .elco .ensures)
