@@ -4,53 +4,8 @@ use borrow.Author.Needs.{needs}
 use Rattle.answers.proofs.answer.Statement.{statement}
 use Rattle.answers.proofs.answer.Tie as tie
 
-enum-known-q : tie.Need-enum-known-q
-enum-known-q c = search needs
-
-plain-requires : tie.Need-plain-requires
-plain-requires c κs = search needs
-
-enum-known-q-2 : tie.Need-enum-known-q-2
-enum-known-q-2 c = search needs
-
-plain-requires-2 : tie.Need-plain-requires-2
-plain-requires-2 c κs = search needs
-
-enum-known-q-3 : tie.Need-enum-known-q-3
-enum-known-q-3 c = search needs
-
-first-report-requires : tie.Need-first-report-requires
-first-report-requires c κs = search needs
-
-enum-known-q-4 : tie.Need-enum-known-q-4
-enum-known-q-4 c = search needs
-
-report-requires : tie.Need-report-requires
-report-requires c κs = search needs
-
-enum-known-q-5 : tie.Need-enum-known-q-5
-enum-known-q-5 c = search needs
-
-end-requires : tie.Need-end-requires
-end-requires c κs = search needs
-
-enum-known-q-6 : tie.Need-enum-known-q-6
-enum-known-q-6 c = search needs
-
-plain-requires-3 : tie.Need-plain-requires-3
-plain-requires-3 c κs = search needs
-
-enum-known-q-7 : tie.Need-enum-known-q-7
-enum-known-q-7 c = search needs
-
-plain-requires-4 : tie.Need-plain-requires-4
-plain-requires-4 c κs = search needs
-
 enum-told : tie.Need-enum-told
 enum-told c = search needs
-
-plain-requires-5 : tie.Need-plain-requires-5
-plain-requires-5 c κs = search needs
 
 returns : tie.Need-returns
 returns c = rw (c .before .before .q .given .1) (c .plain .ensures)
@@ -80,27 +35,7 @@ pub answer-spec : {M : Type 1} → statement M
 answer-spec =
     tie.close
     (tie.spec
-    enum-known-q
-    plain-requires
-    enum-known-q-2
-    plain-requires-2
-    enum-known-q-3
-    first-report-requires
-    enum-known-q-4
-    report-requires
-    enum-known-q-5
-    end-requires
-    enum-known-q-6
-    plain-requires-3
-    enum-known-q-7
-    plain-requires-4
-    enum-told
-    plain-requires-5
-    returns
-    returns-2
-    returns-3
-    returns-4
-    returns-5
-    returns-6
-    returns-7
-    returns-8)
+    (λ c. search needs) (λ c κs. search needs) (λ c. search needs) (λ c κs. search needs) (λ c. search needs)
+    (λ c κs. search needs) (λ c. search needs) (λ c κs. search needs) (λ c. search needs) (λ c κs. search needs)
+    (λ c. search needs) (λ c κs. search needs) (λ c. search needs) (λ c κs. search needs) enum-told
+    (λ c κs. search needs) returns returns-2 returns-3 returns-4 returns-5 returns-6 returns-7 returns-8)

@@ -4,11 +4,8 @@ use borrow.Author.Needs.{needs}
 use Rattle.answers.proofs.end.Statement.{statement}
 use Rattle.answers.proofs.end.Tie as tie
 
-status-requires : tie.Need-status-requires
-status-requires c κs = search needs
-
 returns : tie.Need-returns
 returns c = rw (c .status .ensures)
 
 pub end-spec : {M : Type 1} → statement M
-end-spec = tie.close (tie.spec status-requires returns)
+end-spec = tie.close (tie.spec (λ c κs. search needs) returns)

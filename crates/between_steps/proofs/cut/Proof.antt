@@ -13,12 +13,9 @@ stoda-adjust-step-size-requires c κs =
     let a = c .before .before .before .before .before in
     (same-range _ refl refl refl refl (in-range (a .pre .0)), omega arith)
 
-same-length : tie.Need-same-length
-same-length c = search needs
-
 returns : tie.Need-returns
 unfolding cutOf
 returns c = let e = c .before .before .stoda-adjust-step-size .ensures in rw (e .0, e .1)
 
 pub cut-spec : {M : Type 1} → statement M
-cut-spec = tie.close (tie.spec stoda-adjust-step-size-requires same-length returns)
+cut-spec = tie.close (tie.spec stoda-adjust-step-size-requires (λ c. search needs) returns)

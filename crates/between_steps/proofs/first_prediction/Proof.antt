@@ -9,9 +9,6 @@ use Rattle.between_steps.proofs.Inside.{prepared-range}
 use Rattle.between_steps.proofs.first_prediction.Statement.{statement}
 use Rattle.between_steps.proofs.first_prediction.Tie as tie
 
-prepare-requires : tie.Need-prepare-requires
-prepare-requires c κs = search needs
-
 stoda-get-predicted-values-requires : tie.Need-stoda-get-predicted-values-requires
 stoda-get-predicted-values-requires c κs =
     let r = c .before .before .before in
@@ -19,12 +16,6 @@ stoda-get-predicted-values-requires c κs =
     let x = a .args in
     let q = rw (← r .prepare .ensures) at (prepared-range (a .pre .0) (x .work .now)) in
     (same-range _ refl refl refl refl q, omega arith)
-
-norm-at-requires : tie.Need-norm-at-requires
-norm-at-requires c κs = search needs
-
-same-length : tie.Need-same-length
-same-length c = search needs
 
 returns : tie.Need-returns
 unfolding firstPredictionOf predictedAt
@@ -38,8 +29,4 @@ pub first-prediction-spec : {M : Type 1} → statement M
 first-prediction-spec =
     tie.close
     (tie.spec
-    prepare-requires
-    stoda-get-predicted-values-requires
-    norm-at-requires
-    same-length
-    returns)
+    (λ c κs. search needs) stoda-get-predicted-values-requires (λ c κs. search needs) (λ c. search needs) returns)

@@ -12,21 +12,6 @@ use lib.Ieee as Ieee
 use Rattle.between_steps.proofs.first_size.Statement.{statement}
 use Rattle.between_steps.proofs.first_size.Tie as tie
 
-abs-requires : tie.Need-abs-requires
-abs-requires c κs = search needs
-
-max-requires : tie.Need-max-requires
-max-requires c κs = search needs
-
-abs-requires-2 : tie.Need-abs-requires-2
-abs-requires-2 c κs = search needs
-
-abs-requires-3 : tie.Need-abs-requires-3
-abs-requires-3 c κs = search needs
-
-abs-requires-4 : tie.Need-abs-requires-4
-abs-requires-4 c κs = search needs
-
 returns : tie.Need-returns
 unfolding firstSizeOf
 returns c =
@@ -67,10 +52,5 @@ pub first-size-spec : {M : Type 1} → statement M
 first-size-spec =
     tie.close
     (tie.spec
-    abs-requires
-    max-requires
-    abs-requires-2
-    abs-requires-3
-    abs-requires-4
-    returns
-    returns-2)
+    (λ c κs. search needs) (λ c κs. search needs) (λ c κs. search needs) (λ c κs. search needs)
+    (λ c κs. search needs) returns returns-2)

@@ -5,17 +5,8 @@ use Rattle.between_steps.specs.Begin.{preparedOf, preparedAt}
 use Rattle.between_steps.proofs.prepare.Statement.{statement}
 use Rattle.between_steps.proofs.prepare.Tie as tie
 
-abs-requires : tie.Need-abs-requires
-abs-requires c κs = search needs
-
-abs-requires-2 : tie.Need-abs-requires-2
-abs-requires-2 c κs = search needs
-
 cut-requires : tie.Need-cut-requires
 cut-requires c κs = c .before .before .before .before .before .before .before .pre
-
-same-length : tie.Need-same-length
-same-length c = search needs
 
 returns : tie.Need-returns
 unfolding preparedOf preparedAt
@@ -23,9 +14,6 @@ returns c =
     let i = c .before .before .before .before in
     rw (← i .before .abs2 .ensures, ← i .before .before .before .before .abs .ensures, i .if1 .taken)
       (c .before .before .cut .ensures)
-
-setup-requires : tie.Need-setup-requires
-setup-requires c κs = search needs
 
 returns-2 : tie.Need-returns-2
 unfolding preparedOf preparedAt
@@ -44,11 +32,5 @@ pub prepare-spec : {M : Type 1} → statement M
 prepare-spec =
     tie.close
     (tie.spec
-    abs-requires
-    abs-requires-2
-    cut-requires
-    same-length
-    returns
-    setup-requires
-    returns-2
-    returns-3)
+    (λ c κs. search needs) (λ c κs. search needs) cut-requires (λ c. search needs) returns (λ c κs. search needs)
+    returns-2 returns-3)

@@ -3,11 +3,8 @@ use borrow.Author.Needs.{needs}
 use Rattle.between_steps.proofs.restart.Statement.{statement}
 use Rattle.between_steps.proofs.restart.Tie as tie
 
-with-family-requires : tie.Need-with-family-requires
-with-family-requires c κs = search needs
-
 returns : tie.Need-returns
 returns c = rw (c .with-family .ensures)
 
 pub restart-spec : {M : Type 1} → statement M
-restart-spec = tie.close (tie.spec with-family-requires returns)
+restart-spec = tie.close (tie.spec (λ c κs. search needs) returns)

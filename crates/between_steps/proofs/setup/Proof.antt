@@ -6,9 +6,6 @@ use Rattle.between_steps.specs.Begin.{setupOf}
 use Rattle.between_steps.proofs.setup.Statement.{statement}
 use Rattle.between_steps.proofs.setup.Tie as tie
 
-stoda-first-call-init-requires : tie.Need-stoda-first-call-init-requires
-stoda-first-call-init-requires c κs = search needs
-
 stoda-reset-requires : tie.Need-stoda-reset-requires
 unfolding firstCallInitOf
 stoda-reset-requires c κs =
@@ -19,4 +16,4 @@ unfolding setupOf
 returns c = rw (c .stoda-reset .ensures, c .before .stoda-first-call-init .ensures)
 
 pub setup-spec : {M : Type 1} → statement M
-setup-spec = tie.close (tie.spec stoda-first-call-init-requires stoda-reset-requires returns)
+setup-spec = tie.close (tie.spec (λ c κs. search needs) stoda-reset-requires returns)

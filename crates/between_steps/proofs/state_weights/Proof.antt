@@ -6,33 +6,6 @@ use borrow.Author.Needs.{needs}
 use Rattle.between_steps.proofs.state_weights.Statement.{statement}
 use Rattle.between_steps.proofs.state_weights.Tie as tie
 
-mul-w : tie.Need-mul-w
-mul-w c = search needs
-
-mul-we : tie.Need-mul-we
-mul-we c = search needs
-
-ewset-scalar-like-requires : tie.Need-ewset-scalar-like-requires
-ewset-scalar-like-requires c κs = search needs
-
-mul-invert-weights : tie.Need-mul-invert-weights
-mul-invert-weights c = search needs
-
-sub-invert-weights : tie.Need-sub-invert-weights
-sub-invert-weights c = search needs
-
-part-invert-weights-start : tie.Need-part-invert-weights-start
-part-invert-weights-start c = search needs
-
-part-invert-weights-end : tie.Need-part-invert-weights-end
-part-invert-weights-end c = search needs
-
-invert-weights-requires : tie.Need-invert-weights-requires
-invert-weights-requires c κs = search needs
-
-same-length : tie.Need-same-length
-same-length c = search needs
-
 returns : tie.Need-returns
 returns c =
     let i = c .before .before in
@@ -44,13 +17,5 @@ pub state-weights-spec : {M : Type 1} → statement M
 state-weights-spec =
     tie.close
     (tie.spec
-    mul-w
-    mul-we
-    ewset-scalar-like-requires
-    mul-invert-weights
-    sub-invert-weights
-    part-invert-weights-start
-    part-invert-weights-end
-    invert-weights-requires
-    same-length
-    returns)
+    (λ c. search needs) (λ c. search needs) (λ c κs. search needs) (λ c. search needs) (λ c. search needs)
+    (λ c. search needs) (λ c. search needs) (λ c κs. search needs) (λ c. search needs) returns)

@@ -14,12 +14,6 @@ returns c =
     let q : c .before .args .table ≡ 0 = omega arith in
     rw q
 
-tesco-requires : tie.Need-tesco-requires
-tesco-requires c κs = search needs
-
-elco-requires : tie.Need-elco-requires
-elco-requires c κs = search needs
-
 returns-2 : tie.Need-returns-2
 unfolding cm2Of
 returns-2 c =
@@ -27,4 +21,4 @@ returns-2 c =
     rw (q, c .before .tesco .ensures, c .elco .ensures)
 
 pub cm2-spec : {M : Type 1} → statement M
-cm2-spec = tie.close (tie.spec returns tesco-requires elco-requires returns-2)
+cm2-spec = tie.close (tie.spec returns (λ c κs. search needs) (λ c κs. search needs) returns-2)

@@ -8,72 +8,6 @@ use Rattle.coefficients.specs.Cfode.{cfodeOf}
 use Rattle.coefficients.proofs.coefficient.Statement.{statement}
 use Rattle.coefficients.proofs.coefficient.Tie as tie
 
-array-read-result : tie.Need-array-read-result
-array-read-result c = search needs
-
-array-read-result-2 : tie.Need-array-read-result-2
-array-read-result-2 c = search needs
-
-array-read-result-3 : tie.Need-array-read-result-3
-array-read-result-3 c = search needs
-
-array-read-result-4 : tie.Need-array-read-result-4
-array-read-result-4 c = search needs
-
-array-read-result-5 : tie.Need-array-read-result-5
-array-read-result-5 c = search needs
-
-array-read-result-6 : tie.Need-array-read-result-6
-array-read-result-6 c = search needs
-
-array-read-result-7 : tie.Need-array-read-result-7
-array-read-result-7 c = search needs
-
-array-read-result-8 : tie.Need-array-read-result-8
-array-read-result-8 c = search needs
-
-array-read-result-9 : tie.Need-array-read-result-9
-array-read-result-9 c = search needs
-
-array-read-result-10 : tie.Need-array-read-result-10
-array-read-result-10 c = search needs
-
-array-read-result-11 : tie.Need-array-read-result-11
-array-read-result-11 c = search needs
-
-array-read-result-12 : tie.Need-array-read-result-12
-array-read-result-12 c = search needs
-
-array-read-result-13 : tie.Need-array-read-result-13
-array-read-result-13 c = search needs
-
-array-read-result-14 : tie.Need-array-read-result-14
-array-read-result-14 c = search needs
-
-array-read-result-15 : tie.Need-array-read-result-15
-array-read-result-15 c = search needs
-
-array-read-result-16 : tie.Need-array-read-result-16
-array-read-result-16 c = search needs
-
-array-read-result-17 : tie.Need-array-read-result-17
-array-read-result-17 c = search needs
-
-array-read-result-18 : tie.Need-array-read-result-18
-array-read-result-18 c = search needs
-
-array-read-result-19 : tie.Need-array-read-result-19
-array-read-result-19 c = search needs
-
-array-read-result-20 : tie.Need-array-read-result-20
-array-read-result-20 c = search needs
-
-array-read-result-21 : tie.Need-array-read-result-21
-array-read-result-21 c = search needs
-
-array-read-result-22 : tie.Need-array-read-result-22
-array-read-result-22 c = search needs
-
 returns : tie.Need-returns
 unfolding cfodeOf ofBits
 returns c =
@@ -206,9 +140,6 @@ returns-22 c =
     let q : c .before .args .i ≡ 353 = omega arith in
     rw q refl
 
-entry-requires : tie.Need-entry-requires
-entry-requires c κs = search needs
-
 returns-23 : tie.Need-returns-23
 returns-23 c = rw (c .entry .ensures)
 
@@ -216,49 +147,10 @@ pub coefficient-spec : {M : Type 1} → statement M
 coefficient-spec =
     tie.close
     (tie.spec
-    array-read-result
-    array-read-result-2
-    array-read-result-3
-    array-read-result-4
-    array-read-result-5
-    array-read-result-6
-    array-read-result-7
-    array-read-result-8
-    array-read-result-9
-    array-read-result-10
-    array-read-result-11
-    array-read-result-12
-    array-read-result-13
-    array-read-result-14
-    array-read-result-15
-    array-read-result-16
-    array-read-result-17
-    array-read-result-18
-    array-read-result-19
-    array-read-result-20
-    array-read-result-21
-    array-read-result-22
-    entry-requires
-    returns
-    returns-2
-    returns-3
-    returns-4
-    returns-5
-    returns-6
-    returns-7
-    returns-8
-    returns-9
-    returns-10
-    returns-11
-    returns-12
-    returns-13
-    returns-14
-    returns-15
-    returns-16
-    returns-17
-    returns-18
-    returns-19
-    returns-20
-    returns-21
-    returns-22
-    returns-23)
+    (λ c. search needs) (λ c. search needs) (λ c. search needs) (λ c. search needs) (λ c. search needs)
+    (λ c. search needs) (λ c. search needs) (λ c. search needs) (λ c. search needs) (λ c. search needs)
+    (λ c. search needs) (λ c. search needs) (λ c. search needs) (λ c. search needs) (λ c. search needs)
+    (λ c. search needs) (λ c. search needs) (λ c. search needs) (λ c. search needs) (λ c. search needs)
+    (λ c. search needs) (λ c. search needs) (λ c κs. search needs) returns returns-2 returns-3 returns-4 returns-5
+    returns-6 returns-7 returns-8 returns-9 returns-10 returns-11 returns-12 returns-13 returns-14 returns-15
+    returns-16 returns-17 returns-18 returns-19 returns-20 returns-21 returns-22 returns-23)

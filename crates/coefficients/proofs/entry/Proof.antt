@@ -7,15 +7,9 @@ use Rattle.coefficients.specs.Cfode.{cfodeOf}
 use Rattle.coefficients.proofs.entry.Statement.{statement}
 use Rattle.coefficients.proofs.entry.Tie as tie
 
-mul-result : tie.Need-mul-result
-mul-result c = search needs
-
-array-read-result : tie.Need-array-read-result
-array-read-result c = search needs
-
 returns : tie.Need-returns
 unfolding cfodeOf ofBits
 returns c = refl
 
 pub entry-spec : {M : Type 1} → statement M
-entry-spec = tie.close (tie.spec mul-result array-read-result returns)
+entry-spec = tie.close (tie.spec (λ c. search needs) (λ c. search needs) returns)

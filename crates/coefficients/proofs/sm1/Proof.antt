@@ -6,18 +6,9 @@ use Rattle.coefficients.specs.Table.{sm1Of}
 use Rattle.coefficients.proofs.sm1.Statement.{statement}
 use Rattle.coefficients.proofs.sm1.Tie as tie
 
-sub-result : tie.Need-sub-result
-sub-result c = search needs
-
-mul-result : tie.Need-mul-result
-mul-result c = search needs
-
-array-read-result : tie.Need-array-read-result
-array-read-result c = search needs
-
 returns : tie.Need-returns
 unfolding sm1Of
 returns c = refl
 
 pub sm1-spec : {M : Type 1} → statement M
-sm1-spec = tie.close (tie.spec sub-result mul-result array-read-result returns)
+sm1-spec = tie.close (tie.spec (λ c. search needs) (λ c. search needs) (λ c. search needs) returns)

@@ -5,9 +5,6 @@ use Rattle.common.proofs.Laws.{order-from, order-to}
 use Rattle.common.proofs.el.Statement.{statement}
 use Rattle.common.proofs.el.Tie as tie
 
-order-in-force-requires : tie.Need-order-in-force-requires
-order-in-force-requires c κs = search needs
-
 elco-requires : tie.Need-elco-requires
 elco-requires c κs =
     let a = c .before in
@@ -20,4 +17,4 @@ returns : tie.Need-returns
 returns c = rw (← c .before .order-in-force .ensures) (c .elco .ensures)
 
 pub el-spec : {M : Type 1} → statement M
-el-spec = tie.close (tie.spec order-in-force-requires elco-requires returns)
+el-spec = tie.close (tie.spec (λ c κs. search needs) elco-requires returns)

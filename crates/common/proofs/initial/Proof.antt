@@ -10,12 +10,6 @@ use Rattle.common.specs.Initial.{initialOf}
 use Rattle.common.proofs.initial.Statement.{statement}
 use Rattle.common.proofs.initial.Tie as tie
 
-mxordn-requires : tie.Need-mxordn-requires
-mxordn-requires c κs = search needs
-
-mxords-requires : tie.Need-mxords-requires
-mxords-requires c κs = search needs
-
 add-lmax : tie.Need-add-lmax
 add-lmax c =
     let j = c .before in
@@ -38,4 +32,4 @@ returns c =
     rw larger
 
 pub initial-spec : {M : Type 1} → statement M
-initial-spec = tie.close (tie.spec mxordn-requires mxords-requires add-lmax returns)
+initial-spec = tie.close (tie.spec (λ c κs. search needs) (λ c κs. search needs) add-lmax returns)

@@ -4,11 +4,8 @@ use borrow.Author.Needs.{needs}
 use Rattle.common.proofs.is_tiny.Statement.{statement}
 use Rattle.common.proofs.is_tiny.Tie as tie
 
-abs-requires : tie.Need-abs-requires
-abs-requires c κs = search needs
-
 returns : tie.Need-returns
 returns c = rw (c .before .abs .ensures)
 
 pub is-tiny-spec : {M : Type 1} → statement M
-is-tiny-spec = tie.close (tie.spec abs-requires returns)
+is-tiny-spec = tie.close (tie.spec (λ c κs. search needs) returns)

@@ -7,15 +7,6 @@ use Rattle.common.proofs.maxord.Tie as tie
 enum-told : tie.Need-enum-told
 enum-told c = search needs
 
-mxordn-requires : tie.Need-mxordn-requires
-mxordn-requires c κs = search needs
-
-enum-told-2 : tie.Need-enum-told-2
-enum-told-2 c = search needs
-
-mxords-requires : tie.Need-mxords-requires
-mxords-requires c κs = search needs
-
 returns : tie.Need-returns
 returns c = rw (c .before .enum-told .given .1) (c .mxordn .ensures)
 
@@ -24,4 +15,6 @@ returns-2 c = rw (c .before .enum-told2 .given .1) (c .mxords .ensures)
 
 pub maxord-spec : {M : Type 1} → statement M
 maxord-spec =
-    tie.close (tie.spec enum-told mxordn-requires enum-told-2 mxords-requires returns returns-2)
+    tie.close
+    (tie.spec
+    enum-told (λ c κs. search needs) (λ c. search needs) (λ c κs. search needs) returns returns-2)

@@ -14,12 +14,6 @@ use Rattle.dense.proofs.backward_step.Tie as tie
 column : (n kb : ℕ) → kb < n → (n - 1 - kb) * n + n ≤ n * n
 column n kb h = within n n (n - 1 - kb) (omega arith)
 
-sub-k : tie.Need-sub-k
-sub-k c = search needs
-
-sub-k-2 : tie.Need-sub-k-2
-sub-k-2 c = search needs
-
 mul-diag : tie.Need-mul-diag
 mul-diag c = omega (arith, column (c .before .args .n) (c .before .args .kb) (omega arith))
 
@@ -39,24 +33,6 @@ returns : tie.Need-returns
 unfolding backwardStepOf
 returns c = rw (c .if1 .taken)
 
-add-bk : tie.Need-add-bk
-add-bk c = search needs
-
-mul-bk : tie.Need-mul-bk
-mul-bk c = search needs
-
-slice-read-bk : tie.Need-slice-read-bk
-slice-read-bk c = search needs
-
-add-work : tie.Need-add-work
-add-work c = search needs
-
-mul-work : tie.Need-mul-work
-mul-work c = search needs
-
-slice-write-work : tie.Need-slice-write-work
-slice-write-work c = search needs
-
 less-requires : tie.Need-less-requires
 less-requires c κs =
     let args = c .before .before .before .before .before .args in
@@ -73,20 +49,6 @@ pub backward-step-spec : {M : Type 1} → statement M
 backward-step-spec =
     tie.close
     (tie.spec
-    sub-k
-    sub-k-2
-    mul-diag
-    add-diag
-    add-diag-2
-    mul-diag-2
-    slice-read-diag
-    returns
-    add-bk
-    mul-bk
-    slice-read-bk
-    add-work
-    mul-work
-    slice-write-work
-    less-requires
-    same-length
-    returns-2)
+    (λ c. search needs) (λ c. search needs) mul-diag add-diag add-diag-2 mul-diag-2 slice-read-diag returns
+    (λ c. search needs) (λ c. search needs) (λ c. search needs) (λ c. search needs) (λ c. search needs)
+    (λ c. search needs) less-requires same-length returns-2)

@@ -29,15 +29,6 @@ loop-holds : tie.Need-loop-holds Inv-loop μ-loop
 unfolding factorOf
 loop-holds c = (refl, refl, refl)
 
-step-requires : tie.Need-step-requires Inv-loop μ-loop
-step-requires c κs = search needs
-
-same-length : tie.Need-same-length Inv-loop μ-loop
-same-length c = omega arith
-
-same-length-2 : tie.Need-same-length-2 Inv-loop μ-loop
-same-length-2 c = omega arith
-
 returns : tie.Need-returns Inv-loop μ-loop
 unfolding stepOf
 returns c =
@@ -51,12 +42,6 @@ returns c =
     in
     parts whole
 
-add-k : tie.Need-add-k Inv-loop μ-loop
-add-k c = omega arith
-
-loop-less : tie.Need-loop-less Inv-loop μ-loop
-loop-less c = omega arith
-
 loop-again : tie.Need-loop-again Inv-loop μ-loop
 loop-again c =
     let l = c .before .before .before .before .before .before .before .before .before in
@@ -65,12 +50,6 @@ loop-again c =
     let whole = onward _ _ _ _ _ _ (omega arith) (rw yes at (sym (s .ensures))) (l .loop .inv .2) in
     (s .kept .0 ∙ l .loop .inv .0, s .kept .1 .1 .0 ∙ l .loop .inv .1, whole)
 
-same-length-3 : tie.Need-same-length-3 Inv-loop μ-loop
-same-length-3 c = omega arith
-
-same-length-4 : tie.Need-same-length-4 Inv-loop μ-loop
-same-length-4 c = omega arith
-
 returns-2 : tie.Need-returns-2 Inv-loop μ-loop
 returns-2 c = parts (ended _ _ _ _ _ (omega arith) (c .before .loop .inv .2))
 
@@ -78,16 +57,5 @@ pub dense-lu-factor-spec : {M : Type 1} → statement M
 dense-lu-factor-spec =
     tie.close
     (tie.spec
-    Inv-loop
-    μ-loop
-    loop-holds
-    step-requires
-    same-length
-    same-length-2
-    returns
-    add-k
-    loop-less
-    loop-again
-    same-length-3
-    same-length-4
-    returns-2)
+    Inv-loop μ-loop loop-holds (λ c κs. search needs) (λ c. omega arith) (λ c. omega arith) returns
+    (λ c. omega arith) (λ c. omega arith) loop-again (λ c. omega arith) (λ c. omega arith) returns-2)

@@ -46,17 +46,8 @@ Inv-loop work₀ n a ipiv b kb₀ work kb =
 abbrev μ-loop : tie.MeasureT-loop
 μ-loop work₀ n a ipiv b kb₀ work kb = n - kb
 
-forward-all-requires : tie.Need-forward-all-requires Inv-loop μ-loop
-forward-all-requires c κs = search needs
-
 loop-holds : tie.Need-loop-holds Inv-loop μ-loop
 loop-holds c = (refl, refl)
-
-backward-step-requires : tie.Need-backward-step-requires Inv-loop μ-loop
-backward-step-requires c κs = search needs
-
-same-length : tie.Need-same-length Inv-loop μ-loop
-same-length c = omega arith
 
 returns : tie.Need-returns Inv-loop μ-loop
 returns c =
@@ -69,12 +60,6 @@ returns c =
     in
     parts (whole ∙ begun _ _ _ _ _ _ (l .before .before .before .forward-all .ensures))
 
-add-kb : tie.Need-add-kb Inv-loop μ-loop
-add-kb c = omega arith
-
-loop-less : tie.Need-loop-less Inv-loop μ-loop
-loop-less c = omega arith
-
 loop-again : tie.Need-loop-again Inv-loop μ-loop
 loop-again c =
     let l = c .before .before .before .before .before .before in
@@ -86,9 +71,6 @@ loop-again c =
     in
     (s .kept .0 ∙ l .loop .inv .0, whole)
 
-same-length-2 : tie.Need-same-length-2 Inv-loop μ-loop
-same-length-2 c = omega arith
-
 returns-2 : tie.Need-returns-2 Inv-loop μ-loop
 returns-2 c =
     let whole = ended _ _ _ _ _ (omega arith) (c .before .loop .inv .1) in
@@ -98,15 +80,5 @@ pub dense-lu-solve-spec : {M : Type 1} → statement M
 dense-lu-solve-spec =
     tie.close
     (tie.spec
-    Inv-loop
-    μ-loop
-    forward-all-requires
-    loop-holds
-    backward-step-requires
-    same-length
-    returns
-    add-kb
-    loop-less
-    loop-again
-    same-length-2
-    returns-2)
+    Inv-loop μ-loop (λ c κs. search needs) loop-holds (λ c κs. search needs) (λ c. omega arith) returns
+    (λ c. omega arith) (λ c. omega arith) loop-again (λ c. omega arith) returns-2)

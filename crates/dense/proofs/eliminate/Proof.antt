@@ -15,9 +15,6 @@ Inv-loop a₀ n k j₀ a j = (length a ≡ length a₀) × (for j n (columnOf n 
 abbrev μ-loop : tie.MeasureT-loop
 μ-loop a₀ n k j₀ a j = n - j
 
-add-j : tie.Need-add-j Inv-loop μ-loop
-add-j c = omega arith
-
 loop-holds : tie.Need-loop-holds Inv-loop μ-loop
 unfolding eliminateOf
 loop-holds c = (refl, refl)
@@ -28,20 +25,11 @@ column-requires c κs =
     let a = l .before .before .args in
     omega (arith, within (a .n) (a .n) (l .loop .j) (omega arith), within (a .n) (a .n) (a .k) (omega arith))
 
-add-j-2 : tie.Need-add-j-2 Inv-loop μ-loop
-add-j-2 c = omega arith
-
-loop-less : tie.Need-loop-less Inv-loop μ-loop
-loop-less c = omega arith
-
 loop-again : tie.Need-loop-again Inv-loop μ-loop
 loop-again c =
     let l = c .before .before .before .before .before in
     let last = c .before .before .column in
     (last .kept .0 ∙ l .loop .inv .0, rw (last .ensures) (again _ _ _ _ _ (omega arith) (l .loop .inv .1)))
-
-same-length : tie.Need-same-length Inv-loop μ-loop
-same-length c = omega arith
 
 returns : tie.Need-returns Inv-loop μ-loop
 returns c = ended _ _ _ _ _ (omega arith) (c .before .loop .inv .1)
@@ -50,13 +38,5 @@ pub eliminate-spec : {M : Type 1} → statement M
 eliminate-spec =
     tie.close
     (tie.spec
-    Inv-loop
-    μ-loop
-    add-j
-    loop-holds
-    column-requires
-    add-j-2
-    loop-less
-    loop-again
-    same-length
-    returns)
+    Inv-loop μ-loop (λ c. omega arith) loop-holds column-requires (λ c. omega arith) (λ c. omega arith) loop-again
+    (λ c. omega arith) returns)

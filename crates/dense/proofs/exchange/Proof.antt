@@ -4,12 +4,6 @@ use borrow.Author.Tests.{ne-eqb, eq-eqb}
 use Rattle.dense.proofs.exchange.Statement.{statement}
 use Rattle.dense.proofs.exchange.Tie as tie
 
-swap-rows-requires : tie.Need-swap-rows-requires
-swap-rows-requires c κs = search needs
-
-same-length : tie.Need-same-length
-same-length c = search needs
-
 returns : tie.Need-returns
 returns c = rw (ne-eqb _ _ (c .before .before .before .before .if1 .taken)) (c .before .before .swap-rows .ensures)
 
@@ -17,4 +11,4 @@ returns-2 : tie.Need-returns-2
 returns-2 c = rw (eq-eqb _ _ (c .if1 .left))
 
 pub exchange-spec : {M : Type 1} → statement M
-exchange-spec = tie.close (tie.spec swap-rows-requires same-length returns returns-2)
+exchange-spec = tie.close (tie.spec (λ c κs. search needs) (λ c. search needs) returns returns-2)

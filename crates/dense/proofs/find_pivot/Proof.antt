@@ -17,45 +17,9 @@ Inv-loop a n k col row₀ value₀ i₀ row value i =
 abbrev μ-loop : tie.MeasureT-loop
 μ-loop a n k col row₀ value₀ i₀ row value i = n - i
 
-mul-col : tie.Need-mul-col Inv-loop μ-loop
-mul-col c = omega arith
-
-add-abs : tie.Need-add-abs Inv-loop μ-loop
-add-abs c = omega arith
-
-mul-abs : tie.Need-mul-abs Inv-loop μ-loop
-mul-abs c = omega arith
-
-shared-slice-read-abs : tie.Need-shared-slice-read-abs Inv-loop μ-loop
-shared-slice-read-abs c = omega arith
-
-abs-requires : tie.Need-abs-requires Inv-loop μ-loop
-abs-requires c κs = search needs
-
-add-i : tie.Need-add-i Inv-loop μ-loop
-add-i c = omega arith
-
 loop-holds : tie.Need-loop-holds Inv-loop μ-loop
 unfolding pivotOf
 loop-holds c = (omega arith, rw (c .abs .ensures))
-
-add-abs-2 : tie.Need-add-abs-2 Inv-loop μ-loop
-add-abs-2 c = omega arith
-
-mul-abs-2 : tie.Need-mul-abs-2 Inv-loop μ-loop
-mul-abs-2 c = omega arith
-
-shared-slice-read-abs-2 : tie.Need-shared-slice-read-abs-2 Inv-loop μ-loop
-shared-slice-read-abs-2 c = omega arith
-
-abs-requires-2 : tie.Need-abs-requires-2 Inv-loop μ-loop
-abs-requires-2 c κs = tt
-
-add-i-2 : tie.Need-add-i-2 Inv-loop μ-loop
-add-i-2 c = omega arith
-
-loop-less : tie.Need-loop-less Inv-loop μ-loop
-loop-less c = omega arith
 
 loop-again : tie.Need-loop-again Inv-loop μ-loop
 loop-again c =
@@ -79,20 +43,6 @@ pub find-pivot-spec : {M : Type 1} → statement M
 find-pivot-spec =
     tie.close
     (tie.spec
-    Inv-loop
-    μ-loop
-    mul-col
-    add-abs
-    mul-abs
-    shared-slice-read-abs
-    abs-requires
-    add-i
-    loop-holds
-    add-abs-2
-    mul-abs-2
-    shared-slice-read-abs-2
-    abs-requires-2
-    add-i-2
-    loop-less
-    loop-again
-    returns)
+    Inv-loop μ-loop (λ c. omega arith) (λ c. omega arith) (λ c. omega arith) (λ c. omega arith)
+    (λ c κs. search needs) (λ c. omega arith) loop-holds (λ c. omega arith) (λ c. omega arith) (λ c. omega arith)
+    (λ c κs. tt) (λ c. omega arith) (λ c. omega arith) loop-again returns)

@@ -19,15 +19,6 @@ loop-holds : tie.Need-loop-holds Inv-loop μ-loop
 unfolding forwardAllOf
 loop-holds c = (refl, refl)
 
-mul-p : tie.Need-mul-p Inv-loop μ-loop
-mul-p c = omega arith
-
-shared-slice-read-p : tie.Need-shared-slice-read-p Inv-loop μ-loop
-shared-slice-read-p c = omega arith
-
-add-swap-entries : tie.Need-add-swap-entries Inv-loop μ-loop
-add-swap-entries c = omega arith
-
 add-swap-entries-2 : tie.Need-add-swap-entries-2 Inv-loop μ-loop
 add-swap-entries-2 c =
     let l = c .before .before .before in
@@ -38,29 +29,11 @@ swap-entries-requires c κs =
     let l = c .before .before .before in
     omega (arith, l .before .before .before .pre .1 (l .loop .k) (omega arith))
 
-add-bk : tie.Need-add-bk Inv-loop μ-loop
-add-bk c = omega arith
-
-mul-bk : tie.Need-mul-bk Inv-loop μ-loop
-mul-bk c = omega arith
-
-slice-read-bk : tie.Need-slice-read-bk Inv-loop μ-loop
-slice-read-bk c = omega arith
-
-add-less : tie.Need-add-less Inv-loop μ-loop
-add-less c = omega arith
-
 less-requires : tie.Need-less-requires Inv-loop μ-loop
 less-requires c κs =
     let l = c .before .before .before .before .before .before .before .before in
     let n = l .before .before .before .args .n in
     omega (arith, within n n (l .loop .k) (omega arith))
-
-add-k : tie.Need-add-k Inv-loop μ-loop
-add-k c = omega arith
-
-loop-less : tie.Need-loop-less Inv-loop μ-loop
-loop-less c = omega arith
 
 loop-again : tie.Need-loop-again Inv-loop μ-loop
 unfolding forwardStepOf
@@ -72,9 +45,6 @@ loop-again c =
       rw (last .ensures, exchange .ensures) (again _ _ _ _ _ (omega arith) (l .loop .inv .1)),
     )
 
-same-length : tie.Need-same-length Inv-loop μ-loop
-same-length c = omega arith
-
 returns : tie.Need-returns Inv-loop μ-loop
 returns c = ended _ _ _ _ _ (omega arith) (c .before .loop .inv .1)
 
@@ -82,21 +52,6 @@ pub forward-all-spec : {M : Type 1} → statement M
 forward-all-spec =
     tie.close
     (tie.spec
-    Inv-loop
-    μ-loop
-    loop-holds
-    mul-p
-    shared-slice-read-p
-    add-swap-entries
-    add-swap-entries-2
-    swap-entries-requires
-    add-bk
-    mul-bk
-    slice-read-bk
-    add-less
-    less-requires
-    add-k
-    loop-less
-    loop-again
-    same-length
-    returns)
+    Inv-loop μ-loop loop-holds (λ c. omega arith) (λ c. omega arith) (λ c. omega arith) add-swap-entries-2
+    swap-entries-requires (λ c. omega arith) (λ c. omega arith) (λ c. omega arith) (λ c. omega arith) less-requires
+    (λ c. omega arith) (λ c. omega arith) loop-again (λ c. omega arith) returns)

@@ -19,46 +19,10 @@ loop-holds : tie.Need-loop-holds Inv-loop μ-loop
 unfolding lessOf
 loop-holds c = (refl, refl)
 
-mul-work : tie.Need-mul-work Inv-loop μ-loop
-mul-work c = omega arith
-
-add-work : tie.Need-add-work Inv-loop μ-loop
-add-work c = omega arith
-
-add-work-2 : tie.Need-add-work-2 Inv-loop μ-loop
-add-work-2 c = omega arith
-
-mul-work-2 : tie.Need-mul-work-2 Inv-loop μ-loop
-mul-work-2 c = omega arith
-
-slice-read-work : tie.Need-slice-read-work Inv-loop μ-loop
-slice-read-work c = omega arith
-
-add-work-3 : tie.Need-add-work-3 Inv-loop μ-loop
-add-work-3 c = omega arith
-
-mul-work-3 : tie.Need-mul-work-3 Inv-loop μ-loop
-mul-work-3 c = omega arith
-
-slice-read-work-2 : tie.Need-slice-read-work-2 Inv-loop μ-loop
-slice-read-work-2 c = omega arith
-
-slice-write-work : tie.Need-slice-write-work Inv-loop μ-loop
-slice-write-work c = omega arith
-
-add-i : tie.Need-add-i Inv-loop μ-loop
-add-i c = omega arith
-
-loop-less : tie.Need-loop-less Inv-loop μ-loop
-loop-less c = omega arith
-
 loop-again : tie.Need-loop-again Inv-loop μ-loop
 loop-again c =
     let l = c .before .before .before in
     (simp length-set (omega arith), again _ _ _ _ _ (omega arith) (l .loop .inv .1))
-
-same-length : tie.Need-same-length Inv-loop μ-loop
-same-length c = omega arith
 
 returns : tie.Need-returns Inv-loop μ-loop
 returns c = ended _ _ _ _ _ (omega arith) (c .before .loop .inv .1)
@@ -67,20 +31,6 @@ pub less-spec : {M : Type 1} → statement M
 less-spec =
     tie.close
     (tie.spec
-    Inv-loop
-    μ-loop
-    loop-holds
-    mul-work
-    add-work
-    add-work-2
-    mul-work-2
-    slice-read-work
-    add-work-3
-    mul-work-3
-    slice-read-work-2
-    slice-write-work
-    add-i
-    loop-less
-    loop-again
-    same-length
-    returns)
+    Inv-loop μ-loop loop-holds (λ c. omega arith) (λ c. omega arith) (λ c. omega arith) (λ c. omega arith)
+    (λ c. omega arith) (λ c. omega arith) (λ c. omega arith) (λ c. omega arith) (λ c. omega arith)
+    (λ c. omega arith) (λ c. omega arith) loop-again (λ c. omega arith) returns)

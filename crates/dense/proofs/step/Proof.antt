@@ -12,35 +12,14 @@ find-pivot-requires c κs =
     let a = c .before .before .before .args in
     omega (arith, within (a .n) (a .n) (a .k) (omega arith))
 
-same-length : tie.Need-same-length
-same-length c = search needs
-
 returns : tie.Need-returns
 unfolding stepOf
 returns c = rw (← c .before .find-pivot .ensures .0, c .if1 .taken)
-
-mul-ipiv : tie.Need-mul-ipiv
-mul-ipiv c = search needs
-
-slice-write-ipiv : tie.Need-slice-write-ipiv
-slice-write-ipiv c = search needs
-
-exchange-requires : tie.Need-exchange-requires
-exchange-requires c κs = search needs
 
 scale-requires : tie.Need-scale-requires
 scale-requires c κs =
     let a = c .before .before .before .before .before .before .before .before .before .before .args in
     omega (arith, within (a .n) (a .n) (a .k) (omega arith))
-
-eliminate-requires : tie.Need-eliminate-requires
-eliminate-requires c κs = search needs
-
-same-length-2 : tie.Need-same-length-2
-same-length-2 c = search needs
-
-same-length-3 : tie.Need-same-length-3
-same-length-3 c = search needs
 
 returns-2 : tie.Need-returns-2
 unfolding stepOf
@@ -55,14 +34,5 @@ pub step-spec : {M : Type 1} → statement M
 step-spec =
     tie.close
     (tie.spec
-    find-pivot-requires
-    same-length
-    returns
-    mul-ipiv
-    slice-write-ipiv
-    exchange-requires
-    scale-requires
-    eliminate-requires
-    same-length-2
-    same-length-3
-    returns-2)
+    find-pivot-requires (λ c. search needs) returns (λ c. search needs) (λ c. search needs) (λ c κs. search needs)
+    scale-requires (λ c κs. search needs) (λ c. search needs) (λ c. search needs) returns-2)

@@ -23,20 +23,11 @@ swap-at-requires c κs =
     let l = c .before .before in
     omega (arith, within (l .before .before .args .n) (l .before .before .args .n) (l .loop .j) (omega arith))
 
-add-j : tie.Need-add-j Inv-loop μ-loop
-add-j c = omega arith
-
-loop-less : tie.Need-loop-less Inv-loop μ-loop
-loop-less c = omega arith
-
 loop-again : tie.Need-loop-again Inv-loop μ-loop
 loop-again c =
     let l = c .before .before .before .before .before in
     let last = c .before .before .swap-at in
     (last .kept .0 ∙ l .loop .inv .0, rw (last .ensures) (again _ _ _ _ _ (omega arith) (l .loop .inv .1)))
-
-same-length : tie.Need-same-length Inv-loop μ-loop
-same-length c = omega arith
 
 returns : tie.Need-returns Inv-loop μ-loop
 returns c = ended _ _ _ _ _ (omega arith) (c .before .loop .inv .1)
@@ -45,12 +36,5 @@ pub swap-rows-spec : {M : Type 1} → statement M
 swap-rows-spec =
     tie.close
     (tie.spec
-    Inv-loop
-    μ-loop
-    loop-holds
-    swap-at-requires
-    add-j
-    loop-less
-    loop-again
-    same-length
+    Inv-loop μ-loop loop-holds swap-at-requires (λ c. omega arith) (λ c. omega arith) loop-again (λ c. omega arith)
     returns)

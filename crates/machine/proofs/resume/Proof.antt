@@ -15,9 +15,6 @@ use Rattle.machine.proofs.Replies.{resume-asked, resume-unasked, first-
 use Rattle.machine.proofs.resume.Statement.{statement}
 use Rattle.machine.proofs.resume.Tie as tie
 
-is-asked-requires : tie.Need-is-asked-requires
-is-asked-requires c κs = search needs
-
 returns : tie.Need-returns
 returns c =
     let i = c .before in
@@ -39,12 +36,6 @@ first-derivative-requires c κs =
     let l = derivative-length _ _ (x .kind) (asked-in Phase.FirstDerivative (x .kind) _ _ t yes) in
     (r .ranges .settings .n .0, (r .relative, (r .absolute, (l, omega (arith, r .lent .sized)))))
 
-enum-told-2 : tie.Need-enum-told-2
-enum-told-2 c = search needs
-
-enum-known-kind : tie.Need-enum-known-kind
-enum-known-kind c = search needs
-
 after-first-report-requires : tie.Need-after-first-report-requires
 after-first-report-requires c κs =
     let e = c .before .before .before .before in
@@ -56,9 +47,6 @@ after-first-report-requires c κs =
     let r = held Phase.FirstReport _ t (a .pre .1) in
     let l = answer-length _ _ (x .kind) (asked-in Phase.FirstReport (x .kind) _ _ t yes) in
     (inside-ranges (r .ranges), (l, omega (arith, r .lent .sized)))
-
-enum-told-3 : tie.Need-enum-told-3
-enum-told-3 c = search needs
 
 first-modified-requires : tie.Need-first-modified-requires
 first-modified-requires c κs =
@@ -72,9 +60,6 @@ first-modified-requires c κs =
     let l = derivative-length _ _ (x .kind) (asked-in Phase.FirstModified (x .kind) _ _ t yes) in
     (inside-ranges (r .ranges), (l, omega (arith, r .lent .sized)))
 
-enum-told-4 : tie.Need-enum-told-4
-enum-told-4 c = search needs
-
 opened-reply-requires : tie.Need-opened-reply-requires
 opened-reply-requires c κs =
     let e = c .before .before in
@@ -86,9 +71,6 @@ opened-reply-requires c κs =
     let r = held Phase.Opened _ t (a .pre .1) in
     let l = derivative-length _ _ (x .kind) (asked-in Phase.Opened (x .kind) _ _ t yes) in
     (inside-ranges (r .ranges), (omega (arith, r .ranges .counts .nje), (r .relative, (r .absolute, (l, r .lent)))))
-
-enum-told-5 : tie.Need-enum-told-5
-enum-told-5 c = search needs
 
 jacobian-reply-requires : tie.Need-jacobian-reply-requires
 jacobian-reply-requires c κs =
@@ -102,9 +84,6 @@ jacobian-reply-requires c κs =
     let l = jacobian-length _ _ (x .kind) (asked-in Phase.JacobianAsked (x .kind) _ _ t yes) in
     (inside-ranges (r .ranges), (omega (arith, r .ranges .counts .nlu), (r .relative, (r .absolute, (l, r .lent)))))
 
-enum-told-6 : tie.Need-enum-told-6
-enum-told-6 c = search needs
-
 column-reply-requires : tie.Need-column-reply-requires
 column-reply-requires c κs =
     let e = c .before .before in
@@ -116,9 +95,6 @@ column-reply-requires c κs =
     let r = held Phase.DifferenceColumn _ t (a .pre .1) in
     let l = derivative-length _ _ (x .kind) (asked-in Phase.DifferenceColumn (x .kind) _ _ t yes) in
     (inside-ranges (r .ranges), (omega (arith, r .ranges .counts .nlu), (r .relative, (r .absolute, (l, r .lent)))))
-
-enum-told-7 : tie.Need-enum-told-7
-enum-told-7 c = search needs
 
 further-reply-requires : tie.Need-further-reply-requires
 further-reply-requires c κs =
@@ -132,9 +108,6 @@ further-reply-requires c κs =
     let l = derivative-length _ _ (x .kind) (asked-in Phase.FurtherDerivative (x .kind) _ _ t yes) in
     (inside-ranges (r .ranges), (r .relative, (r .absolute, (l, r .lent))))
 
-enum-told-8 : tie.Need-enum-told-8
-enum-told-8 c = search needs
-
 restep-reply-requires : tie.Need-restep-reply-requires
 restep-reply-requires c κs =
     let e = c .before in
@@ -146,12 +119,6 @@ restep-reply-requires c κs =
     let r = held Phase.Restep _ t (a .pre .1) in
     let l = derivative-length _ _ (x .kind) (asked-in Phase.Restep (x .kind) _ _ t yes) in
     (inside-ranges (r .ranges), (l, omega (arith, r .lent .sized)))
-
-enum-told-9 : tie.Need-enum-told-9
-enum-told-9 c = search needs
-
-enum-known-kind-2 : tie.Need-enum-known-kind-2
-enum-known-kind-2 c = search needs
 
 after-report-requires : tie.Need-after-report-requires
 after-report-requires c κs =
@@ -165,9 +132,6 @@ after-report-requires c κs =
     let l = answer-length _ _ (x .kind) (asked-in Phase.Report (x .kind) _ _ t yes) in
     (inside-ranges (r .ranges), (l, omega (arith, r .lent .sized)))
 
-enum-told-10 : tie.Need-enum-told-10
-enum-told-10 c = search needs
-
 modified-requires : tie.Need-modified-requires
 modified-requires c κs =
     let e = c .before in
@@ -180,12 +144,6 @@ modified-requires c κs =
     let l = derivative-length _ _ (x .kind) (asked-in Phase.Modified (x .kind) _ _ t yes) in
     (inside-ranges (r .ranges), (l, omega (arith, r .lent .sized)))
 
-enum-told-11 : tie.Need-enum-told-11
-enum-told-11 c = search needs
-
-same-length : tie.Need-same-length
-same-length c = search needs
-
 returns-2 : tie.Need-returns-2
 unfolding dealtOf
 returns-2 c =
@@ -195,9 +153,6 @@ returns-2 c =
     let yes = sym (i .before .is-asked .ensures) ∙ not-false _ (i .if1 .left) in
     ap (withPivots _) (c .before .before .first-derivative .ensures)
     ∙ sym (resume-asked (x .x) (x .kind) _ (x .time) _ Phase.FirstDerivative (e .enum-told .given .1) yes)
-
-same-length-2 : tie.Need-same-length-2
-same-length-2 c = search needs
 
 returns-3 : tie.Need-returns-3
 unfolding dealtOf
@@ -222,9 +177,6 @@ returns-4 c =
     sym (first-unasked (x .x) _ (x .time) _ (x .kind) (c .match2 .keys2))
     ∙ sym (resume-asked (x .x) (x .kind) _ (x .time) _ Phase.FirstReport (e .enum-told2 .given .1) yes)
 
-same-length-3 : tie.Need-same-length-3
-same-length-3 c = search needs
-
 returns-5 : tie.Need-returns-5
 unfolding dealtOf
 returns-5 c =
@@ -234,12 +186,6 @@ returns-5 c =
     let yes = sym (i .before .is-asked .ensures) ∙ not-false _ (i .if1 .left) in
     ap (withPivots _) (c .before .before .first-modified .ensures)
     ∙ sym (resume-asked (x .x) (x .kind) _ (x .time) _ Phase.FirstModified (e .enum-told3 .given .1) yes)
-
-same-length-4 : tie.Need-same-length-4
-same-length-4 c = search needs
-
-same-length-5 : tie.Need-same-length-5
-same-length-5 c = search needs
 
 returns-6 : tie.Need-returns-6
 unfolding dealtOf
@@ -251,12 +197,6 @@ returns-6 c =
     ap (withPivots _) (c .before .before .opened-reply .ensures)
     ∙ sym (resume-asked (x .x) (x .kind) _ (x .time) _ Phase.Opened (e .enum-told4 .given .1) yes)
 
-same-length-6 : tie.Need-same-length-6
-same-length-6 c = search needs
-
-same-length-7 : tie.Need-same-length-7
-same-length-7 c = search needs
-
 returns-7 : tie.Need-returns-7
 unfolding dealtOf
 returns-7 c =
@@ -266,12 +206,6 @@ returns-7 c =
     let yes = sym (i .before .is-asked .ensures) ∙ not-false _ (i .if1 .left) in
     c .before .before .before .before .jacobian-reply .ensures
     ∙ sym (resume-asked (x .x) (x .kind) _ (x .time) _ Phase.JacobianAsked (e .enum-told5 .given .1) yes)
-
-same-length-8 : tie.Need-same-length-8
-same-length-8 c = search needs
-
-same-length-9 : tie.Need-same-length-9
-same-length-9 c = search needs
 
 returns-8 : tie.Need-returns-8
 unfolding dealtOf
@@ -283,12 +217,6 @@ returns-8 c =
     c .before .before .before .before .column-reply .ensures
     ∙ sym (resume-asked (x .x) (x .kind) _ (x .time) _ Phase.DifferenceColumn (e .enum-told6 .given .1) yes)
 
-same-length-10 : tie.Need-same-length-10
-same-length-10 c = search needs
-
-same-length-11 : tie.Need-same-length-11
-same-length-11 c = search needs
-
 returns-9 : tie.Need-returns-9
 unfolding dealtOf
 returns-9 c =
@@ -299,9 +227,6 @@ returns-9 c =
     ap (withPivots _) (c .before .before .further-reply .ensures)
     ∙ sym (resume-asked (x .x) (x .kind) _ (x .time) _ Phase.FurtherDerivative (e .enum-told7 .given .1) yes)
 
-same-length-12 : tie.Need-same-length-12
-same-length-12 c = search needs
-
 returns-10 : tie.Need-returns-10
 unfolding dealtOf
 returns-10 c =
@@ -311,9 +236,6 @@ returns-10 c =
     let yes = sym (i .before .is-asked .ensures) ∙ not-false _ (i .if1 .left) in
     ap (withPivots _) (c .before .before .restep-reply .ensures)
     ∙ sym (resume-asked (x .x) (x .kind) _ (x .time) _ Phase.Restep (e .enum-told8 .given .1) yes)
-
-same-length-13 : tie.Need-same-length-13
-same-length-13 c = search needs
 
 returns-11 : tie.Need-returns-11
 unfolding dealtOf
@@ -337,9 +259,6 @@ returns-12 c =
     let yes = sym (i .before .is-asked .ensures) ∙ not-false _ (i .if1 .left) in
     sym (report-unasked (x .x) _ (x .time) _ (x .kind) (c .match3 .keys2))
     ∙ sym (resume-asked (x .x) (x .kind) _ (x .time) _ Phase.Report (e .enum-told9 .given .1) yes)
-
-same-length-14 : tie.Need-same-length-14
-same-length-14 c = search needs
 
 returns-13 : tie.Need-returns-13
 unfolding dealtOf
@@ -365,55 +284,13 @@ pub resume-spec : {M : Type 1} → statement M
 resume-spec =
     tie.close
     (tie.spec
-    is-asked-requires
-    returns
-    enum-told
-    first-derivative-requires
-    enum-told-2
-    enum-known-kind
-    after-first-report-requires
-    enum-told-3
-    first-modified-requires
-    enum-told-4
-    opened-reply-requires
-    enum-told-5
-    jacobian-reply-requires
-    enum-told-6
-    column-reply-requires
-    enum-told-7
-    further-reply-requires
-    enum-told-8
-    restep-reply-requires
-    enum-told-9
-    enum-known-kind-2
-    after-report-requires
-    enum-told-10
-    modified-requires
-    enum-told-11
-    same-length
-    returns-2
-    same-length-2
-    returns-3
-    returns-4
-    same-length-3
-    returns-5
-    same-length-4
-    same-length-5
-    returns-6
-    same-length-6
-    same-length-7
-    returns-7
-    same-length-8
-    same-length-9
-    returns-8
-    same-length-10
-    same-length-11
-    returns-9
-    same-length-12
-    returns-10
-    same-length-13
-    returns-11
-    returns-12
-    same-length-14
-    returns-13
+    (λ c κs. search needs) returns enum-told first-derivative-requires (λ c. search needs) (λ c. search needs)
+    after-first-report-requires (λ c. search needs) first-modified-requires (λ c. search needs)
+    opened-reply-requires (λ c. search needs) jacobian-reply-requires (λ c. search needs) column-reply-requires
+    (λ c. search needs) further-reply-requires (λ c. search needs) restep-reply-requires (λ c. search needs)
+    (λ c. search needs) after-report-requires (λ c. search needs) modified-requires (λ c. search needs)
+    (λ c. search needs) returns-2 (λ c. search needs) returns-3 returns-4 (λ c. search needs) returns-5
+    (λ c. search needs) (λ c. search needs) returns-6 (λ c. search needs) (λ c. search needs) returns-7
+    (λ c. search needs) (λ c. search needs) returns-8 (λ c. search needs) (λ c. search needs) returns-9
+    (λ c. search needs) returns-10 (λ c. search needs) returns-11 returns-12 (λ c. search needs) returns-13
     returns-14)

@@ -5,12 +5,6 @@ use Rattle.numbers.proofs.Sign.{copysign-positive, copysign-negative}
 use Rattle.numbers.proofs.copysign.Statement.{statement}
 use Rattle.numbers.proofs.copysign.Tie as tie
 
-abs-requires : tie.Need-abs-requires
-abs-requires c κs = search needs
-
-is-sign-negative-requires : tie.Need-is-sign-negative-requires
-is-sign-negative-requires c κs = search needs
-
 returns : tie.Need-returns
 returns c =
     rw (c .before .before .abs .ensures)
@@ -22,4 +16,4 @@ returns-2 c =
     ∙ copysign-positive _ _ (sym (c .before .is-sign-negative .ensures) ∙ c .if1 .left)
 
 pub copysign-spec : {M : Type 1} → statement M
-copysign-spec = tie.close (tie.spec abs-requires is-sign-negative-requires returns returns-2)
+copysign-spec = tie.close (tie.spec (λ c κs. search needs) (λ c κs. search needs) returns returns-2)

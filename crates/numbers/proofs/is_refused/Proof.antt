@@ -8,12 +8,9 @@ returns : tie.Need-returns
 unfolding refused
 returns c = rw (c .if1 .taken)
 
-signum-requires : tie.Need-signum-requires
-signum-requires c κs = search needs
-
 returns-2 : tie.Need-returns-2
 unfolding refused
 returns-2 c = rw (c .before .if1 .left, c .signum .ensures)
 
 pub is-refused-spec : {M : Type 1} → statement M
-is-refused-spec = tie.close (tie.spec returns signum-requires returns-2)
+is-refused-spec = tie.close (tie.spec returns (λ c κs. search needs) returns-2)

@@ -11,9 +11,6 @@ returns : tie.Need-returns
 unfolding signumOf
 returns c = rw (nan-self (c .before .args .x) (c .if1 .taken))
 
-is-sign-negative-requires : tie.Need-is-sign-negative-requires
-is-sign-negative-requires c κs = search needs
-
 returns-2 : tie.Need-returns-2
 returns-2 c =
     signum-negative (c .before .before .before .args .x) (sym (c .before .is-sign-negative .ensures) ∙ c .if2 .taken)
@@ -24,4 +21,4 @@ returns-3 c =
     (sym (c .before .is-sign-negative .ensures) ∙ c .if2 .left)
 
 pub signum-spec : {M : Type 1} → statement M
-signum-spec = tie.close (tie.spec returns is-sign-negative-requires returns-2 returns-3)
+signum-spec = tie.close (tie.spec returns (λ c κs. search needs) returns-2 returns-3)

@@ -34,14 +34,8 @@ closes s order rtol atol HeldBySm1 c work h = refl
 closes s order rtol atol FamilyChanged c work h = refl
 closes s order rtol atol CoefficientGap c work h = absurd (miss (0 ∷ 1 ∷ 2 ∷ 3 ∷ 4 ∷ 5 ∷ 6 ∷ []) 7 tt h)
 
-accept-requires : tie.Need-accept-requires
-accept-requires c κs = search needs
-
 enum-told : tie.Need-enum-told
 enum-told c = search needs
-
-finish-requires : tie.Need-finish-requires
-finish-requires c κs = search needs
 
 end-step-requires : tie.Need-end-step-requires
 end-step-requires c κs =
@@ -61,17 +55,11 @@ end-step-requires c κs =
       ),
     )
 
-same-length : tie.Need-same-length
-same-length c = search needs
-
 returns : tie.Need-returns
 unfolding acceptedOf acceptedAt
 returns c =
     rw (← c .before .before .before .before .before .before .accept .ensures, c .before .enum-told .given .1,
       c .finish .ensures)
-
-same-length-2 : tie.Need-same-length-2
-same-length-2 c = search needs
 
 returns-2 : tie.Need-returns-2
 unfolding acceptedOf
@@ -83,11 +71,5 @@ pub accepted-spec : {M : Type 1} → statement M
 accepted-spec =
     tie.close
     (tie.spec
-    accept-requires
-    enum-told
-    finish-requires
-    end-step-requires
-    same-length
-    returns
-    same-length-2
-    returns-2)
+    (λ c κs. search needs) enum-told (λ c κs. search needs) end-step-requires (λ c. search needs) returns
+    (λ c. search needs) returns-2)

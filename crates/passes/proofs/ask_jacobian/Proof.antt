@@ -11,26 +11,11 @@ use Rattle.passes.specs.Pass.{askJacobianOf, askJacobianAt}
 use Rattle.passes.proofs.ask_jacobian.Statement.{statement}
 use Rattle.passes.proofs.ask_jacobian.Tie as tie
 
-begin-jacobian-requires : tie.Need-begin-jacobian-requires
-begin-jacobian-requires c κs = search needs
-
-is-bdf-requires : tie.Need-is-bdf-requires
-is-bdf-requires c κs = search needs
-
 returns : tie.Need-returns
 unfolding askJacobianOf askJacobianAt beginOf
 returns c =
     let b = c .before .before in
     rw (← b .is-bdf .ensures, c .before .if1 .taken, c .if2 .taken, b .before .begin-jacobian .ensures)
-
-mul-copy-part : tie.Need-mul-copy-part
-mul-copy-part c = search needs
-
-mul-copy-part-2 : tie.Need-mul-copy-part-2
-mul-copy-part-2 c = search needs
-
-copy-part-requires : tie.Need-copy-part-requires
-copy-part-requires c κs = search needs
 
 ask-column-requires : tie.Need-ask-column-requires
 unfolding beginOf
@@ -41,9 +26,6 @@ ask-column-requires c κs =
       (p .settings .n .1, p .settings .n .0),
       ((p .counts .0, p .counts .1), omega arith),
     )
-
-same-length : tie.Need-same-length
-same-length c = search needs
 
 returns-2 : tie.Need-returns-2
 unfolding askJacobianOf askJacobianAt
@@ -61,12 +43,5 @@ pub ask-jacobian-spec : {M : Type 1} → statement M
 ask-jacobian-spec =
     tie.close
     (tie.spec
-    begin-jacobian-requires
-    is-bdf-requires
-    returns
-    mul-copy-part
-    mul-copy-part-2
-    copy-part-requires
-    ask-column-requires
-    same-length
-    returns-2)
+    (λ c κs. search needs) (λ c κs. search needs) returns (λ c. search needs) (λ c. search needs)
+    (λ c κs. search needs) ask-column-requires (λ c. search needs) returns-2)

@@ -7,30 +7,6 @@ use Rattle.passes.proofs.attempted.Tie as tie
 enum-told : tie.Need-enum-told
 enum-told c = search needs
 
-open-pass-requires : tie.Need-open-pass-requires
-open-pass-requires c κs = search needs
-
-enum-told-2 : tie.Need-enum-told-2
-enum-told-2 c = search needs
-
-ask-in-step-requires : tie.Need-ask-in-step-requires
-ask-in-step-requires c κs = search needs
-
-enum-told-3 : tie.Need-enum-told-3
-enum-told-3 c = search needs
-
-finish-requires : tie.Need-finish-requires
-finish-requires c κs = search needs
-
-enum-told-4 : tie.Need-enum-told-4
-enum-told-4 c = search needs
-
-finish-requires-2 : tie.Need-finish-requires-2
-finish-requires-2 c κs = search needs
-
-same-length : tie.Need-same-length
-same-length c = search needs
-
 returns : tie.Need-returns
 unfolding attemptedAt
 returns c = rw (c .before .before .before .before .enum-told .given .1) (c .before .before .open-pass .ensures)
@@ -51,16 +27,6 @@ pub attempted-spec : {M : Type 1} → statement M
 attempted-spec =
     tie.close
     (tie.spec
-    enum-told
-    open-pass-requires
-    enum-told-2
-    ask-in-step-requires
-    enum-told-3
-    finish-requires
-    enum-told-4
-    finish-requires-2
-    same-length
-    returns
-    returns-2
-    returns-3
-    returns-4)
+    enum-told (λ c κs. search needs) (λ c. search needs) (λ c κs. search needs) (λ c. search needs)
+    (λ c κs. search needs) (λ c. search needs) (λ c κs. search needs) (λ c. search needs) returns returns-2
+    returns-3 returns-4)

@@ -10,12 +10,6 @@ use Rattle.passes.specs.Pass.{columnReplyOf, columnReplyAt}
 use Rattle.passes.proofs.column_reply.Statement.{statement}
 use Rattle.passes.proofs.column_reply.Tie as tie
 
-mul-store : tie.Need-mul-store
-mul-store c = search needs
-
-store-requires : tie.Need-store-requires
-store-requires c κs = search needs
-
 store-column-requires : tie.Need-store-column-requires
 store-column-requires c κs =
     let p = c .before .before .before .before .before .before .before .before .before .before .before .pre in
@@ -40,9 +34,6 @@ ask-column-requires c κs =
     let l = p .1 .1 .1 .1 .1 .sized in
     ((p .0 .settings .n .1, c .before .if1 .taken), ((p .0 .counts .0, p .0 .counts .1), omega arith))
 
-same-length : tie.Need-same-length
-same-length c = search needs
-
 returns : tie.Need-returns
 unfolding columnReplyOf columnReplyAt
 returns c =
@@ -59,12 +50,6 @@ matrix-done-requires c κs =
     let first = inside-column (p .0) 0 (p .0 .settings .n .0) in
     (first, (p .1 .0, (p .1 .1 .0, (p .1 .1 .1 .0, lent-length _ (omega arith) (p .1 .1 .1 .1 .1)))))
 
-same-length-2 : tie.Need-same-length-2
-same-length-2 c = search needs
-
-same-length-3 : tie.Need-same-length-3
-same-length-3 c = search needs
-
 returns-2 : tie.Need-returns-2
 unfolding columnReplyOf columnReplyAt
 returns-2 c =
@@ -77,15 +62,5 @@ pub column-reply-spec : {M : Type 1} → statement M
 column-reply-spec =
     tie.close
     (tie.spec
-    mul-store
-    store-requires
-    store-column-requires
-    add-if1
-    add-ask-column
-    ask-column-requires
-    same-length
-    returns
-    matrix-done-requires
-    same-length-2
-    same-length-3
-    returns-2)
+    (λ c. search needs) (λ c κs. search needs) store-column-requires add-if1 add-ask-column ask-column-requires
+    (λ c. search needs) returns matrix-done-requires (λ c. search needs) (λ c. search needs) returns-2)

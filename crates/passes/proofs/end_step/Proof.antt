@@ -5,27 +5,12 @@ use Rattle.passes.specs.Pass.{endStepOf, closedAt}
 use Rattle.passes.proofs.end_step.Statement.{statement}
 use Rattle.passes.proofs.end_step.Tie as tie
 
-close-requires : tie.Need-close-requires
-close-requires c κs = search needs
-
-enum-known-i : tie.Need-enum-known-i
-enum-known-i c = search needs
-
 enum-told : tie.Need-enum-told
 enum-told c = search needs
-
-report-requires : tie.Need-report-requires
-report-requires c κs = search needs
-
-same-length : tie.Need-same-length
-same-length c = search needs
 
 returns : tie.Need-returns
 unfolding endStepOf closedAt
 returns c = rw (← c .before .before .before .before .before .close .ensures, c .before .i .given .1)
-
-same-length-2 : tie.Need-same-length-2
-same-length-2 c = search needs
 
 returns-2 : tie.Need-returns-2
 unfolding endStepOf closedAt
@@ -37,11 +22,5 @@ pub end-step-spec : {M : Type 1} → statement M
 end-step-spec =
     tie.close
     (tie.spec
-    close-requires
-    enum-known-i
-    enum-told
-    report-requires
-    same-length
-    returns
-    same-length-2
-    returns-2)
+    (λ c κs. search needs) (λ c. search needs) enum-told (λ c κs. search needs) (λ c. search needs) returns
+    (λ c. search needs) returns-2)

@@ -7,12 +7,6 @@ use Rattle.passes.specs.Pass.{errorTestOf, errorTestAt}
 use Rattle.passes.proofs.error_test.Statement.{statement}
 use Rattle.passes.proofs.error_test.Tie as tie
 
-error-requires : tie.Need-error-requires
-error-requires c κs = search needs
-
-error-failure-requires : tie.Need-error-failure-requires
-error-failure-requires c κs = search needs
-
 attempted-requires : tie.Need-attempted-requires
 attempted-requires c κs =
     let e = c .before .before .before in
@@ -23,21 +17,12 @@ attempted-requires c κs =
     let q = rw (← e .error-failure .ensures) at (failed (x .s) (x .c) (r .error .result) (x .work .now)) in
     (omega (arith, q .kept .nfe, p .counts), omega (arith, q .kept .count, p .counts), omega arith)
 
-same-length : tie.Need-same-length
-same-length c = search needs
-
 returns : tie.Need-returns
 unfolding errorTestOf errorTestAt
 returns c =
     let e = c .before .before .before .before .before .before in
     rw (← e .before .before .before .error .ensures, e .before .before .if1 .taken, ← e .error-failure .ensures)
       (c .before .before .attempted .ensures)
-
-accepted-requires : tie.Need-accepted-requires
-accepted-requires c κs = search needs
-
-same-length-2 : tie.Need-same-length-2
-same-length-2 c = search needs
 
 returns-2 : tie.Need-returns-2
 unfolding errorTestOf errorTestAt
@@ -49,11 +34,5 @@ pub error-test-spec : {M : Type 1} → statement M
 error-test-spec =
     tie.close
     (tie.spec
-    error-requires
-    error-failure-requires
-    attempted-requires
-    same-length
-    returns
-    accepted-requires
-    same-length-2
-    returns-2)
+    (λ c κs. search needs) (λ c κs. search needs) attempted-requires (λ c. search needs) returns
+    (λ c κs. search needs) (λ c. search needs) returns-2)

@@ -6,19 +6,10 @@ use Rattle.passes.specs.Pass.{furtherReplyOf}
 use Rattle.passes.proofs.further_reply.Statement.{statement}
 use Rattle.passes.proofs.further_reply.Tie as tie
 
-mul-store : tie.Need-mul-store
-mul-store c = search needs
-
-store-requires : tie.Need-store-requires
-store-requires c κs = search needs
-
 iterate-requires : tie.Need-iterate-requires
 iterate-requires c κs =
     let p = c .before .before .before .before .before .before .before .before .before .before .before .pre in
     (p .0, (p .1 .0, (p .1 .1 .0, lent-length _ (omega arith) (p .1 .1 .1 .1))))
-
-same-length : tie.Need-same-length
-same-length c = search needs
 
 returns : tie.Need-returns
 unfolding furtherReplyOf
@@ -26,4 +17,7 @@ returns c =
     rw (← c .before .before .before .before .before .before .store .ensures) (c .before .before .iterate .ensures)
 
 pub further-reply-spec : {M : Type 1} → statement M
-further-reply-spec = tie.close (tie.spec mul-store store-requires iterate-requires same-length returns)
+further-reply-spec =
+    tie.close
+    (tie.spec
+    (λ c. search needs) (λ c κs. search needs) iterate-requires (λ c. search needs) returns)

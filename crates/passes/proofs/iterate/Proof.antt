@@ -18,12 +18,6 @@ correct-requires c κs =
     let l = a .pre .1 .1 .1 in
     (in-range (a .pre .0), ((omega (arith, l .sized), omega (arith, l .pivots)), l .below))
 
-norm-at-requires : tie.Need-norm-at-requires
-norm-at-requires c κs = search needs
-
-judge-requires : tie.Need-judge-requires
-judge-requires c κs = search needs
-
 enum-told : tie.Need-enum-told
 enum-told c = search needs
 
@@ -38,9 +32,6 @@ error-test-requires c κs =
       (a .args .c) _ _ in
     (p, (a .pre .1 .0, (a .pre .1 .1 .0, omega (arith, l, w))))
 
-enum-told-2 : tie.Need-enum-told-2
-enum-told-2 c = search needs
-
 open-pass-requires : tie.Need-open-pass-requires
 open-pass-requires c κs =
     let j = c .before .before .before .before in
@@ -51,9 +42,6 @@ open-pass-requires c κs =
     let w = ap (λ (k : Corrected). length (k .work)) (x .correct .ensures) ∙ length-iteration (a .args .s)
       (a .args .c) _ _ in
     (p .counts .0, p .counts .1, omega (arith, l, w))
-
-enum-told-3 : tie.Need-enum-told-3
-enum-told-3 c = search needs
 
 pass-failed-requires : tie.Need-pass-failed-requires
 pass-failed-requires c κs =
@@ -66,18 +54,12 @@ pass-failed-requires c κs =
       (a .args .c) _ _ in
     (p, omega (arith, l, w))
 
-enum-told-4 : tie.Need-enum-told-4
-enum-told-4 c = search needs
-
 ask-in-step-requires : tie.Need-ask-in-step-requires
 ask-in-step-requires c κs =
     let j = c .before .before .before in
     let a = j .before .before .before .before .before .before .before .before .before .before .before in
     let p : Inside (a .args .s) (j .judge .result .common) = rw (j .judge .ensures) (inside-judged (a .pre .0) _ _) in
     (p .counts .0, p .counts .1)
-
-same-length : tie.Need-same-length
-same-length c = search needs
 
 returns : tie.Need-returns
 unfolding iterateOf concludedAt
@@ -88,9 +70,6 @@ returns c =
       c .before .before .before .before .enum-told .given .1)
     (c .before .before .error-test .ensures)
 
-same-length-2 : tie.Need-same-length-2
-same-length-2 c = search needs
-
 returns-2 : tie.Need-returns-2
 unfolding iterateOf concludedAt
 returns-2 c =
@@ -100,9 +79,6 @@ returns-2 c =
       c .before .before .before .before .enum-told2 .given .1)
     (c .before .before .open-pass .ensures)
 
-same-length-3 : tie.Need-same-length-3
-same-length-3 c = search needs
-
 returns-3 : tie.Need-returns-3
 unfolding iterateOf concludedAt
 returns-3 c =
@@ -111,9 +87,6 @@ returns-3 c =
       ← j .judge .ensures,
       c .before .before .before .before .enum-told3 .given .1)
     (c .before .before .pass-failed .ensures)
-
-same-length-4 : tie.Need-same-length-4
-same-length-4 c = search needs
 
 returns-4 : tie.Need-returns-4
 unfolding iterateOf concludedAt
@@ -127,22 +100,7 @@ pub iterate-spec : {M : Type 1} → statement M
 iterate-spec =
     tie.close
     (tie.spec
-    correct-requires
-    norm-at-requires
-    judge-requires
-    enum-told
-    error-test-requires
-    enum-told-2
-    open-pass-requires
-    enum-told-3
-    pass-failed-requires
-    enum-told-4
-    ask-in-step-requires
-    same-length
-    returns
-    same-length-2
-    returns-2
-    same-length-3
-    returns-3
-    same-length-4
+    correct-requires (λ c κs. search needs) (λ c κs. search needs) enum-told error-test-requires (λ c. search needs)
+    open-pass-requires (λ c. search needs) pass-failed-requires (λ c. search needs) ask-in-step-requires
+    (λ c. search needs) returns (λ c. search needs) returns-2 (λ c. search needs) returns-3 (λ c. search needs)
     returns-4)

@@ -11,27 +11,6 @@ use Rattle.passes.specs.Pass.{iterationsOf}
 use Rattle.passes.proofs.iterations.Statement.{statement}
 use Rattle.passes.proofs.iterations.Tie as tie
 
-mul-a : tie.Need-mul-a
-mul-a c = search needs
-
-mul-e : tie.Need-mul-e
-mul-e c = search needs
-
-mul-open-iterations : tie.Need-mul-open-iterations
-mul-open-iterations c = search needs
-
-sub-open-iterations : tie.Need-sub-open-iterations
-sub-open-iterations c = search needs
-
-part-open-iterations-start : tie.Need-part-open-iterations-start
-part-open-iterations-start c = search needs
-
-part-open-iterations-end : tie.Need-part-open-iterations-end
-part-open-iterations-end c = search needs
-
-open-iterations-requires : tie.Need-open-iterations-requires
-open-iterations-requires c κs = search needs
-
 iterate-requires : tie.Need-iterate-requires
 iterate-requires c κs =
     let o = c .before .before .before in
@@ -41,9 +20,6 @@ iterate-requires c κs =
       rw (o .open-iterations .ensures .0) (inside-open (p .0)),
       (p .1 .0, (p .1 .1 .0, lent-length _ (omega arith) (p .1 .1 .1))),
     )
-
-same-length : tie.Need-same-length
-same-length c = search needs
 
 returns : tie.Need-returns
 unfolding iterationsOf fillOf
@@ -60,13 +36,5 @@ pub iterations-spec : {M : Type 1} → statement M
 iterations-spec =
     tie.close
     (tie.spec
-    mul-a
-    mul-e
-    mul-open-iterations
-    sub-open-iterations
-    part-open-iterations-start
-    part-open-iterations-end
-    open-iterations-requires
-    iterate-requires
-    same-length
-    returns)
+    (λ c. search needs) (λ c. search needs) (λ c. search needs) (λ c. search needs) (λ c. search needs)
+    (λ c. search needs) (λ c κs. search needs) iterate-requires (λ c. search needs) returns)

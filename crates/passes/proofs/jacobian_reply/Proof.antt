@@ -39,19 +39,10 @@ part-store-jacobian-end c =
     let p = c .before .before .before .before .before .before .pre in
     omega (arith, p .1 .1 .1 .1 .0, p .1 .1 .1 .1 .1 .sized)
 
-store-jacobian-requires : tie.Need-store-jacobian-requires
-store-jacobian-requires c κs = search needs
-
 matrix-done-requires : tie.Need-matrix-done-requires
 matrix-done-requires c κs =
     let p = c .before .before .before .before .before .before .before .before .before .before .before .before .pre in
     (p .0, (p .1 .0, (p .1 .1 .0, (p .1 .1 .1 .0, lent-length _ (omega arith) (p .1 .1 .1 .1 .1)))))
-
-same-length : tie.Need-same-length
-same-length c = search needs
-
-same-length-2 : tie.Need-same-length-2
-same-length-2 c = search needs
 
 returns : tie.Need-returns
 unfolding jacobianReplyOf
@@ -65,14 +56,5 @@ pub jacobian-reply-spec : {M : Type 1} → statement M
 jacobian-reply-spec =
     tie.close
     (tie.spec
-    mul-a
-    add-e
-    mul-store-jacobian
-    sub-store-jacobian
-    part-store-jacobian-start
-    part-store-jacobian-end
-    store-jacobian-requires
-    matrix-done-requires
-    same-length
-    same-length-2
-    returns)
+    mul-a add-e mul-store-jacobian sub-store-jacobian part-store-jacobian-start part-store-jacobian-end
+    (λ c κs. search needs) matrix-done-requires (λ c. search needs) (λ c. search needs) returns)

@@ -9,9 +9,6 @@ use Rattle.passes.specs.Pass.{matrixDoneOf, matrixDoneAt}
 use Rattle.passes.proofs.matrix_done.Statement.{statement}
 use Rattle.passes.proofs.matrix_done.Tie as tie
 
-finish-jacobian-requires : tie.Need-finish-jacobian-requires
-finish-jacobian-requires c κs = search needs
-
 iterations-requires : tie.Need-iterations-requires
 iterations-requires c κs =
     let f = c .before .before .before .before .before .before .before .before in
@@ -23,12 +20,6 @@ iterations-requires c κs =
       (inside-factored (p .0) (x .work .now) (x .ipiv .now)) in
     let lent = rw (← f .finish-jacobian .ensures) at (lent-factored (x .s) (x .c) (x .work .now) (x .ipiv .now) l) in
     (inside, (p .1 .1 .0, (p .1 .1 .1 .0, lent)))
-
-same-length : tie.Need-same-length
-same-length c = search needs
-
-same-length-2 : tie.Need-same-length-2
-same-length-2 c = search needs
 
 returns : tie.Need-returns
 unfolding matrixDoneOf matrixDoneAt
@@ -49,12 +40,6 @@ pass-failed-requires c κs =
       (inside-factored (p .0) (x .work .now) (x .ipiv .now)) in
     (inside, omega arith)
 
-same-length-3 : tie.Need-same-length-3
-same-length-3 c = search needs
-
-same-length-4 : tie.Need-same-length-4
-same-length-4 c = search needs
-
 returns-2 : tie.Need-returns-2
 unfolding matrixDoneOf matrixDoneAt
 returns-2 c =
@@ -66,12 +51,5 @@ pub matrix-done-spec : {M : Type 1} → statement M
 matrix-done-spec =
     tie.close
     (tie.spec
-    finish-jacobian-requires
-    iterations-requires
-    same-length
-    same-length-2
-    returns
-    pass-failed-requires
-    same-length-3
-    same-length-4
-    returns-2)
+    (λ c κs. search needs) iterations-requires (λ c. search needs) (λ c. search needs) returns pass-failed-requires
+    (λ c. search needs) (λ c. search needs) returns-2)

@@ -23,18 +23,6 @@ unfolding openedReplyOf
 opened-at s c rtol atol f ipiv work t e =
     ap (λ (u : Bool). openedReplyAt s u c rtol atol ipiv (withDerivative (s .n) f work)) e
 
-mul-store : tie.Need-mul-store
-mul-store c = search needs
-
-store-requires : tie.Need-store-requires
-store-requires c κs = search needs
-
-ask-jacobian-requires : tie.Need-ask-jacobian-requires
-ask-jacobian-requires c κs = search needs
-
-same-length : tie.Need-same-length
-same-length c = search needs
-
 returns : tie.Need-returns
 unfolding openedReplyAt
 returns c =
@@ -48,9 +36,6 @@ iterations-requires c κs =
     let p = c .before .before .before .before .before .before .before .before .before .before .before .before .pre in
     (p .0, (p .1 .1 .0, (p .1 .1 .1 .0, lent-length _ (omega arith) (p .1 .1 .1 .1 .1))))
 
-same-length-2 : tie.Need-same-length-2
-same-length-2 c = search needs
-
 returns-2 : tie.Need-returns-2
 unfolding openedReplyAt
 returns-2 c =
@@ -63,11 +48,5 @@ pub opened-reply-spec : {M : Type 1} → statement M
 opened-reply-spec =
     tie.close
     (tie.spec
-    mul-store
-    store-requires
-    ask-jacobian-requires
-    same-length
-    returns
-    iterations-requires
-    same-length-2
-    returns-2)
+    (λ c. search needs) (λ c κs. search needs) (λ c κs. search needs) (λ c. search needs) returns
+    iterations-requires (λ c. search needs) returns-2)

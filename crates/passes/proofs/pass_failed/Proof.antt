@@ -6,9 +6,6 @@ use Rattle.passes.specs.Pass.{passFailedOf}
 use Rattle.passes.proofs.pass_failed.Statement.{statement}
 use Rattle.passes.proofs.pass_failed.Tie as tie
 
-no-convergence-requires : tie.Need-no-convergence-requires
-no-convergence-requires c κs = search needs
-
 attempted-requires : tie.Need-attempted-requires
 attempted-requires c κs =
     let e = c .before .before .before in
@@ -18,9 +15,6 @@ attempted-requires c κs =
     let q = rw (← e .no-convergence .ensures) at (unconverged (x .s) (x .c) (x .work .now)) in
     (omega (arith, q .kept .nfe, p .counts), omega (arith, q .kept .count, p .counts), omega arith)
 
-same-length : tie.Need-same-length
-same-length c = search needs
-
 returns : tie.Need-returns
 unfolding passFailedOf
 returns c =
@@ -28,5 +22,4 @@ returns c =
       (c .before .before .attempted .ensures)
 
 pub pass-failed-spec : {M : Type 1} → statement M
-pass-failed-spec =
-    tie.close (tie.spec no-convergence-requires attempted-requires same-length returns)
+pass-failed-spec = tie.close (tie.spec (λ c κs. search needs) attempted-requires (λ c. search needs) returns)

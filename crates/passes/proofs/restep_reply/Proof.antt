@@ -9,12 +9,6 @@ use Rattle.passes.specs.Pass.{restepReplyOf}
 use Rattle.passes.proofs.restep_reply.Statement.{statement}
 use Rattle.passes.proofs.restep_reply.Tie as tie
 
-mul-store : tie.Need-mul-store
-mul-store c = search needs
-
-store-requires : tie.Need-store-requires
-store-requires c κs = search needs
-
 restep-requires : tie.Need-restep-requires
 restep-requires c κs =
     (in-range (c .before .before .before .before .before .before .before .before .pre .0), omega arith)
@@ -30,9 +24,6 @@ open-pass-requires c κs =
     let count = ap (λ (m : Moved). m .common .count) e ∙ restepped (x .s) (x .c) _ .kept .count in
     (omega (arith, nfe, p .counts), omega (arith, count, p .counts), omega arith)
 
-same-length : tie.Need-same-length
-same-length c = search needs
-
 returns : tie.Need-returns
 unfolding restepReplyOf
 returns c =
@@ -43,4 +34,5 @@ returns c =
 pub restep-reply-spec : {M : Type 1} → statement M
 restep-reply-spec =
     tie.close
-    (tie.spec mul-store store-requires restep-requires open-pass-requires same-length returns)
+    (tie.spec
+    (λ c. search needs) (λ c κs. search needs) restep-requires open-pass-requires (λ c. search needs) returns)

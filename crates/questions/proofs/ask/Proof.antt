@@ -5,12 +5,9 @@ use Rattle.questions.specs.Turns.{askedOf}
 use Rattle.questions.proofs.ask.Statement.{statement}
 use Rattle.questions.proofs.ask.Tie as tie
 
-add-d : tie.Need-add-d
-add-d c = search needs
-
 returns : tie.Need-returns
 unfolding askedOf
 returns c = refl
 
 pub ask-spec : {M : Type 1} → statement M
-ask-spec = tie.close (tie.spec add-d returns)
+ask-spec = tie.close (tie.spec (λ c. search needs) returns)

@@ -6,9 +6,6 @@ use Rattle.questions.specs.Begin.{beganOf}
 use Rattle.questions.proofs.begin_step.Statement.{statement}
 use Rattle.questions.proofs.begin_step.Tie as tie
 
-first-prediction-requires : tie.Need-first-prediction-requires
-first-prediction-requires c κs = search needs
-
 open-pass-requires : tie.Need-open-pass-requires
 open-pass-requires c κs =
     let r = c .before .before .before in
@@ -17,9 +14,6 @@ open-pass-requires c κs =
     let q = rw (← r .first-prediction .ensures) at (first-counts (x .s) (x .c) (x .work .now)) in
     (omega (arith, q .0, a .pre .0 .counts), omega (arith, q .1), omega arith)
 
-same-length : tie.Need-same-length
-same-length c = search needs
-
 returns : tie.Need-returns
 unfolding beganOf
 returns c =
@@ -27,5 +21,4 @@ returns c =
     (c .before .before .open-pass .ensures)
 
 pub begin-step-spec : {M : Type 1} → statement M
-begin-step-spec =
-    tie.close (tie.spec first-prediction-requires open-pass-requires same-length returns)
+begin-step-spec = tie.close (tie.spec (λ c κs. search needs) open-pass-requires (λ c. search needs) returns)

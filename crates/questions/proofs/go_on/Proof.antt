@@ -6,9 +6,6 @@ use Rattle.questions.specs.Begin.{goOnOf, goOnAt}
 use Rattle.questions.proofs.go_on.Statement.{statement}
 use Rattle.questions.proofs.go_on.Tie as tie
 
-finish-requires : tie.Need-finish-requires
-finish-requires c κs = search needs
-
 returns : tie.Need-returns
 unfolding goOnOf goOnAt
 returns c = rw (c .before .before .before .before .if1 .taken, le-leb _ _ (c .before .if2 .taken), c .finish .ensures)
@@ -16,17 +13,11 @@ returns c = rw (c .before .before .before .before .if1 .taken, le-leb _ _ (c .be
 begin-step-requires : tie.Need-begin-step-requires
 begin-step-requires c κs = c .before .before .before .before .before .before .before .before .before .pre
 
-same-length : tie.Need-same-length
-same-length c = search needs
-
 returns-2 : tie.Need-returns-2
 unfolding goOnOf goOnAt
 returns-2 c =
     rw (c .before .before .before .before .before .before .before .if1 .taken, lt-leb _ _
       (c .before .before .before .before .if2 .left)) (c .before .before .begin-step .ensures)
-
-finish-requires-2 : tie.Need-finish-requires-2
-finish-requires-2 c κs = search needs
 
 returns-3 : tie.Need-returns-3
 unfolding goOnOf goOnAt
@@ -36,10 +27,5 @@ pub go-on-spec : {M : Type 1} → statement M
 go-on-spec =
     tie.close
     (tie.spec
-    finish-requires
-    returns
-    begin-step-requires
-    same-length
-    returns-2
-    finish-requires-2
+    (λ c κs. search needs) returns begin-step-requires (λ c. search needs) returns-2 (λ c κs. search needs)
     returns-3)

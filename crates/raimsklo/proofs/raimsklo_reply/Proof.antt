@@ -10,18 +10,9 @@ use Rattle.raimsklo.specs.Calls.{replyOf, replyAt}
 use Rattle.raimsklo.proofs.raimsklo_reply.Statement.{statement}
 use Rattle.raimsklo.proofs.raimsklo_reply.Tie as tie
 
-plain-requires : tie.Need-plain-requires
-plain-requires c κs = search needs
-
-refused-requires : tie.Need-refused-requires
-refused-requires c κs = search needs
-
 returns : tie.Need-returns
 unfolding replyOf replyAt replyRefusalOf
 returns c = rw (ne-eqb _ _ (c .before .before .if1 .taken), c .refused .ensures, c .before .plain .ensures)
-
-counts-requires : tie.Need-counts-requires
-counts-requires c κs = search needs
 
 decode-requires : tie.Need-decode-requires
 decode-requires c κs = (search needs, c .before .before .counts .ensures)
@@ -32,22 +23,10 @@ refusal-requires c κs =
     let u = d .before .before .before in
     (u .before .before .if1 .left, (u .counts .ensures, d .decode .ensures))
 
-refused-requires-2 : tie.Need-refused-requires-2
-refused-requires-2 c κs = search needs
-
-same-length : tie.Need-same-length
-same-length c = search needs
-
-same-length-2 : tie.Need-same-length-2
-same-length-2 c = search needs
-
 returns-2 : tie.Need-returns-2
 unfolding replyOf replyAt
 returns-2 c =
     rw (← c .before .before .before .refusal .ensures, ne-eqb _ _ (c .before .if2 .taken), c .refused2 .ensures)
-
-kind-requires : tie.Need-kind-requires
-kind-requires c κs = search needs
 
 accept-requires : tie.Need-accept-requires
 accept-requires c κs =
@@ -65,18 +44,6 @@ accept-requires c κs =
       ),
     )
 
-same-length-3 : tie.Need-same-length-3
-same-length-3 c = search needs
-
-same-length-4 : tie.Need-same-length-4
-same-length-4 c = search needs
-
-same-length-5 : tie.Need-same-length-5
-same-length-5 c = search needs
-
-same-length-6 : tie.Need-same-length-6
-same-length-6 c = search needs
-
 returns-3 : tie.Need-returns-3
 unfolding replyOf replyAt
 returns-3 c =
@@ -89,20 +56,6 @@ pub raimsklo-reply-spec : {M : Type 1} → statement M
 raimsklo-reply-spec =
     tie.close
     (tie.spec
-    plain-requires
-    refused-requires
-    returns
-    counts-requires
-    decode-requires
-    refusal-requires
-    refused-requires-2
-    same-length
-    same-length-2
-    returns-2
-    kind-requires
-    accept-requires
-    same-length-3
-    same-length-4
-    same-length-5
-    same-length-6
-    returns-3)
+    (λ c κs. search needs) (λ c κs. search needs) returns (λ c κs. search needs) decode-requires refusal-requires
+    (λ c κs. search needs) (λ c. search needs) (λ c. search needs) returns-2 (λ c κs. search needs) accept-requires
+    (λ c. search needs) (λ c. search needs) (λ c. search needs) (λ c. search needs) returns-3)

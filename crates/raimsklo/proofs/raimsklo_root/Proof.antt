@@ -4,11 +4,8 @@ use borrow.Author.Needs.{needs}
 use Rattle.raimsklo.proofs.raimsklo_root.Statement.{statement}
 use Rattle.raimsklo.proofs.raimsklo_root.Tie as tie
 
-root-requires : tie.Need-root-requires
-root-requires c κs = search needs
-
 returns : tie.Need-returns
 returns c = rw (c .root .ensures)
 
 pub raimsklo-root-spec : {M : Type 1} → statement M
-raimsklo-root-spec = tie.close (tie.spec root-requires returns)
+raimsklo-root-spec = tie.close (tie.spec (λ c κs. search needs) returns)

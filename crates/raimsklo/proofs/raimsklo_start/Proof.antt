@@ -11,18 +11,9 @@ use Rattle.raimsklo.specs.Calls.{startOf, startAt}
 use Rattle.raimsklo.proofs.raimsklo_start.Statement.{statement}
 use Rattle.raimsklo.proofs.raimsklo_start.Tie as tie
 
-nothing-requires : tie.Need-nothing-requires
-nothing-requires c κs = search needs
-
 returns : tie.Need-returns
 unfolding startOf
 returns c = rw (eq-eqb _ _ (c .before .if1 .taken), c .nothing .ensures)
-
-start-refusal-requires : tie.Need-start-refusal-requires
-start-refusal-requires c κs = search needs
-
-refused-requires : tie.Need-refused-requires
-refused-requires c κs = search needs
 
 returns-2 : tie.Need-returns-2
 unfolding startOf startAt
@@ -33,18 +24,6 @@ returns-2 c =
       ne-eqb _ _ (c .before .if2 .taken),
       c .refused .ensures,
     )
-
-settings-requires : tie.Need-settings-requires
-settings-requires c κs = search needs
-
-first-step-requires : tie.Need-first-step-requires
-first-step-requires c κs = search needs
-
-smallest-requires : tie.Need-smallest-requires
-smallest-requires c κs = search needs
-
-inverse-largest-requires : tie.Need-inverse-largest-requires
-inverse-largest-requires c κs = search needs
 
 accept-requires : tie.Need-accept-requires
 unfolding acceptedSettings
@@ -68,18 +47,6 @@ accept-requires c κs =
       ((refl, st .sizes .work), (omega (arith, st .sizes .session), omega (arith, st .sizes .question))),
     )
 
-same-length : tie.Need-same-length
-same-length c = search needs
-
-same-length-2 : tie.Need-same-length-2
-same-length-2 c = search needs
-
-same-length-3 : tie.Need-same-length-3
-same-length-3 c = search needs
-
-same-length-4 : tie.Need-same-length-4
-same-length-4 c = search needs
-
 returns-3 : tie.Need-returns-3
 unfolding startOf startAt
 returns-3 c =
@@ -101,18 +68,6 @@ pub raimsklo-start-spec : {M : Type 1} → statement M
 raimsklo-start-spec =
     tie.close
     (tie.spec
-    nothing-requires
-    returns
-    start-refusal-requires
-    refused-requires
-    returns-2
-    settings-requires
-    first-step-requires
-    smallest-requires
-    inverse-largest-requires
-    accept-requires
-    same-length
-    same-length-2
-    same-length-3
-    same-length-4
-    returns-3)
+    (λ c κs. search needs) returns (λ c κs. search needs) (λ c κs. search needs) returns-2 (λ c κs. search needs)
+    (λ c κs. search needs) (λ c κs. search needs) (λ c κs. search needs) accept-requires (λ c. search needs)
+    (λ c. search needs) (λ c. search needs) (λ c. search needs) returns-3)

@@ -15,9 +15,6 @@ returns c = rw (lt-ltb _ _ (c .if1 .taken))
 mul-result : tie.Need-mul-result
 mul-result c = omega (arith, mul-le-mul-right (c .before .args .n) (c .if1 .left))
 
-mul-result-2 : tie.Need-mul-result-2
-mul-result-2 c = search needs
-
 add-result : tie.Need-add-result
 add-result c = omega (arith, mul-le-mul-right (c .before .args .n) (c .if1 .left))
 
@@ -26,5 +23,4 @@ unfolding workLengthFor
 returns-2 c = rw (le-ltb _ _ (c .if1 .left))
 
 pub raimsklo-work-length-spec : {M : Type 1} → statement M
-raimsklo-work-length-spec =
-    tie.close (tie.spec returns mul-result mul-result-2 add-result returns-2)
+raimsklo-work-length-spec = tie.close (tie.spec returns mul-result (λ c. search needs) add-result returns-2)

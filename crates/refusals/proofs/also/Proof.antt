@@ -10,9 +10,6 @@ returns : tie.Need-returns
 unfolding alsoOf
 returns c = rw (ne-eqb _ _ (c .if1 .taken))
 
-plain-requires : tie.Need-plain-requires
-plain-requires c κs = search needs
-
 returns-2 : tie.Need-returns-2
 unfolding alsoOf
 returns-2 c = rw (eq-eqb _ _ (c .before .before .if1 .left), c .before .if2 .taken) (c .plain .ensures)
@@ -22,4 +19,4 @@ unfolding alsoOf
 returns-3 c = rw (eq-eqb _ _ (c .before .if1 .left), c .if2 .left)
 
 pub also-spec : {M : Type 1} → statement M
-also-spec = tie.close (tie.spec returns plain-requires returns-2 returns-3)
+also-spec = tie.close (tie.spec returns (λ c κs. search needs) returns-2 returns-3)

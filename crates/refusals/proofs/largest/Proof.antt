@@ -6,19 +6,13 @@ use Rattle.refusals.specs.Start.{largestOf}
 use Rattle.refusals.proofs.largest.Statement.{statement}
 use Rattle.refusals.proofs.largest.Tie as tie
 
-abs-requires : tie.Need-abs-requires
-abs-requires c κs = search needs
-
 returns : tie.Need-returns
 unfolding largestOf
 returns c = rw (eq-eqb _ _ (c .before .if1 .taken)) (c .abs .ensures)
-
-abs-requires-2 : tie.Need-abs-requires-2
-abs-requires-2 c κs = search needs
 
 returns-2 : tie.Need-returns-2
 unfolding largestOf
 returns-2 c = rw (ne-eqb _ _ (c .before .if1 .left)) (c .abs2 .ensures)
 
 pub largest-spec : {M : Type 1} → statement M
-largest-spec = tie.close (tie.spec abs-requires returns abs-requires-2 returns-2)
+largest-spec = tie.close (tie.spec (λ c κs. search needs) returns (λ c κs. search needs) returns-2)

@@ -5,12 +5,9 @@ use Rattle.refusals.specs.Start.{acceptedSettings}
 use Rattle.refusals.proofs.settings.Statement.{statement}
 use Rattle.refusals.proofs.settings.Tie as tie
 
-signum-requires : tie.Need-signum-requires
-signum-requires c κs = search needs
-
 returns : tie.Need-returns
 unfolding acceptedSettings
 returns c = rw (c .before .before .signum .ensures)
 
 pub settings-spec : {M : Type 1} → statement M
-settings-spec = tie.close (tie.spec signum-requires returns)
+settings-spec = tie.close (tie.spec (λ c κs. search needs) returns)

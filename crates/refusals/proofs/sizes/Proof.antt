@@ -6,19 +6,13 @@ use Rattle.refusals.specs.Start.{sizeRefusal}
 use Rattle.refusals.proofs.sizes.Statement.{statement}
 use Rattle.refusals.proofs.sizes.Tie as tie
 
-plain-requires : tie.Need-plain-requires
-plain-requires c κs = search needs
-
 returns : tie.Need-returns
 unfolding sizeRefusal
 returns c = rw (lt-ltb _ _ (c .before .if1 .taken)) (c .plain .ensures)
-
-lists-requires : tie.Need-lists-requires
-lists-requires c κs = search needs
 
 returns-2 : tie.Need-returns-2
 unfolding sizeRefusal
 returns-2 c = rw (le-ltb _ _ (c .before .if1 .left)) (c .lists .ensures)
 
 pub sizes-spec : {M : Type 1} → statement M
-sizes-spec = tie.close (tie.spec plain-requires returns lists-requires returns-2)
+sizes-spec = tie.close (tie.spec (λ c κs. search needs) returns (λ c κs. search needs) returns-2)

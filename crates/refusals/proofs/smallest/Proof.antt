@@ -10,12 +10,9 @@ returns : tie.Need-returns
 unfolding smallestOf
 returns c = rw (eq-eqb _ _ (c .if1 .taken))
 
-abs-requires : tie.Need-abs-requires
-abs-requires c κs = search needs
-
 returns-2 : tie.Need-returns-2
 unfolding smallestOf
 returns-2 c = rw (ne-eqb _ _ (c .before .if1 .left)) (c .abs .ensures)
 
 pub smallest-spec : {M : Type 1} → statement M
-smallest-spec = tie.close (tie.spec returns abs-requires returns-2)
+smallest-spec = tie.close (tie.spec returns (λ c κs. search needs) returns-2)

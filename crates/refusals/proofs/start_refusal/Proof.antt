@@ -7,15 +7,9 @@ use Rattle.refusals.specs.Start.{startRefusalOf}
 use Rattle.refusals.proofs.start_refusal.Statement.{statement}
 use Rattle.refusals.proofs.start_refusal.Tie as tie
 
-sizes-requires : tie.Need-sizes-requires
-sizes-requires c κs = search needs
-
 returns : tie.Need-returns
 unfolding startRefusalOf orElse
 returns c = rw (← c .before .before .sizes .ensures, ne-eqb _ _ (c .if1 .taken))
-
-limits-requires : tie.Need-limits-requires
-limits-requires c κs = search needs
 
 returns-2 : tie.Need-returns-2
 unfolding startRefusalOf orElse
@@ -26,9 +20,6 @@ returns-2 c =
       ← c .before .before .limits .ensures,
       ne-eqb _ _ (c .if2 .taken),
     )
-
-tolerances-requires : tie.Need-tolerances-requires
-tolerances-requires c κs = search needs
 
 returns-3 : tie.Need-returns-3
 unfolding startRefusalOf orElse
@@ -41,9 +32,6 @@ returns-3 c =
       ← c .before .before .tolerances .ensures,
       ne-eqb _ _ (c .if3 .taken),
     )
-
-step-requires : tie.Need-step-requires
-step-requires c κs = search needs
 
 returns-4 : tie.Need-returns-4
 unfolding startRefusalOf orElse
@@ -62,11 +50,5 @@ pub start-refusal-spec : {M : Type 1} → statement M
 start-refusal-spec =
     tie.close
     (tie.spec
-    sizes-requires
-    returns
-    limits-requires
-    returns-2
-    tolerances-requires
-    returns-3
-    step-requires
-    returns-4)
+    (λ c κs. search needs) returns (λ c κs. search needs) returns-2 (λ c κs. search needs) returns-3
+    (λ c κs. search needs) returns-4)

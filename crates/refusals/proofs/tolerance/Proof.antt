@@ -10,15 +10,9 @@ returns : tie.Need-returns
 unfolding orElse
 returns c = rw (ne-eqb _ _ (c .if1 .taken))
 
-is-negative-requires : tie.Need-is-negative-requires
-is-negative-requires c κs = search needs
-
 returns-2 : tie.Need-returns-2
 unfolding orElse
 returns-2 c = rw (eq-eqb _ _ (c .before .before .if1 .left), ← c .before .is-negative .ensures, c .if2 .taken)
-
-is-negative-requires-2 : tie.Need-is-negative-requires-2
-is-negative-requires-2 c κs = search needs
 
 returns-3 : tie.Need-returns-3
 unfolding orElse
@@ -45,4 +39,5 @@ returns-4 c =
 pub tolerance-spec : {M : Type 1} → statement M
 tolerance-spec =
     tie.close
-    (tie.spec returns is-negative-requires returns-2 is-negative-requires-2 returns-3 returns-4)
+    (tie.spec
+    returns (λ c κs. search needs) returns-2 (λ c κs. search needs) returns-3 returns-4)

@@ -14,21 +14,9 @@ Inv-loop n rtol atol r₀ i₀ r i = for i n (toleranceAt rtol atol) r ≡ toler
 abbrev μ-loop : tie.MeasureT-loop
 μ-loop n rtol atol r₀ i₀ r i = n - i
 
-none-requires : tie.Need-none-requires Inv-loop μ-loop
-none-requires c κs = search needs
-
 loop-holds : tie.Need-loop-holds Inv-loop μ-loop
 unfolding toleranceRefusal
 loop-holds c = rw (c .none .ensures)
-
-tolerance-requires : tie.Need-tolerance-requires Inv-loop μ-loop
-tolerance-requires c κs = search needs
-
-add-i : tie.Need-add-i Inv-loop μ-loop
-add-i c = omega arith
-
-loop-less : tie.Need-loop-less Inv-loop μ-loop
-loop-less c = omega arith
 
 loop-again : tie.Need-loop-again Inv-loop μ-loop
 loop-again c = rw (c .tolerance .ensures) (again _ _ _ _ _ (omega arith) (c .before .before .loop .inv))
@@ -40,12 +28,5 @@ pub tolerances-spec : {M : Type 1} → statement M
 tolerances-spec =
     tie.close
     (tie.spec
-    Inv-loop
-    μ-loop
-    none-requires
-    loop-holds
-    tolerance-requires
-    add-i
-    loop-less
-    loop-again
-    returns)
+    Inv-loop μ-loop (λ c κs. search needs) loop-holds (λ c κs. search needs) (λ c. omega arith) (λ c. omega arith)
+    loop-again returns)

@@ -21,15 +21,6 @@ loop-holds : tie.Need-loop-holds Inv-loop μ-loop
 unfolding differing
 loop-holds c = (omega arith, refl)
 
-counted-requires : tie.Need-counted-requires Inv-loop μ-loop
-counted-requires c κs = omega arith
-
-add-i : tie.Need-add-i Inv-loop μ-loop
-add-i c = omega arith
-
-loop-less : tie.Need-loop-less Inv-loop μ-loop
-loop-less c = omega arith
-
 loop-again : tie.Need-loop-again Inv-loop μ-loop
 loop-again c = (
   omega arith,
@@ -42,4 +33,5 @@ returns c = ended _ _ _ _ _ (omega arith) (c .before .loop .inv .1)
 pub differ-spec : {M : Type 1} → statement M
 differ-spec =
     tie.close
-    (tie.spec Inv-loop μ-loop loop-holds counted-requires add-i loop-less loop-again returns)
+    (tie.spec
+    Inv-loop μ-loop loop-holds (λ c κs. omega arith) (λ c. omega arith) (λ c. omega arith) loop-again returns)

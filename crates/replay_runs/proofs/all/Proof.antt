@@ -12,37 +12,9 @@ Inv-loop stored f₀ counter₀ end f counter =
 abbrev μ-loop : tie.MeasureT-loop
 μ-loop stored f₀ counter₀ end f counter = end - counter
 
-loop-holds : tie.Need-loop-holds Inv-loop μ-loop
-loop-holds c = omega arith
-
-run-requires : tie.Need-run-requires Inv-loop μ-loop
-run-requires c κs = search needs
-
-add-counter : tie.Need-add-counter Inv-loop μ-loop
-add-counter c = omega arith
-
-loop-less : tie.Need-loop-less Inv-loop μ-loop
-loop-less c = omega arith
-
-loop-again : tie.Need-loop-again Inv-loop μ-loop
-loop-again c = omega arith
-
-returns : tie.Need-returns Inv-loop μ-loop
-returns c = search needs
-
-returns-2 : tie.Need-returns-2 Inv-loop μ-loop
-returns-2 c = search needs
-
 pub all-spec : {M : Type 1} → statement M
 all-spec =
     tie.close
     (tie.spec
-    Inv-loop
-    μ-loop
-    loop-holds
-    run-requires
-    add-counter
-    loop-less
-    loop-again
-    returns
-    returns-2)
+    Inv-loop μ-loop (λ c. omega arith) (λ c κs. search needs) (λ c. omega arith) (λ c. omega arith)
+    (λ c. omega arith) (λ c. search needs) (λ c. search needs))

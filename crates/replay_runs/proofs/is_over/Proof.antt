@@ -6,11 +6,8 @@ use borrow.Author.Needs.{needs}
 use Rattle.replay_runs.proofs.is_over.Statement.{statement}
 use Rattle.replay_runs.proofs.is_over.Tie as tie
 
-returns : tie.Need-returns
-returns c = search needs
-
 returns-2 : tie.Need-returns-2
 returns-2 c = λ e. let z : _≡_ {A = ℕ} 0 1 = cc in omega arith
 
 pub is-over-spec : {M : Type 1} → statement M
-is-over-spec = tie.close (tie.spec returns returns-2)
+is-over-spec = tie.close (tie.spec (λ c. search needs) returns-2)

@@ -8,37 +8,10 @@ use Rattle.reports.specs.Reports.{weightedAt, firstDerivativeOf}
 use Rattle.reports.proofs.first_derivative.Statement.{statement}
 use Rattle.reports.proofs.first_derivative.Tie as tie
 
-take-first-requires : tie.Need-take-first-requires
-take-first-requires c κs = search needs
-
-mul-w : tie.Need-mul-w
-mul-w c = search needs
-
-mul-we : tie.Need-mul-we
-mul-we c = search needs
-
 ewset-requires : tie.Need-ewset-requires
 ewset-requires c κs =
     let p = c .before .before .before .before .before .before .before .before .before .pre in
     (p .1 .0, (p .1 .1 .0, (omega arith, omega arith)))
-
-mul-invert-weights : tie.Need-mul-invert-weights
-mul-invert-weights c = search needs
-
-sub-invert-weights : tie.Need-sub-invert-weights
-sub-invert-weights c = search needs
-
-part-invert-weights-start : tie.Need-part-invert-weights-start
-part-invert-weights-start c = search needs
-
-part-invert-weights-end : tie.Need-part-invert-weights-end
-part-invert-weights-end c = search needs
-
-invert-weights-requires : tie.Need-invert-weights-requires
-invert-weights-requires c κs = search needs
-
-enum-known-k : tie.Need-enum-known-k
-enum-known-k c = search needs
 
 enum-told : tie.Need-enum-told
 enum-told c = search needs
@@ -48,9 +21,6 @@ weighted-requires c κs =
     let p = c .before .before .before .before .before .before .before .before .before .before .before .before .before
       .before .before .before .before .before .before .pre in
     (p .0, (p .1 .0, (p .1 .1 .0, omega arith)))
-
-same-length : tie.Need-same-length
-same-length c = search needs
 
 returns : tie.Need-returns
 unfolding firstDerivativeOf weightedAt
@@ -62,9 +32,6 @@ returns c =
     let weights : 14 * n - 13 * n ≡ n = omega arith in
     let w = rw weights at (i .invert-weights .ensures) in
     rw (weights, ← k .take-first .ensures, ← e .ewset .ensures, ← w .0, ← w .1, c .before .k .given .1)
-
-same-length-2 : tie.Need-same-length-2
-same-length-2 c = search needs
 
 returns-2 : tie.Need-returns-2
 unfolding firstDerivativeOf weightedAt
@@ -83,19 +50,6 @@ pub first-derivative-spec : {M : Type 1} → statement M
 first-derivative-spec =
     tie.close
     (tie.spec
-    take-first-requires
-    mul-w
-    mul-we
-    ewset-requires
-    mul-invert-weights
-    sub-invert-weights
-    part-invert-weights-start
-    part-invert-weights-end
-    invert-weights-requires
-    enum-known-k
-    enum-told
-    weighted-requires
-    same-length
-    returns
-    same-length-2
-    returns-2)
+    (λ c κs. search needs) (λ c. search needs) (λ c. search needs) ewset-requires (λ c. search needs)
+    (λ c. search needs) (λ c. search needs) (λ c. search needs) (λ c κs. search needs) (λ c. search needs) enum-told
+    weighted-requires (λ c. search needs) returns (λ c. search needs) returns-2)

@@ -7,30 +7,12 @@ use Rattle.reports.specs.Reports.{modifiedOf}
 use Rattle.reports.proofs.modified.Statement.{statement}
 use Rattle.reports.proofs.modified.Tie as tie
 
-mul-store : tie.Need-mul-store
-mul-store c = search needs
-
-store-requires : tie.Need-store-requires
-store-requires c κs = search needs
-
-set-slope-requires : tie.Need-set-slope-requires
-set-slope-requires c κs = search needs
-
-state-weights-requires : tie.Need-state-weights-requires
-state-weights-requires c κs = search needs
-
-restart-requires : tie.Need-restart-requires
-restart-requires c κs = search needs
-
 go-on-requires : tie.Need-go-on-requires
 go-on-requires c κs =
     let a = c .before .before .before .before .before .before .before .before .before .before .before .before .before
       .before .before .before in
     (rw (c .before .restart .ensures) (inside-restart (a .pre .0)), omega (arith, a .pre .1 .1,
       c .before .before .before .before .before .before .before .before .before .before .before .work .given))
-
-same-length : tie.Need-same-length
-same-length c = search needs
 
 returns : tie.Need-returns
 unfolding modifiedOf
@@ -45,11 +27,5 @@ pub modified-spec : {M : Type 1} → statement M
 modified-spec =
     tie.close
     (tie.spec
-    mul-store
-    store-requires
-    set-slope-requires
-    state-weights-requires
-    restart-requires
-    go-on-requires
-    same-length
-    returns)
+    (λ c. search needs) (λ c κs. search needs) (λ c κs. search needs) (λ c κs. search needs) (λ c κs. search needs)
+    go-on-requires (λ c. search needs) returns)

@@ -27,60 +27,12 @@ module _ (s : Settings) (c : Common) (rtol atol work : List Float) where
       → sizedOf s c (firstStepOf s c rtol atol work) work ≡ sizedOf s c (cond t (c .h) computed) work
   step-at t e = ap (λ (u : Bool). sizedOf s c (cond u (c .h) computed) work) e
 
-sized-requires : tie.Need-sized-requires
-sized-requires c κs = search needs
-
-same-length : tie.Need-same-length
-same-length c = search needs
-
 returns : tie.Need-returns
 returns c =
     let x = c .before .before .before .before .before .before .before .before .args in
     c .before .before .sized .ensures ∙ sym
       (step-at (x .s) (x .c) (now (x .rtol)) (now (x .atol)) (now (x .work)) true
       (c .before .before .before .before .if1 .taken))
-
-mul-f : tie.Need-mul-f
-mul-f c = search needs
-
-mul-fe : tie.Need-mul-fe
-mul-fe c = search needs
-
-mul-w : tie.Need-mul-w
-mul-w c = search needs
-
-sub-initial-step-size : tie.Need-sub-initial-step-size
-sub-initial-step-size c = search needs
-
-part-initial-step-size-start : tie.Need-part-initial-step-size-start
-part-initial-step-size-start c = search needs
-
-part-initial-step-size-end : tie.Need-part-initial-step-size-end
-part-initial-step-size-end c = search needs
-
-mul-initial-step-size : tie.Need-mul-initial-step-size
-mul-initial-step-size c = search needs
-
-sub-initial-step-size-2 : tie.Need-sub-initial-step-size-2
-sub-initial-step-size-2 c = search needs
-
-part-initial-step-size-start-2 : tie.Need-part-initial-step-size-start-2
-part-initial-step-size-start-2 c = search needs
-
-part-initial-step-size-end-2 : tie.Need-part-initial-step-size-end-2
-part-initial-step-size-end-2 c = search needs
-
-mul-initial-step-size-2 : tie.Need-mul-initial-step-size-2
-mul-initial-step-size-2 c = search needs
-
-sub-initial-step-size-3 : tie.Need-sub-initial-step-size-3
-sub-initial-step-size-3 c = search needs
-
-part-initial-step-size-start-3 : tie.Need-part-initial-step-size-start-3
-part-initial-step-size-start-3 c = search needs
-
-part-initial-step-size-end-3 : tie.Need-part-initial-step-size-end-3
-part-initial-step-size-end-3 c = search needs
 
 initial-step-size-requires : tie.Need-initial-step-size-requires
 initial-step-size-requires c κs =
@@ -94,12 +46,6 @@ initial-step-size-requires c κs =
     let slope : 15 * n - 14 * n ≡ n = omega arith in
     let weights : 14 * n - 13 * n ≡ n = omega arith in
     rw (size, slope, weights, y, f, e) (a .pre .1 .0, (a .pre .1 .1 .0, omega arith))
-
-sized-requires-2 : tie.Need-sized-requires-2
-sized-requires-2 c κs = search needs
-
-same-length-2 : tie.Need-same-length-2
-same-length-2 c = search needs
 
 returns-2 : tie.Need-returns-2
 returns-2 c =
@@ -119,24 +65,7 @@ pub weighted-spec : {M : Type 1} → statement M
 weighted-spec =
     tie.close
     (tie.spec
-    sized-requires
-    same-length
-    returns
-    mul-f
-    mul-fe
-    mul-w
-    sub-initial-step-size
-    part-initial-step-size-start
-    part-initial-step-size-end
-    mul-initial-step-size
-    sub-initial-step-size-2
-    part-initial-step-size-start-2
-    part-initial-step-size-end-2
-    mul-initial-step-size-2
-    sub-initial-step-size-3
-    part-initial-step-size-start-3
-    part-initial-step-size-end-3
-    initial-step-size-requires
-    sized-requires-2
-    same-length-2
-    returns-2)
+    (λ c κs. search needs) (λ c. search needs) returns (λ c. search needs) (λ c. search needs) (λ c. search needs)
+    (λ c. search needs) (λ c. search needs) (λ c. search needs) (λ c. search needs) (λ c. search needs)
+    (λ c. search needs) (λ c. search needs) (λ c. search needs) (λ c. search needs) (λ c. search needs)
+    (λ c. search needs) initial-step-size-requires (λ c κs. search needs) (λ c. search needs) returns-2)

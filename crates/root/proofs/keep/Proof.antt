@@ -6,14 +6,8 @@ use Rattle.root.specs.Root.{keepOf}
 use Rattle.root.proofs.keep.Statement.{statement}
 use Rattle.root.proofs.keep.Tie as tie
 
-add-candidate : tie.Need-add-candidate
-add-candidate c = search needs
-
 float-from-bits-power : tie.Need-float-from-bits-power
 float-from-bits-power c = to-infinity _ (omega arith)
-
-power-requires : tie.Need-power-requires
-power-requires c κs = search needs
 
 returns : tie.Need-returns
 unfolding keepOf
@@ -24,4 +18,4 @@ unfolding keepOf
 returns-2 c = rw (← c .before .power .ensures, c .if1 .left)
 
 pub keep-spec : {M : Type 1} → statement M
-keep-spec = tie.close (tie.spec add-candidate float-from-bits-power power-requires returns returns-2)
+keep-spec = tie.close (tie.spec (λ c. search needs) float-from-bits-power (λ c κs. search needs) returns returns-2)

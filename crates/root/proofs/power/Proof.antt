@@ -17,12 +17,6 @@ loop-holds : tie.Need-loop-holds Inv-loop μ-loop
 unfolding powerOf
 loop-holds c = refl
 
-add-counter : tie.Need-add-counter Inv-loop μ-loop
-add-counter c = omega arith
-
-loop-less : tie.Need-loop-less Inv-loop μ-loop
-loop-less c = omega arith
-
 loop-again : tie.Need-loop-again Inv-loop μ-loop
 loop-again c = again _ _ _ _ _ (omega arith) (c .before .loop .inv)
 
@@ -30,4 +24,7 @@ returns : tie.Need-returns Inv-loop μ-loop
 returns c = ended _ _ _ _ _ (omega arith) (c .before .loop .inv)
 
 pub power-spec : {M : Type 1} → statement M
-power-spec = tie.close (tie.spec Inv-loop μ-loop loop-holds add-counter loop-less loop-again returns)
+power-spec =
+    tie.close
+    (tie.spec
+    Inv-loop μ-loop loop-holds (λ c. omega arith) (λ c. omega arith) loop-again returns)

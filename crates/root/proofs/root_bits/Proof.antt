@@ -24,12 +24,6 @@ loop-holds c = (first, refl)
 keep-requires : tie.Need-keep-requires Inv-loop μ-loop
 keep-requires c κs = candidate _ _ _ (c .before .loop .inv .0)
 
-add-counter : tie.Need-add-counter Inv-loop μ-loop
-add-counter c = omega arith
-
-loop-less : tie.Need-loop-less Inv-loop μ-loop
-loop-less c = omega arith
-
 loop-again : tie.Need-loop-again Inv-loop μ-loop
 loop-again c =
     let l = c .before .before .loop in
@@ -44,4 +38,6 @@ returns c =
 
 pub root-bits-spec : {M : Type 1} → statement M
 root-bits-spec =
-    tie.close (tie.spec Inv-loop μ-loop loop-holds keep-requires add-counter loop-less loop-again returns)
+    tie.close
+    (tie.spec
+    Inv-loop μ-loop loop-holds keep-requires (λ c. omega arith) (λ c. omega arith) loop-again returns)

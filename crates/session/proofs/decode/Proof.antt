@@ -11,15 +11,6 @@ use Rattle.session.specs.Session.{storedFloats, decodeOf}
 use Rattle.session.proofs.decode.Statement.{statement}
 use Rattle.session.proofs.decode.Tie as tie
 
-slice-aggregate-get-floats : tie.Need-slice-aggregate-get-floats
-slice-aggregate-get-floats c = search needs
-
-get-floats-requires : tie.Need-get-floats-requires
-get-floats-requires c κs = search needs
-
-session-requires : tie.Need-session-requires
-session-requires c κs = search needs
-
 returns : tie.Need-returns
 unfolding decodeOf
 returns c =
@@ -31,5 +22,4 @@ returns c =
     ∙ ap (λ (l : List ℕ). sessionOf l (storedFloats b)) (a .pre .1)
 
 pub decode-spec : {M : Type 1} → statement M
-decode-spec =
-    tie.close (tie.spec slice-aggregate-get-floats get-floats-requires session-requires returns)
+decode-spec = tie.close (tie.spec (λ c. search needs) (λ c κs. search needs) (λ c κs. search needs) returns)

@@ -59,9 +59,6 @@ returns-2 c =
       sym (c .before .tolerances .ensures) ∙ not-true _ (c .if2 .taken),
     )
 
-pivots-below-requires : tie.Need-pivots-below-requires
-pivots-below-requires c κs = search needs
-
 returns-3 : tie.Need-returns-3
 returns-3 c =
     let d = c .before .before .before .before .before .before .before .before .before in
@@ -77,9 +74,4 @@ pub in-range-spec : {M : Type 1} → statement M
 in-range-spec =
     tie.close
     (tie.spec
-    fields-requires
-    returns
-    tolerances-requires
-    returns-2
-    pivots-below-requires
-    returns-3)
+    fields-requires returns tolerances-requires returns-2 (λ c κs. search needs) returns-3)

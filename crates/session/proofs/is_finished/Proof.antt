@@ -4,11 +4,8 @@ use borrow.Author.Needs.{needs}
 use Rattle.session.proofs.is_finished.Statement.{statement}
 use Rattle.session.proofs.is_finished.Tie as tie
 
-count-requires : tie.Need-count-requires
-count-requires c κs = search needs
-
 returns : tie.Need-returns
 returns c = rw (c .count .ensures)
 
 pub is-finished-spec : {M : Type 1} → statement M
-is-finished-spec = tie.close (tie.spec count-requires returns)
+is-finished-spec = tie.close (tie.spec (λ c κs. search needs) returns)

@@ -7,12 +7,6 @@ use Rattle.sqrt.specs.Sqrt.{evenOf}
 use Rattle.sqrt.proofs.even.Statement.{statement}
 use Rattle.sqrt.proofs.even.Tie as tie
 
-mul-t4 : tie.Need-mul-t4
-mul-t4 c = search needs
-
-sub-t5 : tie.Need-sub-t5
-sub-t5 c = search needs
-
 returns : tie.Need-returns
 unfolding evenOf
 returns c = rw (eq-eqb (c .before .before .before .before .args .x .exponent % 2) 0 (omega arith))
@@ -22,4 +16,4 @@ unfolding evenOf
 returns-2 c = rw (ne-eqb (c .before .before .args .x .exponent % 2) 0 (λ e. omega arith))
 
 pub even-spec : {M : Type 1} → statement M
-even-spec = tie.close (tie.spec mul-t4 sub-t5 returns returns-2)
+even-spec = tie.close (tie.spec (λ c. search needs) (λ c. search needs) returns returns-2)

@@ -32,15 +32,11 @@ returns c =
     let small : t * 2 ^ shiftOf t < 2 ^ 64 = omega (arith, moved t (omega arith) (omega arith)) in
     rw (low-is b (c .if1 .taken), mod-eq-of-lt small)
 
-add-t11 : tie.Need-add-t11
-add-t11 c = search needs
-
-add-t12 : tie.Need-add-t12
-add-t12 c = search needs
-
 returns-2 : tie.Need-returns-2
 returns-2 c = sym (high-is (c .before .args .bits) (c .if1 .left))
 
 pub normalise-spec : {M : Type 1} → statement M
 normalise-spec =
-    tie.close (tie.spec sub-shift cast-t7 shl-t8 cast-t9 sub-t10 returns add-t11 add-t12 returns-2)
+    tie.close
+    (tie.spec
+    sub-shift cast-t7 shl-t8 cast-t9 sub-t10 returns (λ c. search needs) (λ c. search needs) returns-2)

@@ -20,9 +20,6 @@ module _ (b : ℕ) (p : 0 < b) (h : b < 0x7ff0_0000_0000_0000) {x y : Normal}
   digits : {q : ℕ} → q ≡ digitsOf (y .digits) → Root (y .digits) q
   digits r = rw r (root (y .digits) (omega (arith, odd .high)))
 
-normalise-requires : tie.Need-normalise-requires
-normalise-requires c κs = search needs
-
 even-requires : tie.Need-even-requires
 even-requires c κs =
     let n = normal (c .before .args .bits) (omega arith) (omega arith) in
@@ -39,17 +36,11 @@ add-field c =
     let n = s .before .normalise .ensures in
     omega (arith, odd (s .before .before .args .bits) (omega arith) (omega arith) n (s .even .ensures) .last)
 
-sub-result : tie.Need-sub-result
-sub-result c = search needs
-
 mul-result : tie.Need-mul-result
 mul-result c =
     let s = c .before .before in
     let n = s .before .normalise .ensures in
     omega (arith, odd (s .before .before .args .bits) (omega arith) (omega arith) n (s .even .ensures) .last)
-
-add-result : tie.Need-add-result
-add-result c = search needs
 
 add-result-2 : tie.Need-add-result-2
 add-result-2 c =
@@ -70,12 +61,5 @@ pub root-bits-spec : {M : Type 1} → statement M
 root-bits-spec =
     tie.close
     (tie.spec
-    normalise-requires
-    even-requires
-    root-digits-requires
-    add-field
-    sub-result
-    mul-result
-    add-result
-    add-result-2
-    returns)
+    (λ c κs. search needs) even-requires root-digits-requires add-field (λ c. search needs) mul-result
+    (λ c. search needs) add-result-2 returns)

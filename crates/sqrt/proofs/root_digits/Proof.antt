@@ -27,12 +27,6 @@ digit-requires c κs =
     let p : 2 ^ c .before .loop .counter ≤ 2 ^ 54 = pow-mono h in
     omega (arith, p, k .close, k .short, k .left)
 
-add-counter : tie.Need-add-counter Inv-loop μ-loop
-add-counter c = omega arith
-
-loop-less : tie.Need-loop-less Inv-loop μ-loop
-loop-less c = omega arith
-
 loop-again : tie.Need-loop-again Inv-loop μ-loop
 loop-again c =
     let l = c .before .before .loop in
@@ -49,4 +43,5 @@ returns c =
 pub root-digits-spec : {M : Type 1} → statement M
 root-digits-spec =
     tie.close
-    (tie.spec Inv-loop μ-loop loop-holds digit-requires add-counter loop-less loop-again returns)
+    (tie.spec
+    Inv-loop μ-loop loop-holds digit-requires (λ c. omega arith) (λ c. omega arith) loop-again returns)

@@ -12,9 +12,6 @@ use Rattle.sqrt.proofs.sqrt.Tie as tie
 returns : tie.Need-returns
 returns c = root-of-zero (c .before .args .x) (c .if1 .taken)
 
-to-bits-requires : tie.Need-to-bits-requires
-to-bits-requires c κs = search needs
-
 returns-2 : tie.Need-returns-2
 returns-2 c =
     let s = c .before .before .before .before in
@@ -27,9 +24,6 @@ root-bits-requires c κs =
     let f : T (fits binary64 (s .args .x)) = rw (s .good .0 .1) tt in
     let b = c .before .to-bits .ensures in
     rw b (finite-bits (s .args .x) f (above (s .args .x) (c .before .before .if2 .taken)) (rw b at (c .if3 .left)))
-
-from-bits-requires : tie.Need-from-bits-requires
-from-bits-requires c κs = search needs
 
 returns-3 : tie.Need-returns-3
 returns-3 c =
@@ -45,4 +39,5 @@ returns-4 c = zero-over-zero ∙ root-of-other (c .before .before .args .x) (c .
 pub sqrt-spec : {M : Type 1} → statement M
 sqrt-spec =
     tie.close
-    (tie.spec returns to-bits-requires returns-2 root-bits-requires from-bits-requires returns-3 returns-4)
+    (tie.spec
+    returns (λ c κs. search needs) returns-2 root-bits-requires (λ c κs. search needs) returns-3 returns-4)

@@ -27,34 +27,10 @@ tolerance-requires c κs =
     let s = c .before .before .before .before .before in
     serves (now (s .args .rtol)) _ _ (omega arith) (s .pre .0)
 
-mul-abs : tie.Need-mul-abs Inv-loop μ-loop
-mul-abs c = omega arith
-
-slice-read-abs : tie.Need-slice-read-abs Inv-loop μ-loop
-slice-read-abs c = omega arith
-
-abs-requires : tie.Need-abs-requires Inv-loop μ-loop
-abs-requires c κs = search needs
-
 tolerance-requires-2 : tie.Need-tolerance-requires-2 Inv-loop μ-loop
 tolerance-requires-2 c κs =
     let s = c .before .before .before .before .before .before .before .before in
     serves (now (s .args .atol)) _ _ (omega arith) (s .pre .1 .0)
-
-add-work : tie.Need-add-work Inv-loop μ-loop
-add-work c = omega arith
-
-mul-work : tie.Need-mul-work Inv-loop μ-loop
-mul-work c = omega arith
-
-slice-write-work : tie.Need-slice-write-work Inv-loop μ-loop
-slice-write-work c = omega arith
-
-add-i : tie.Need-add-i Inv-loop μ-loop
-add-i c = omega arith
-
-loop-less : tie.Need-loop-less Inv-loop μ-loop
-loop-less c = omega arith
 
 loop-again : tie.Need-loop-again Inv-loop μ-loop
 loop-again c =
@@ -64,9 +40,6 @@ loop-again c =
           (again _ _ _ _ _ (omega arith) (l .loop .inv .1)),
     )
 
-same-length : tie.Need-same-length Inv-loop μ-loop
-same-length c = omega arith
-
 returns : tie.Need-returns Inv-loop μ-loop
 returns c = ended _ _ _ _ _ (omega arith) (c .before .loop .inv .1)
 
@@ -74,19 +47,6 @@ pub ewset-spec : {M : Type 1} → statement M
 ewset-spec =
     tie.close
     (tie.spec
-    Inv-loop
-    μ-loop
-    loop-holds
-    tolerance-requires
-    mul-abs
-    slice-read-abs
-    abs-requires
-    tolerance-requires-2
-    add-work
-    mul-work
-    slice-write-work
-    add-i
-    loop-less
-    loop-again
-    same-length
-    returns)
+    Inv-loop μ-loop loop-holds tolerance-requires (λ c. omega arith) (λ c. omega arith) (λ c κs. search needs)
+    tolerance-requires-2 (λ c. omega arith) (λ c. omega arith) (λ c. omega arith) (λ c. omega arith)
+    (λ c. omega arith) loop-again (λ c. omega arith) returns)

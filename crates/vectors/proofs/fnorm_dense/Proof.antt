@@ -29,18 +29,6 @@ loop-holds : tie.Need-loop-holds Inv-loop μ-loop Inv-loop2 μ-loop2
 unfolding fnormOf
 loop-holds c = (refl, omega arith, zero-number, refl)
 
-mul-four-rows : tie.Need-mul-four-rows Inv-loop μ-loop Inv-loop2 μ-loop2
-mul-four-rows c = omega arith
-
-four-rows-requires : tie.Need-four-rows-requires Inv-loop μ-loop Inv-loop2 μ-loop2
-four-rows-requires c κs = search needs
-
-add-k : tie.Need-add-k Inv-loop μ-loop Inv-loop2 μ-loop2
-add-k c = omega arith
-
-loop-less : tie.Need-loop-less Inv-loop μ-loop Inv-loop2 μ-loop2
-loop-less c = omega arith
-
 loop-again : tie.Need-loop-again Inv-loop μ-loop Inv-loop2 μ-loop2
 loop-again c =
     let s = c .before .before .before .before .before in
@@ -54,32 +42,11 @@ loop-again c =
       rw (next, c .four-rows .ensures) (again-four _ (4 * l .k) (s .args .n) _ _ (omega arith) (l .inv .3)),
     )
 
-mul-i : tie.Need-mul-i Inv-loop μ-loop Inv-loop2 μ-loop2
-mul-i c = omega arith
-
 loop2-holds : tie.Need-loop2-holds Inv-loop μ-loop Inv-loop2 μ-loop2
 loop2-holds c =
     let l = c .before .loop in
     let whole : 4 * l .k ≡ c .before .before .before .before .args .n / 4 * 4 = omega arith in
     (l .inv .2, rw (← whole) (l .inv .3))
-
-row-sum-requires : tie.Need-row-sum-requires Inv-loop μ-loop Inv-loop2 μ-loop2
-row-sum-requires c κs = search needs
-
-mul-larger : tie.Need-mul-larger Inv-loop μ-loop Inv-loop2 μ-loop2
-mul-larger c = omega arith
-
-shared-slice-read-larger : tie.Need-shared-slice-read-larger Inv-loop μ-loop Inv-loop2 μ-loop2
-shared-slice-read-larger c = omega arith
-
-larger-requires : tie.Need-larger-requires Inv-loop μ-loop Inv-loop2 μ-loop2
-larger-requires c κs = search needs
-
-add-i : tie.Need-add-i Inv-loop μ-loop Inv-loop2 μ-loop2
-add-i c = omega arith
-
-loop2-less : tie.Need-loop2-less Inv-loop μ-loop Inv-loop2 μ-loop2
-loop2-less c = omega arith
 
 loop2-again : tie.Need-loop2-again Inv-loop μ-loop Inv-loop2 μ-loop2
 loop2-again c =
@@ -98,23 +65,6 @@ pub fnorm-dense-spec : {M : Type 1} → statement M
 fnorm-dense-spec =
     tie.close
     (tie.spec
-    Inv-loop
-    μ-loop
-    Inv-loop2
-    μ-loop2
-    loop-holds
-    mul-four-rows
-    four-rows-requires
-    add-k
-    loop-less
-    loop-again
-    mul-i
-    loop2-holds
-    row-sum-requires
-    mul-larger
-    shared-slice-read-larger
-    larger-requires
-    add-i
-    loop2-less
-    loop2-again
-    returns)
+    Inv-loop μ-loop Inv-loop2 μ-loop2 loop-holds (λ c. omega arith) (λ c κs. search needs) (λ c. omega arith)
+    (λ c. omega arith) loop-again (λ c. omega arith) loop2-holds (λ c κs. search needs) (λ c. omega arith)
+    (λ c. omega arith) (λ c κs. search needs) (λ c. omega arith) (λ c. omega arith) loop2-again returns)

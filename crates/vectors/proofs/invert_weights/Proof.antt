@@ -42,15 +42,6 @@ loop-holds : tie.Need-loop-holds Inv-loop μ-loop
 unfolding invertOf
 loop-holds c = (refl, refl, refl)
 
-mul-if1 : tie.Need-mul-if1 Inv-loop μ-loop
-mul-if1 c = omega arith
-
-slice-read-if1 : tie.Need-slice-read-if1 Inv-loop μ-loop
-slice-read-if1 c = omega arith
-
-same-length : tie.Need-same-length Inv-loop μ-loop
-same-length c = omega arith
-
 returns : tie.Need-returns Inv-loop μ-loop
 returns c =
     let l = c .before .before .before in
@@ -61,32 +52,11 @@ returns c =
     in
     parts whole
 
-mul-ewt : tie.Need-mul-ewt Inv-loop μ-loop
-mul-ewt c = omega arith
-
-slice-read-ewt : tie.Need-slice-read-ewt Inv-loop μ-loop
-slice-read-ewt c = omega arith
-
-mul-ewt-2 : tie.Need-mul-ewt-2 Inv-loop μ-loop
-mul-ewt-2 c = omega arith
-
-slice-write-ewt : tie.Need-slice-write-ewt Inv-loop μ-loop
-slice-write-ewt c = omega arith
-
-add-i : tie.Need-add-i Inv-loop μ-loop
-add-i c = omega arith
-
-loop-less : tie.Need-loop-less Inv-loop μ-loop
-loop-less c = omega arith
-
 loop-again : tie.Need-loop-again Inv-loop μ-loop
 loop-again c =
     let l = c .before .before .before .before in
     let one = inverts (l .loop .i) (l .loop .ewt) (c .before .if1 .left) in
     (l .loop .inv .0, simp length-set (l .loop .inv .1), onward _ _ _ _ _ _ (omega arith) one (l .loop .inv .2))
-
-same-length-2 : tie.Need-same-length-2 Inv-loop μ-loop
-same-length-2 c = omega arith
 
 returns-2 : tie.Need-returns-2 Inv-loop μ-loop
 returns-2 c = parts (ended _ _ _ _ _ (omega arith) (c .before .loop .inv .2))
@@ -95,19 +65,6 @@ pub invert-weights-spec : {M : Type 1} → statement M
 invert-weights-spec =
     tie.close
     (tie.spec
-    Inv-loop
-    μ-loop
-    loop-holds
-    mul-if1
-    slice-read-if1
-    same-length
-    returns
-    mul-ewt
-    slice-read-ewt
-    mul-ewt-2
-    slice-write-ewt
-    add-i
-    loop-less
-    loop-again
-    same-length-2
-    returns-2)
+    Inv-loop μ-loop loop-holds (λ c. omega arith) (λ c. omega arith) (λ c. omega arith) returns (λ c. omega arith)
+    (λ c. omega arith) (λ c. omega arith) (λ c. omega arith) (λ c. omega arith) (λ c. omega arith) loop-again
+    (λ c. omega arith) returns-2)

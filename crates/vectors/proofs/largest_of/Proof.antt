@@ -4,12 +4,6 @@ use Rattle.vectors.proofs.Largest.{max-larger}
 use Rattle.vectors.proofs.largest_of.Statement.{statement}
 use Rattle.vectors.proofs.largest_of.Tie as tie
 
-larger-requires : tie.Need-larger-requires
-larger-requires c κs = search needs
-
-larger-requires-2 : tie.Need-larger-requires-2
-larger-requires-2 c κs = search needs
-
 larger-requires-3 : tie.Need-larger-requires-3
 larger-requires-3 c κs = rw (c .before .larger .ensures) (max-larger _ _ .number (c .before .before .pre .0))
 
@@ -17,4 +11,4 @@ returns : tie.Need-returns
 returns c = rw (c .larger3 .ensures, c .before .larger2 .ensures, c .before .before .larger .ensures)
 
 pub largest-of-spec : {M : Type 1} → statement M
-largest-of-spec = tie.close (tie.spec larger-requires larger-requires-2 larger-requires-3 returns)
+largest-of-spec = tie.close (tie.spec (λ c κs. search needs) (λ c κs. search needs) larger-requires-3 returns)

@@ -27,12 +27,6 @@ relative-requires c κs =
     let s = c .before .before .before .before in
     (serves (now (s .args .atol)) _ _ (omega arith) (s .pre), omega arith)
 
-add-i : tie.Need-add-i Inv-loop μ-loop
-add-i c = omega arith
-
-loop-less : tie.Need-loop-less Inv-loop μ-loop
-loop-less c = omega arith
-
 loop-again : tie.Need-loop-again Inv-loop μ-loop
 loop-again c =
     let l = c .before .before in
@@ -44,4 +38,5 @@ returns c = ended _ _ _ _ _ (omega arith) (c .before .loop .inv .1)
 pub largest-relative-spec : {M : Type 1} → statement M
 largest-relative-spec =
     tie.close
-    (tie.spec Inv-loop μ-loop loop-holds relative-requires add-i loop-less loop-again returns)
+    (tie.spec
+    Inv-loop μ-loop loop-holds relative-requires (λ c. omega arith) (λ c. omega arith) loop-again returns)

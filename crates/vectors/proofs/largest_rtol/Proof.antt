@@ -25,15 +25,6 @@ tolerance-requires c κs =
     let s = c .before .before .before in
     serves (now (s .args .rtol)) _ _ (omega arith) (s .pre)
 
-max-requires : tie.Need-max-requires Inv-loop μ-loop
-max-requires c κs = search needs
-
-add-i : tie.Need-add-i Inv-loop μ-loop
-add-i c = omega arith
-
-loop-less : tie.Need-loop-less Inv-loop μ-loop
-loop-less c = omega arith
-
 loop-again : tie.Need-loop-again Inv-loop μ-loop
 loop-again c =
     let l = c .before .before .before in
@@ -46,12 +37,5 @@ pub largest-rtol-spec : {M : Type 1} → statement M
 largest-rtol-spec =
     tie.close
     (tie.spec
-    Inv-loop
-    μ-loop
-    loop-holds
-    tolerance-requires
-    max-requires
-    add-i
-    loop-less
-    loop-again
-    returns)
+    Inv-loop μ-loop loop-holds tolerance-requires (λ c κs. search needs) (λ c. omega arith) (λ c. omega arith)
+    loop-again returns)

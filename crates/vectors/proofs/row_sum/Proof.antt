@@ -23,12 +23,6 @@ add-entry-requires c κs =
     let s = l .before .before .before in
     (s .pre .0, omega (arith, within (s .args .n) (s .args .n) (l .loop .j) (c .loop-test .taken)), omega arith)
 
-add-j : tie.Need-add-j Inv-loop μ-loop
-add-j c = omega arith
-
-loop-less : tie.Need-loop-less Inv-loop μ-loop
-loop-less c = omega arith
-
 loop-again : tie.Need-loop-again Inv-loop μ-loop
 loop-again c = rw (c .add-entry .ensures) (again _ _ _ _ _ (omega arith) (c .before .before .loop .inv))
 
@@ -38,4 +32,5 @@ returns c = ended _ _ _ _ _ (omega arith) (c .before .loop .inv)
 pub row-sum-spec : {M : Type 1} → statement M
 row-sum-spec =
     tie.close
-    (tie.spec Inv-loop μ-loop loop-holds add-entry-requires add-j loop-less loop-again returns)
+    (tie.spec
+    Inv-loop μ-loop loop-holds add-entry-requires (λ c. omega arith) (λ c. omega arith) loop-again returns)

@@ -28,12 +28,6 @@ add-entries-requires c κs =
     let s = l .before .before .before in
     (s .pre .0, omega (arith, within (s .args .n) (s .args .n) (l .loop .j) (c .loop-test .taken)), omega arith)
 
-add-j : tie.Need-add-j Inv-loop μ-loop
-add-j c = omega arith
-
-loop-less : tie.Need-loop-less Inv-loop μ-loop
-loop-less c = omega arith
-
 loop-again : tie.Need-loop-again Inv-loop μ-loop
 loop-again c =
     let l = c .before .before .loop .inv in
@@ -53,4 +47,5 @@ returns c =
 pub row-sums-spec : {M : Type 1} → statement M
 row-sums-spec =
     tie.close
-    (tie.spec Inv-loop μ-loop loop-holds add-entries-requires add-j loop-less loop-again returns)
+    (tie.spec
+    Inv-loop μ-loop loop-holds add-entries-requires (λ c. omega arith) (λ c. omega arith) loop-again returns)

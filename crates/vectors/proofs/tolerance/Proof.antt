@@ -7,9 +7,6 @@ use Rattle.vectors.specs.Tolerance.{toleranceOf}
 use Rattle.vectors.proofs.tolerance.Statement.{statement}
 use Rattle.vectors.proofs.tolerance.Tie as tie
 
-shared-slice-read-result : tie.Need-shared-slice-read-result
-shared-slice-read-result c = omega arith
-
 returns : tie.Need-returns
 unfolding toleranceOf
 returns c = rw (eq-eqb _ _ (c .before .if1 .taken))
@@ -26,6 +23,4 @@ unfolding toleranceOf
 returns-2 c = rw (ne-eqb _ _ (c .before .if1 .left))
 
 pub tolerance-spec : {M : Type 1} → statement M
-tolerance-spec =
-    tie.close
-    (tie.spec shared-slice-read-result returns mul-result shared-slice-read-result-2 returns-2)
+tolerance-spec = tie.close (tie.spec (λ c. omega arith) returns mul-result shared-slice-read-result-2 returns-2)

@@ -5,23 +5,11 @@ use Rattle.vectors.specs.FirstStep.{toleranceUsedOf}
 use Rattle.vectors.proofs.tolerance_used.Statement.{statement}
 use Rattle.vectors.proofs.tolerance_used.Tie as tie
 
-largest-rtol-requires : tie.Need-largest-rtol-requires
-largest-rtol-requires c κs = search needs
-
-largest-relative-requires : tie.Need-largest-relative-requires
-largest-relative-requires c κs = search needs
-
-clamp-requires : tie.Need-clamp-requires
-clamp-requires c κs = search needs
-
 returns : tie.Need-returns
 unfolding toleranceUsedOf
 returns c =
     let l = c .before .before in
     rw (c .clamp .ensures, c .before .largest-relative .ensures, ← (l .before .largest-rtol .ensures), l .if1 .taken)
-
-clamp-requires-2 : tie.Need-clamp-requires-2
-clamp-requires-2 c κs = search needs
 
 returns-2 : tie.Need-returns-2
 unfolding toleranceUsedOf
@@ -32,9 +20,4 @@ pub tolerance-used-spec : {M : Type 1} → statement M
 tolerance-used-spec =
     tie.close
     (tie.spec
-    largest-rtol-requires
-    largest-relative-requires
-    clamp-requires
-    returns
-    clamp-requires-2
-    returns-2)
+    (λ c κs. search needs) (λ c κs. search needs) (λ c κs. search needs) returns (λ c κs. search needs) returns-2)

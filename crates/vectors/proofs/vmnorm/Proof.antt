@@ -34,9 +34,6 @@ loop-holds : tie.Need-loop-holds Inv-loop μ-loop Inv-loop2 μ-loop2
 unfolding vmnormOf
 loop-holds c = (refl, refl, omega arith, all-clean, rw top-zero)
 
-mul-next-four : tie.Need-mul-next-four Inv-loop μ-loop Inv-loop2 μ-loop2
-mul-next-four c = omega arith
-
 next-four-requires : tie.Need-next-four-requires Inv-loop μ-loop Inv-loop2 μ-loop2
 next-four-requires c κs =
     let p = c .before .loop .inv .3 in
@@ -44,12 +41,6 @@ next-four-requires c κs =
       (omega arith, omega arith),
       ((clean-number _ (p .a), clean-number _ (p .b)), (clean-number _ (p .c), clean-number _ (p .d))),
     )
-
-add-k : tie.Need-add-k Inv-loop μ-loop Inv-loop2 μ-loop2
-add-k c = omega arith
-
-loop-less : tie.Need-loop-less Inv-loop μ-loop Inv-loop2 μ-loop2
-loop-less c = omega arith
 
 loop-again : tie.Need-loop-again Inv-loop μ-loop Inv-loop2 μ-loop2
 loop-again c =
@@ -71,9 +62,6 @@ largest-of-requires c κs =
     let p = c .before .loop .inv .3 in
     (clean-number _ (p .a), clean-number _ (p .c))
 
-mul-i : tie.Need-mul-i Inv-loop μ-loop Inv-loop2 μ-loop2
-mul-i c = omega arith
-
 loop2-holds : tie.Need-loop2-holds Inv-loop μ-loop Inv-loop2 μ-loop2
 loop2-holds c =
     let l = c .before .before .loop in
@@ -85,17 +73,8 @@ loop2-holds c =
       rw (c .largest-of .ensures, ← whole) (l .inv .4),
     )
 
-entry-requires : tie.Need-entry-requires Inv-loop μ-loop Inv-loop2 μ-loop2
-entry-requires c κs = search needs
-
 larger-requires : tie.Need-larger-requires Inv-loop μ-loop Inv-loop2 μ-loop2
 larger-requires c κs = c .before .before .loop2 .inv .1
-
-add-i : tie.Need-add-i Inv-loop μ-loop Inv-loop2 μ-loop2
-add-i c = omega arith
-
-loop2-less : tie.Need-loop2-less Inv-loop μ-loop Inv-loop2 μ-loop2
-loop2-less c = omega arith
 
 loop2-again : tie.Need-loop2-again Inv-loop μ-loop Inv-loop2 μ-loop2
 loop2-again c =
@@ -114,22 +93,6 @@ pub vmnorm-spec : {M : Type 1} → statement M
 vmnorm-spec =
     tie.close
     (tie.spec
-    Inv-loop
-    μ-loop
-    Inv-loop2
-    μ-loop2
-    loop-holds
-    mul-next-four
-    next-four-requires
-    add-k
-    loop-less
-    loop-again
-    largest-of-requires
-    mul-i
-    loop2-holds
-    entry-requires
-    larger-requires
-    add-i
-    loop2-less
-    loop2-again
-    returns)
+    Inv-loop μ-loop Inv-loop2 μ-loop2 loop-holds (λ c. omega arith) next-four-requires (λ c. omega arith)
+    (λ c. omega arith) loop-again largest-of-requires (λ c. omega arith) loop2-holds (λ c κs. search needs)
+    larger-requires (λ c. omega arith) (λ c. omega arith) loop2-again returns)

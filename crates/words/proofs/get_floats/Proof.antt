@@ -20,31 +20,10 @@ loop-holds : tie.Need-loop-holds Inv-loop μ-loop
 unfolding floatsOver
 loop-holds c = (refl, refl)
 
-add-float : tie.Need-add-float Inv-loop μ-loop
-add-float c = omega arith
-
-float-requires : tie.Need-float-requires Inv-loop μ-loop
-float-requires c κs = omega arith
-
-mul-list : tie.Need-mul-list Inv-loop μ-loop
-mul-list c = omega arith
-
-slice-write-list : tie.Need-slice-write-list Inv-loop μ-loop
-slice-write-list c = omega arith
-
-add-i : tie.Need-add-i Inv-loop μ-loop
-add-i c = omega arith
-
-loop-less : tie.Need-loop-less Inv-loop μ-loop
-loop-less c = omega arith
-
 loop-again : tie.Need-loop-again Inv-loop μ-loop
 loop-again c =
     let l = c .before .before .loop in
     (simp length-set (l .inv .0), onward _ _ _ _ _ _ (omega arith) (rw (c .float .ensures)) (l .inv .1))
-
-same-length : tie.Need-same-length Inv-loop μ-loop
-same-length c = omega arith
 
 returns : tie.Need-returns Inv-loop μ-loop
 returns c = ended _ _ _ _ _ (omega arith) (c .before .loop .inv .1)
@@ -53,15 +32,5 @@ pub get-floats-spec : {M : Type 1} → statement M
 get-floats-spec =
     tie.close
     (tie.spec
-    Inv-loop
-    μ-loop
-    loop-holds
-    add-float
-    float-requires
-    mul-list
-    slice-write-list
-    add-i
-    loop-less
-    loop-again
-    same-length
-    returns)
+    Inv-loop μ-loop loop-holds (λ c. omega arith) (λ c κs. omega arith) (λ c. omega arith) (λ c. omega arith)
+    (λ c. omega arith) (λ c. omega arith) loop-again (λ c. omega arith) returns)

@@ -11,15 +11,6 @@ use Rattle.words.proofs.Rows.{same-default, zero-bits}
 use Rattle.words.proofs.slot.Statement.{statement}
 use Rattle.words.proofs.slot.Tie as tie
 
-mul-to-bits : tie.Need-mul-to-bits
-mul-to-bits c = search needs
-
-shared-slice-read-to-bits : tie.Need-shared-slice-read-to-bits
-shared-slice-read-to-bits c = search needs
-
-to-bits-requires : tie.Need-to-bits-requires
-to-bits-requires c κs = search needs
-
 returns : tie.Need-returns
 returns c =
     let a = c .before .before .before .before .args in
@@ -31,5 +22,4 @@ returns-2 c =
     sym (ap (toBits binary64) (List·getD-eq-default (a .list .now) zeroF (c .if1 .left)) ∙ zero-bits)
 
 pub slot-spec : {M : Type 1} → statement M
-slot-spec =
-    tie.close (tie.spec mul-to-bits shared-slice-read-to-bits to-bits-requires returns returns-2)
+slot-spec = tie.close (tie.spec (λ c. search needs) (λ c. search needs) (λ c κs. search needs) returns returns-2)

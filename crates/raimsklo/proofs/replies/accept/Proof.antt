@@ -40,29 +40,17 @@ few : (b p : List ℕ) (x : Session) → inRangeOf b p ≡ true → x ≡ decode
     → (x .settings .nrtol ≤ maxStates) × (x .settings .natol ≤ maxStates)
 few b p x q e = rw e (lists-fit b p q)
 
-slice-aggregate-rtol : tie.Need-slice-aggregate-rtol
-slice-aggregate-rtol c = search needs
-
 rtol-requires : tie.Need-rtol-requires
 rtol-requires c κs =
     let a = c .before .before .before .before .before .before .before in
     let l = few (a .args .bytes .now) (a .args .pivots .now) (a .args .x) (a .pre .1 .0 .0) (a .pre .1 .0 .1) in
     (search needs, l .0, l .0)
 
-slice-aggregate-atol : tie.Need-slice-aggregate-atol
-slice-aggregate-atol c = search needs
-
 atol-requires : tie.Need-atol-requires
 atol-requires c κs =
     let a = c .before .before .before .before .before .before .before .before .before .before .before in
     let l = few (a .args .bytes .now) (a .args .pivots .now) (a .args .x) (a .pre .1 .0 .0) (a .pre .1 .0 .1) in
     (search needs, l .1, l .1)
-
-sub-resume : tie.Need-sub-resume
-sub-resume c = search needs
-
-part-resume-start : tie.Need-part-resume-start
-part-resume-start c = search needs
 
 part-resume-end : tie.Need-part-resume-end
 part-resume-end c =
@@ -73,12 +61,6 @@ part-resume-end c =
     let l = few b (x .pivots .now) (x .x) (a .pre .1 .0 .0) (a .pre .1 .0 .1) in
     let e = r .rtol2 .ensures in
     omega (arith, ap length e ∙ length-over b rtolAt (x .x .settings .nrtol) empty (l .0))
-
-sub-resume-2 : tie.Need-sub-resume-2
-sub-resume-2 c = search needs
-
-part-resume-start-2 : tie.Need-part-resume-start-2
-part-resume-start-2 c = search needs
 
 part-resume-end-2 : tie.Need-part-resume-end-2
 part-resume-end-2 c =
@@ -144,18 +126,6 @@ write-turn-requires c κs =
       ((omega (arith, long, room), omega (arith, z .asked)), omega (arith, a .pre .0)),
     )
 
-same-length : tie.Need-same-length
-same-length c = search needs
-
-same-length-2 : tie.Need-same-length-2
-same-length-2 c = search needs
-
-same-length-3 : tie.Need-same-length-3
-same-length-3 c = search needs
-
-same-length-4 : tie.Need-same-length-4
-same-length-4 c = search needs
-
 returns : tie.Need-returns
 unfolding acceptedReplyOf
 returns c =
@@ -187,20 +157,6 @@ pub accept-spec : {M : Type 1} → statement M
 accept-spec =
     tie.close
     (tie.spec
-    slice-aggregate-rtol
-    rtol-requires
-    slice-aggregate-atol
-    atol-requires
-    sub-resume
-    part-resume-start
-    part-resume-end
-    sub-resume-2
-    part-resume-start-2
-    part-resume-end-2
-    resume-requires
-    write-turn-requires
-    same-length
-    same-length-2
-    same-length-3
-    same-length-4
-    returns)
+    (λ c. search needs) rtol-requires (λ c. search needs) atol-requires (λ c. search needs) (λ c. search needs)
+    part-resume-end (λ c. search needs) (λ c. search needs) part-resume-end-2 resume-requires write-turn-requires
+    (λ c. search needs) (λ c. search needs) (λ c. search needs) (λ c. search needs) returns)

@@ -24,14 +24,8 @@ others (Question.StepRefused v) h = refl
 others (Question.WeightRefused i) h = refl
 others Question.Unasked h = absurd (miss (0 ∷ 1 ∷ 2 ∷ 3 ∷ 4 ∷ 5 ∷ 6 ∷ []) 7 tt h)
 
-enum-told : tie.Need-enum-told
-enum-told c = search needs
-
-returns : tie.Need-returns
-returns c = search needs
-
 returns-2 : tie.Need-returns-2
 returns-2 c = others (c .before .args .q) (c .match .keys2)
 
 pub is-unasked-spec : {M : Type 1} → statement M
-is-unasked-spec = tie.close (tie.spec enum-told returns returns-2)
+is-unasked-spec = tie.close (tie.spec (λ c. search needs) (λ c. search needs) returns-2)

@@ -6,12 +6,6 @@ use Rattle.raimsklo.specs.Replies.{replyRefusalOf}
 use Rattle.raimsklo.proofs.replies.refusal.Statement.{statement}
 use Rattle.raimsklo.proofs.replies.refusal.Tie as tie
 
-stored-n-requires : tie.Need-stored-n-requires
-stored-n-requires c κs = search needs
-
-plain-requires : tie.Need-plain-requires
-plain-requires c κs = search needs
-
 returns : tie.Need-returns
 unfolding replyRefusalOf orElse
 returns c =
@@ -21,9 +15,6 @@ returns c =
       eq-eqb _ _ (c .before .if1 .taken),
     )
     (c .plain .ensures)
-
-plain-requires-2 : tie.Need-plain-requires-2
-plain-requires-2 c κs = search needs
 
 returns-2 : tie.Need-returns-2
 unfolding replyRefusalOf orElse
@@ -35,9 +26,6 @@ returns-2 c =
       lt-ltb _ _ (c .before .if2 .taken),
     )
     (c .plain2 .ensures)
-
-lengths-requires : tie.Need-lengths-requires
-lengths-requires c κs = search needs
 
 returns-3 : tie.Need-returns-3
 unfolding replyRefusalOf orElse
@@ -51,9 +39,6 @@ returns-3 c =
       ← c .before .before .lengths .ensures,
       ne-eqb _ _ (c .if3 .taken),
     )
-
-is-kind-requires : tie.Need-is-kind-requires
-is-kind-requires c κs = search needs
 
 stored-requires : tie.Need-stored-requires
 stored-requires c κs =
@@ -79,13 +64,5 @@ pub refusal-spec : {M : Type 1} → statement M
 refusal-spec =
     tie.close
     (tie.spec
-    stored-n-requires
-    plain-requires
-    returns
-    plain-requires-2
-    returns-2
-    lengths-requires
-    returns-3
-    is-kind-requires
-    stored-requires
-    returns-4)
+    (λ c κs. search needs) (λ c κs. search needs) returns (λ c κs. search needs) returns-2 (λ c κs. search needs)
+    returns-3 (λ c κs. search needs) stored-requires returns-4)

@@ -7,21 +7,9 @@ use Rattle.raimsklo.specs.Replies.{storedRefusal}
 use Rattle.raimsklo.proofs.replies.stored.Statement.{statement}
 use Rattle.raimsklo.proofs.replies.stored.Tie as tie
 
-is-finished-requires : tie.Need-is-finished-requires
-is-finished-requires c κs = search needs
-
-plain-requires : tie.Need-plain-requires
-plain-requires c κs = search needs
-
 returns : tie.Need-returns
 unfolding storedRefusal inOrder alsoOf
 returns c = rw (sym (c .before .before .is-finished .ensures) ∙ c .before .if1 .taken) (c .plain .ensures)
-
-in-range-requires : tie.Need-in-range-requires
-in-range-requires c κs = search needs
-
-plain-requires-2 : tie.Need-plain-requires-2
-plain-requires-2 c κs = search needs
 
 returns-2 : tie.Need-returns-2
 unfolding storedRefusal inOrder alsoOf
@@ -31,12 +19,6 @@ returns-2 c =
       sym (c .before .before .in-range .ensures) ∙ not-true _ (c .before .if2 .taken),
     )
     (c .plain2 .ensures)
-
-none-requires : tie.Need-none-requires
-none-requires c κs = search needs
-
-also-requires : tie.Need-also-requires
-also-requires c κs = search needs
 
 returns-3 : tie.Need-returns-3
 unfolding storedRefusal inOrder alsoOf
@@ -52,12 +34,5 @@ pub stored-spec : {M : Type 1} → statement M
 stored-spec =
     tie.close
     (tie.spec
-    is-finished-requires
-    plain-requires
-    returns
-    in-range-requires
-    plain-requires-2
-    returns-2
-    none-requires
-    also-requires
-    returns-3)
+    (λ c κs. search needs) (λ c κs. search needs) returns (λ c κs. search needs) (λ c κs. search needs) returns-2
+    (λ c κs. search needs) (λ c κs. search needs) returns-3)

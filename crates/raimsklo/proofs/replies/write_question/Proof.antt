@@ -33,46 +33,13 @@ plainly s Phase.Finished c work q h = absurd (miss (0 ∷ 1 ∷ 2 ∷ 3 ∷ 4 �
 enum-told : tie.Need-enum-told
 enum-told c = search needs
 
-enum-told-2 : tie.Need-enum-told-2
-enum-told-2 c = search needs
-
-mul-show : tie.Need-mul-show
-mul-show c = search needs
-
-show-requires : tie.Need-show-requires
-show-requires c κs = search needs
-
-enum-told-3 : tie.Need-enum-told-3
-enum-told-3 c = search needs
-
-mul-show-2 : tie.Need-mul-show-2
-mul-show-2 c = search needs
-
-show-requires-2 : tie.Need-show-requires-2
-show-requires-2 c κs = search needs
-
-snapshot-step-requires : tie.Need-snapshot-step-requires
-snapshot-step-requires c κs = search needs
-
-mul-show-3 : tie.Need-mul-show-3
-mul-show-3 c = search needs
-
-show-requires-3 : tie.Need-show-requires-3
-show-requires-3 c κs = search needs
-
 returns : tie.Need-returns
 unfolding questionOf
 returns c = rw (c .enum-told .given .1)
 
-same-length : tie.Need-same-length
-same-length c = search needs
-
 returns-2 : tie.Need-returns-2
 unfolding questionOf
 returns-2 c = rw (c .before .before .before .before .enum-told2 .given .1) (c .before .before .show .ensures)
-
-same-length-2 : tie.Need-same-length-2
-same-length-2 c = search needs
 
 returns-3 : tie.Need-returns-3
 unfolding questionOf
@@ -80,9 +47,6 @@ returns-3 c =
     let h = c .before .before .before .before .before .before in
     rw (h .before .before .enum-told3 .given .1)
     (rw (h .show2 .ensures) at (c .before .before .snapshot-step .ensures))
-
-same-length-3 : tie.Need-same-length-3
-same-length-3 c = search needs
 
 returns-4 : tie.Need-returns-4
 returns-4 c =
@@ -95,20 +59,6 @@ pub write-question-spec : {M : Type 1} → statement M
 write-question-spec =
     tie.close
     (tie.spec
-    enum-told
-    enum-told-2
-    mul-show
-    show-requires
-    enum-told-3
-    mul-show-2
-    show-requires-2
-    snapshot-step-requires
-    mul-show-3
-    show-requires-3
-    returns
-    same-length
-    returns-2
-    same-length-2
-    returns-3
-    same-length-3
-    returns-4)
+    enum-told (λ c. search needs) (λ c. search needs) (λ c κs. search needs) (λ c. search needs) (λ c. search needs)
+    (λ c κs. search needs) (λ c κs. search needs) (λ c. search needs) (λ c κs. search needs) returns
+    (λ c. search needs) returns-2 (λ c. search needs) returns-3 (λ c. search needs) returns-4)

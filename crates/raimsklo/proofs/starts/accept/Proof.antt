@@ -5,15 +5,6 @@ use Rattle.raimsklo.specs.Starts.{acceptedStartOf}
 use Rattle.raimsklo.proofs.starts.accept.Statement.{statement}
 use Rattle.raimsklo.proofs.starts.accept.Tie as tie
 
-lay-requires : tie.Need-lay-requires
-lay-requires c κs = search needs
-
-clear-requires : tie.Need-clear-requires
-clear-requires c κs = search needs
-
-initial-requires : tie.Need-initial-requires
-initial-requires c κs = search needs
-
 keep-requires : tie.Need-keep-requires
 keep-requires c κs =
     let l = c .before .before .before .before .before .before .before .before in
@@ -24,21 +15,6 @@ store-requires c κs =
     let l = c .before .before .before .before .before .before .before .before .before .before .before .before in
     let p = l .before .before .before .before .before .before .before .before .before .pre in
     omega (arith, p .1 .0 .0, p .1 .1 .1)
-
-answer-requires : tie.Need-answer-requires
-answer-requires c κs = search needs
-
-same-length : tie.Need-same-length
-same-length c = search needs
-
-same-length-2 : tie.Need-same-length-2
-same-length-2 c = search needs
-
-same-length-3 : tie.Need-same-length-3
-same-length-3 c = search needs
-
-same-length-4 : tie.Need-same-length-4
-same-length-4 c = search needs
 
 returns : tie.Need-returns
 unfolding acceptedStartOf
@@ -59,14 +35,5 @@ pub accept-spec : {M : Type 1} → statement M
 accept-spec =
     tie.close
     (tie.spec
-    lay-requires
-    clear-requires
-    initial-requires
-    keep-requires
-    store-requires
-    answer-requires
-    same-length
-    same-length-2
-    same-length-3
-    same-length-4
-    returns)
+    (λ c κs. search needs) (λ c κs. search needs) (λ c κs. search needs) keep-requires store-requires
+    (λ c κs. search needs) (λ c. search needs) (λ c. search needs) (λ c. search needs) (λ c. search needs) returns)

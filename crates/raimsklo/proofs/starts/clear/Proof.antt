@@ -19,25 +19,10 @@ loop-holds : tie.Need-loop-holds Inv-loop μ-loop
 unfolding clearedOf
 loop-holds c = (refl, refl, refl)
 
-mul-pivots : tie.Need-mul-pivots Inv-loop μ-loop
-mul-pivots c = omega arith
-
-slice-write-pivots : tie.Need-slice-write-pivots Inv-loop μ-loop
-slice-write-pivots c = omega arith
-
-add-i : tie.Need-add-i Inv-loop μ-loop
-add-i c = omega arith
-
-loop-less : tie.Need-loop-less Inv-loop μ-loop
-loop-less c = omega arith
-
 loop-again : tie.Need-loop-again Inv-loop μ-loop
 loop-again c =
     let h = c .before .loop .inv in
     (simp length-set (h .0), h .1, again _ _ _ _ _ (omega arith) (h .2))
-
-same-length : tie.Need-same-length Inv-loop μ-loop
-same-length c = omega arith
 
 returns : tie.Need-returns Inv-loop μ-loop
 returns c = ended _ _ _ _ _ (omega arith) (c .before .loop .inv .2)
@@ -46,13 +31,5 @@ pub clear-spec : {M : Type 1} → statement M
 clear-spec =
     tie.close
     (tie.spec
-    Inv-loop
-    μ-loop
-    loop-holds
-    mul-pivots
-    slice-write-pivots
-    add-i
-    loop-less
-    loop-again
-    same-length
-    returns)
+    Inv-loop μ-loop loop-holds (λ c. omega arith) (λ c. omega arith) (λ c. omega arith) (λ c. omega arith)
+    loop-again (λ c. omega arith) returns)

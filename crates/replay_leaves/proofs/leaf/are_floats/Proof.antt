@@ -23,21 +23,6 @@ loop-holds : tie.Need-loop-holds Inv-loop μ-loop
 unfolding areFloats
 loop-holds c = (refl, refl)
 
-mul-to-bits : tie.Need-mul-to-bits Inv-loop μ-loop
-mul-to-bits c = omega arith
-
-shared-slice-read-to-bits : tie.Need-shared-slice-read-to-bits Inv-loop μ-loop
-shared-slice-read-to-bits c = omega arith
-
-to-bits-requires : tie.Need-to-bits-requires Inv-loop μ-loop
-to-bits-requires c κs = search needs
-
-add-word : tie.Need-add-word Inv-loop μ-loop
-add-word c = omega arith
-
-word-requires : tie.Need-word-requires Inv-loop μ-loop
-word-requires c κs = search needs
-
 returns : tie.Need-returns Inv-loop μ-loop
 returns c =
     let l = c .before .before .before .before .before in
@@ -46,12 +31,6 @@ returns c =
     rw (← c .before .before .to-bits .ensures, ← c .before .word .ensures, ne-eqb _ _ (c .if1 .taken)) in
     sym (stays (isFloatAt (a .list .now) (a .stored .now) (a .at)) (l .loop .i + 1) _ false (λ k. refl))
     ∙ onward _ _ _ _ _ _ (omega arith) one (l .loop .inv .1)
-
-add-i : tie.Need-add-i Inv-loop μ-loop
-add-i c = omega arith
-
-loop-less : tie.Need-loop-less Inv-loop μ-loop
-loop-less c = omega arith
 
 loop-again : tie.Need-loop-again Inv-loop μ-loop
 loop-again c =
@@ -68,16 +47,5 @@ pub are-floats-spec : {M : Type 1} → statement M
 are-floats-spec =
     tie.close
     (tie.spec
-    Inv-loop
-    μ-loop
-    loop-holds
-    mul-to-bits
-    shared-slice-read-to-bits
-    to-bits-requires
-    add-word
-    word-requires
-    returns
-    add-i
-    loop-less
-    loop-again
-    returns-2)
+    Inv-loop μ-loop loop-holds (λ c. omega arith) (λ c. omega arith) (λ c κs. search needs) (λ c. omega arith)
+    (λ c κs. search needs) returns (λ c. omega arith) (λ c. omega arith) loop-again returns-2)

@@ -5,33 +5,6 @@ use Rattle.replay_leaves.specs.Leaf.{calledOf}
 use Rattle.replay_leaves.proofs.leaf.called.Statement.{statement}
 use Rattle.replay_leaves.proofs.leaf.called.Tie as tie
 
-add-at-b : tie.Need-add-at-b
-add-at-b c = search needs
-
-add-at-m : tie.Need-add-at-m
-add-at-m c = search needs
-
-get-floats-requires : tie.Need-get-floats-requires
-get-floats-requires c κs = search needs
-
-get-floats-requires-2 : tie.Need-get-floats-requires-2
-get-floats-requires-2 c κs = search needs
-
-get-counts-requires : tie.Need-get-counts-requires
-get-counts-requires c κs = search needs
-
-leaf-requires : tie.Need-leaf-requires
-leaf-requires c κs = search needs
-
-same-length : tie.Need-same-length
-same-length c = search needs
-
-same-length-2 : tie.Need-same-length-2
-same-length-2 c = search needs
-
-same-length-3 : tie.Need-same-length-3
-same-length-3 c = search needs
-
 returns : tie.Need-returns
 unfolding calledOf
 returns c =
@@ -45,13 +18,5 @@ pub called-spec : {M : Type 1} → statement M
 called-spec =
     tie.close
     (tie.spec
-    add-at-b
-    add-at-m
-    get-floats-requires
-    get-floats-requires-2
-    get-counts-requires
-    leaf-requires
-    same-length
-    same-length-2
-    same-length-3
-    returns)
+    (λ c. search needs) (λ c. search needs) (λ c κs. search needs) (λ c κs. search needs) (λ c κs. search needs)
+    (λ c κs. search needs) (λ c. search needs) (λ c. search needs) (λ c. search needs) returns)

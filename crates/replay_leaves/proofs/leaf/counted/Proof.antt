@@ -5,17 +5,11 @@ use borrow.Author.Needs.{needs}
 use Rattle.replay_leaves.proofs.leaf.counted.Statement.{statement}
 use Rattle.replay_leaves.proofs.leaf.counted.Tie as tie
 
-is-same-requires : tie.Need-is-same-requires
-is-same-requires c κs = search needs
-
 returns : tie.Need-returns
 returns c = (rw (← c .before .is-same .ensures, c .if1 .taken), omega arith)
-
-add-result : tie.Need-add-result
-add-result c = search needs
 
 returns-2 : tie.Need-returns-2
 returns-2 c = (rw (← c .before .is-same .ensures, c .if1 .left), omega arith)
 
 pub counted-spec : {M : Type 1} → statement M
-counted-spec = tie.close (tie.spec is-same-requires returns add-result returns-2)
+counted-spec = tie.close (tie.spec (λ c κs. search needs) returns (λ c. search needs) returns-2)

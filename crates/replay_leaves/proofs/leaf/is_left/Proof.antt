@@ -6,32 +6,11 @@ use Rattle.replay_leaves.specs.Leaf.{isLeft}
 use Rattle.replay_leaves.proofs.leaf.is_left.Statement.{statement}
 use Rattle.replay_leaves.proofs.leaf.is_left.Tie as tie
 
-add-at-a : tie.Need-add-at-a
-add-at-a c = search needs
-
-add-at-a-2 : tie.Need-add-at-a-2
-add-at-a-2 c = search needs
-
-add-at-a-3 : tie.Need-add-at-a-3
-add-at-a-3 c = search needs
-
-add-at-b : tie.Need-add-at-b
-add-at-b c = search needs
-
-add-at-m : tie.Need-add-at-m
-add-at-m c = search needs
-
-are-floats-requires : tie.Need-are-floats-requires
-are-floats-requires c κs = search needs
-
 returns : tie.Need-returns
 unfolding isLeft
 returns c =
     let m = c .before in
     rw (← m .are-floats .ensures, not-true (m .are-floats .result) (c .if1 .taken))
-
-are-floats-requires-2 : tie.Need-are-floats-requires-2
-are-floats-requires-2 c κs = search needs
 
 returns-2 : tie.Need-returns-2
 unfolding isLeft
@@ -44,9 +23,6 @@ returns-2 c =
       ← m .are-floats2 .ensures,
       not-true (m .are-floats2 .result) (c .if2 .taken),
     )
-
-are-counts-requires : tie.Need-are-counts-requires
-are-counts-requires c κs = search needs
 
 returns-3 : tie.Need-returns-3
 unfolding isLeft
@@ -65,14 +41,5 @@ pub is-left-spec : {M : Type 1} → statement M
 is-left-spec =
     tie.close
     (tie.spec
-    add-at-a
-    add-at-a-2
-    add-at-a-3
-    add-at-b
-    add-at-m
-    are-floats-requires
-    returns
-    are-floats-requires-2
-    returns-2
-    are-counts-requires
-    returns-3)
+    (λ c. search needs) (λ c. search needs) (λ c. search needs) (λ c. search needs) (λ c. search needs)
+    (λ c κs. search needs) returns (λ c κs. search needs) returns-2 (λ c κs. search needs) returns-3)

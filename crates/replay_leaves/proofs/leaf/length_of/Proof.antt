@@ -7,9 +7,6 @@ use Rattle.replay_leaves.specs.Leaf.{lengthOf}
 use Rattle.replay_leaves.proofs.leaf.length_of.Statement.{statement}
 use Rattle.replay_leaves.proofs.leaf.length_of.Tie as tie
 
-word-requires : tie.Need-word-requires
-word-requires c κs = search needs
-
 returns : tie.Need-returns
 unfolding lengthOf
 returns c = (rw (← c .before .word .ensures, lt-leb _ _ (c .if1 .taken)), omega arith)
@@ -19,4 +16,4 @@ unfolding lengthOf
 returns-2 c = (rw (← c .before .word .ensures, le-leb _ _ (c .if1 .left)), c .if1 .left)
 
 pub length-of-spec : {M : Type 1} → statement M
-length-of-spec = tie.close (tie.spec word-requires returns returns-2)
+length-of-spec = tie.close (tie.spec (λ c κs. search needs) returns returns-2)

@@ -10,30 +10,6 @@ returns : tie.Need-returns
 unfolding leafSnapshot
 returns c = rw (lt-leb _ _ (c .if1 .taken))
 
-sub-probe-snapshot-step : tie.Need-sub-probe-snapshot-step
-sub-probe-snapshot-step c = search needs
-
-part-probe-snapshot-step-start : tie.Need-part-probe-snapshot-step-start
-part-probe-snapshot-step-start c = search needs
-
-part-probe-snapshot-step-end : tie.Need-part-probe-snapshot-step-end
-part-probe-snapshot-step-end c = search needs
-
-sub-probe-snapshot-step-2 : tie.Need-sub-probe-snapshot-step-2
-sub-probe-snapshot-step-2 c = search needs
-
-part-probe-snapshot-step-start-2 : tie.Need-part-probe-snapshot-step-start-2
-part-probe-snapshot-step-start-2 c = search needs
-
-part-probe-snapshot-step-end-2 : tie.Need-part-probe-snapshot-step-end-2
-part-probe-snapshot-step-end-2 c = search needs
-
-probe-snapshot-step-requires : tie.Need-probe-snapshot-step-requires
-probe-snapshot-step-requires c κs = search needs
-
-same-length : tie.Need-same-length
-same-length c = search needs
-
 returns-2 : tie.Need-returns-2
 unfolding leafSnapshot
 returns-2 c =
@@ -45,13 +21,5 @@ pub snapshot-spec : {M : Type 1} → statement M
 snapshot-spec =
     tie.close
     (tie.spec
-    returns
-    sub-probe-snapshot-step
-    part-probe-snapshot-step-start
-    part-probe-snapshot-step-end
-    sub-probe-snapshot-step-2
-    part-probe-snapshot-step-start-2
-    part-probe-snapshot-step-end-2
-    probe-snapshot-step-requires
-    same-length
-    returns-2)
+    returns (λ c. search needs) (λ c. search needs) (λ c. search needs) (λ c. search needs) (λ c. search needs)
+    (λ c. search needs) (λ c κs. search needs) (λ c. search needs) returns-2)

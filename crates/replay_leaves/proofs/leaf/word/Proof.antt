@@ -6,17 +6,8 @@ use lib.ListN.{List·getD-eq-default}
 use Rattle.replay_leaves.proofs.leaf.word.Statement.{statement}
 use Rattle.replay_leaves.proofs.leaf.word.Tie as tie
 
-mul-result : tie.Need-mul-result
-mul-result c = search needs
-
-shared-slice-read-result : tie.Need-shared-slice-read-result
-shared-slice-read-result c = search needs
-
-returns : tie.Need-returns
-returns c = search needs
-
 returns-2 : tie.Need-returns-2
 returns-2 c = rw (List·getD-eq-default {A = ℕ} _ 0 (c .if1 .left))
 
 pub word-spec : {M : Type 1} → statement M
-word-spec = tie.close (tie.spec mul-result shared-slice-read-result returns returns-2)
+word-spec = tie.close (tie.spec (λ c. search needs) (λ c. search needs) (λ c. search needs) returns-2)

@@ -7,12 +7,6 @@ use borrow.Author.Needs.{needs}
 use Rattle.replay_runs.proofs.answer.reported.Statement.{statement}
 use Rattle.replay_runs.proofs.answer.reported.Tie as tie
 
-add-result : tie.Need-add-result
-add-result c = search needs
-
-add-result-2 : tie.Need-add-result-2
-add-result-2 c = search needs
-
 mul-result : tie.Need-mul-result
 mul-result c =
     let most : (c .args .order + 1) * c .args .n ≤ 13 * c .args .n = mul-le-mul-right (c .args .n) (omega arith) in
@@ -29,4 +23,4 @@ returns c =
     omega arith
 
 pub reported-spec : {M : Type 1} → statement M
-reported-spec = tie.close (tie.spec add-result add-result-2 mul-result add-result-3 returns)
+reported-spec = tie.close (tie.spec (λ c. search needs) (λ c. search needs) mul-result add-result-3 returns)

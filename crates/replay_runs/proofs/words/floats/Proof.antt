@@ -14,45 +14,12 @@ Inv-loop words at out₀ i₀ out i =
 abbrev μ-loop : tie.MeasureT-loop
 μ-loop words at out₀ i₀ out i = 4096 - i
 
-loop-holds : tie.Need-loop-holds Inv-loop μ-loop
-loop-holds c = omega arith
-
-add-float : tie.Need-add-float Inv-loop μ-loop
-add-float c = omega arith
-
-float-requires : tie.Need-float-requires Inv-loop μ-loop
-float-requires c κs = search needs
-
-mul-out : tie.Need-mul-out Inv-loop μ-loop
-mul-out c = omega arith
-
-array-write-out : tie.Need-array-write-out Inv-loop μ-loop
-array-write-out c = omega arith
-
-add-i : tie.Need-add-i Inv-loop μ-loop
-add-i c = omega arith
-
-loop-less : tie.Need-loop-less Inv-loop μ-loop
-loop-less c = omega arith
-
 loop-again : tie.Need-loop-again Inv-loop μ-loop
 loop-again c = simp length-set (omega arith)
-
-returns : tie.Need-returns Inv-loop μ-loop
-returns c = search needs
 
 pub floats-spec : {M : Type 1} → statement M
 floats-spec =
     tie.close
     (tie.spec
-    Inv-loop
-    μ-loop
-    loop-holds
-    add-float
-    float-requires
-    mul-out
-    array-write-out
-    add-i
-    loop-less
-    loop-again
-    returns)
+    Inv-loop μ-loop (λ c. omega arith) (λ c. omega arith) (λ c κs. search needs) (λ c. omega arith)
+    (λ c. omega arith) (λ c. omega arith) (λ c. omega arith) loop-again (λ c. search needs))

@@ -6,9 +6,6 @@ use Rattle.session.specs.Session.{countersInRange}
 use Rattle.session.proofs.ranges.counters.Statement.{statement}
 use Rattle.session.proofs.ranges.counters.Tie as tie
 
-mxncf-requires : tie.Need-mxncf-requires
-mxncf-requires c κs = search needs
-
 returns : tie.Need-returns
 unfolding countersInRange
 returns c = rw (le-ltb _ _ (rw (c .before .before .mxncf .ensures) at (c .if1 .taken)))
@@ -27,4 +24,4 @@ returns-3 c =
     rw (lt-ltb _ _ (rw (t1 .before .before .mxncf .ensures) at (t1 .if1 .left)), lt-ltb _ _ (t2 .if2 .left))
 
 pub counters-spec : {M : Type 1} → statement M
-counters-spec = tie.close (tie.spec mxncf-requires returns returns-2 returns-3)
+counters-spec = tie.close (tie.spec (λ c κs. search needs) returns returns-2 returns-3)

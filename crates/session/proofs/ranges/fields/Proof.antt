@@ -9,15 +9,9 @@ use Rattle.session.proofs.Thirteen.{small}
 use Rattle.session.proofs.ranges.fields.Statement.{statement}
 use Rattle.session.proofs.ranges.fields.Tie as tie
 
-words-requires : tie.Need-words-requires
-words-requires c κs = search needs
-
 returns : tie.Need-returns
 unfolding fieldsInRange
 returns c = rw (sym (c .before .words .ensures) ∙ not-true _ (c .if1 .taken))
-
-lists-requires : tie.Need-lists-requires
-lists-requires c κs = search needs
 
 returns-2 : tie.Need-returns-2
 unfolding fieldsInRange
@@ -46,9 +40,6 @@ returns-3 c =
       sym (c .before .orders .ensures) ∙ not-true _ (c .if3 .taken),
     )
 
-counters-requires : tie.Need-counters-requires
-counters-requires c κs = search needs
-
 returns-4 : tie.Need-returns-4
 unfolding fieldsInRange
 returns-4 c =
@@ -65,11 +56,5 @@ pub fields-spec : {M : Type 1} → statement M
 fields-spec =
     tie.close
     (tie.spec
-    words-requires
-    returns
-    lists-requires
-    returns-2
-    orders-requires
-    returns-3
-    counters-requires
+    (λ c κs. search needs) returns (λ c κs. search needs) returns-2 orders-requires returns-3 (λ c κs. search needs)
     returns-4)

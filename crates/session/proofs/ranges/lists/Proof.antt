@@ -7,15 +7,9 @@ use Rattle.session.specs.Session.{listsInRange}
 use Rattle.session.proofs.ranges.lists.Statement.{statement}
 use Rattle.session.proofs.ranges.lists.Tie as tie
 
-one-or-n-requires : tie.Need-one-or-n-requires
-one-or-n-requires c κs = search needs
-
 returns : tie.Need-returns
 unfolding listsInRange
 returns c = rw (sym (c .before .one-or-n .ensures) ∙ not-true _ (c .if1 .taken))
-
-one-or-n-requires-2 : tie.Need-one-or-n-requires-2
-one-or-n-requires-2 c κs = search needs
 
 returns-2 : tie.Need-returns-2
 unfolding listsInRange
@@ -23,4 +17,4 @@ returns-2 c =
     rw (sym (c .before .before .one-or-n .ensures) ∙ not-false _ (c .before .if1 .left)) (c .one-or-n2 .ensures)
 
 pub lists-spec : {M : Type 1} → statement M
-lists-spec = tie.close (tie.spec one-or-n-requires returns one-or-n-requires-2 returns-2)
+lists-spec = tie.close (tie.spec (λ c κs. search needs) returns (λ c κs. search needs) returns-2)

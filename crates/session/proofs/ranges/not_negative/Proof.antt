@@ -20,22 +20,10 @@ loop-holds : tie.Need-loop-holds Inv-loop μ-loop
 unfolding every notNegative
 loop-holds c = refl
 
-add-float : tie.Need-add-float Inv-loop μ-loop
-add-float c = omega arith
-
-float-requires : tie.Need-float-requires Inv-loop μ-loop
-float-requires c κs = omega arith
-
 returns : tie.Need-returns Inv-loop μ-loop
 returns c =
     let l = c .before .before .before .loop in
     every-fails _ _ _ _ (omega arith) (ap not (rw (c .before .float .ensures) at (c .if1 .taken))) (l .inv)
-
-add-i : tie.Need-add-i Inv-loop μ-loop
-add-i c = omega arith
-
-loop-less : tie.Need-loop-less Inv-loop μ-loop
-loop-less c = omega arith
 
 loop-again : tie.Need-loop-again Inv-loop μ-loop
 loop-again c =
@@ -49,13 +37,5 @@ pub not-negative-spec : {M : Type 1} → statement M
 not-negative-spec =
     tie.close
     (tie.spec
-    Inv-loop
-    μ-loop
-    loop-holds
-    add-float
-    float-requires
-    returns
-    add-i
-    loop-less
-    loop-again
-    returns-2)
+    Inv-loop μ-loop loop-holds (λ c. omega arith) (λ c κs. omega arith) returns (λ c. omega arith)
+    (λ c. omega arith) loop-again returns-2)

@@ -12,9 +12,6 @@ returns : tie.Need-returns
 unfolding ordersInRange
 returns c = rw (le-ltb _ _ (c .if1 .taken))
 
-rem-if2 : tie.Need-rem-if2
-rem-if2 c = search needs
-
 returns-2 : tie.Need-returns-2
 unfolding ordersInRange
 returns-2 c = rw (lt-ltb _ _ (c .before .before .before .if1 .left), ne-eqb _ _ (c .if2 .taken))
@@ -45,4 +42,4 @@ returns-4 c =
     rw (lt-ltb _ _ (t1 .if1 .left), eq-eqb _ _ (t2 .if2 .left), le-leb _ _ (t3 .if3 .left))
 
 pub orders-spec : {M : Type 1} → statement M
-orders-spec = tie.close (tie.spec returns rem-if2 returns-2 mul-if3 returns-3 mul-result returns-4)
+orders-spec = tie.close (tie.spec returns (λ c. search needs) returns-2 mul-if3 returns-3 mul-result returns-4)

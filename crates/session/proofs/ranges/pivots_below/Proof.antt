@@ -29,23 +29,11 @@ loop-holds : tie.Need-loop-holds Inv-loop μ-loop Inv-loop2 μ-loop2
 unfolding every pivotsBelow
 loop-holds c = (omega arith, refl)
 
-mul-four-below : tie.Need-mul-four-below Inv-loop μ-loop Inv-loop2 μ-loop2
-mul-four-below c = omega arith
-
-four-below-requires : tie.Need-four-below-requires Inv-loop μ-loop Inv-loop2 μ-loop2
-four-below-requires c κs = omega arith
-
 returns : tie.Need-returns Inv-loop μ-loop Inv-loop2 μ-loop2
 returns c =
     let f = c .before in
     let t = sym (f .four-below .ensures) ∙ not-true _ (c .if1 .taken) in
     run-fails _ 4 _ _ _ (omega arith) t (f .before .before .loop .inv .1)
-
-add-k : tie.Need-add-k Inv-loop μ-loop Inv-loop2 μ-loop2
-add-k c = omega arith
-
-loop-less : tie.Need-loop-less Inv-loop μ-loop Inv-loop2 μ-loop2
-loop-less c = omega arith
 
 loop-again : tie.Need-loop-again Inv-loop μ-loop Inv-loop2 μ-loop2
 loop-again c =
@@ -55,29 +43,14 @@ loop-again c =
     let q : 4 * (l .k + 1) ≡ 4 * l .k + 4 = omega arith in
     (omega arith, rw q (run-again _ 4 _ _ _ (omega arith) t (l .inv .1)))
 
-mul-i : tie.Need-mul-i Inv-loop μ-loop Inv-loop2 μ-loop2
-mul-i c = omega arith
-
 loop2-holds : tie.Need-loop2-holds Inv-loop μ-loop Inv-loop2 μ-loop2
 loop2-holds c =
     let l = c .before .loop in
     let q : 4 * l .k ≡ length (c .before .before .before .args .ipiv .now) / 4 * 4 = omega arith in
     rw q at (l .inv .1)
 
-mul-if2 : tie.Need-mul-if2 Inv-loop μ-loop Inv-loop2 μ-loop2
-mul-if2 c = omega arith
-
-shared-slice-read-if2 : tie.Need-shared-slice-read-if2 Inv-loop μ-loop Inv-loop2 μ-loop2
-shared-slice-read-if2 c = omega arith
-
 returns-2 : tie.Need-returns-2 Inv-loop μ-loop Inv-loop2 μ-loop2
 returns-2 c = every-fails _ _ _ _ (omega arith) (le-ltb _ _ (c .if2 .taken)) (c .before .before .before .loop2 .inv)
-
-add-i : tie.Need-add-i Inv-loop μ-loop Inv-loop2 μ-loop2
-add-i c = omega arith
-
-loop2-less : tie.Need-loop2-less Inv-loop μ-loop Inv-loop2 μ-loop2
-loop2-less c = omega arith
 
 loop2-again : tie.Need-loop2-again Inv-loop μ-loop Inv-loop2 μ-loop2
 loop2-again c = every-again _ _ _ _ (omega arith) (lt-ltb _ _ (c .if2 .left)) (c .before .before .before .loop2 .inv)
@@ -89,23 +62,6 @@ pub pivots-below-spec : {M : Type 1} → statement M
 pivots-below-spec =
     tie.close
     (tie.spec
-    Inv-loop
-    μ-loop
-    Inv-loop2
-    μ-loop2
-    loop-holds
-    mul-four-below
-    four-below-requires
-    returns
-    add-k
-    loop-less
-    loop-again
-    mul-i
-    loop2-holds
-    mul-if2
-    shared-slice-read-if2
-    returns-2
-    add-i
-    loop2-less
-    loop2-again
-    returns-3)
+    Inv-loop μ-loop Inv-loop2 μ-loop2 loop-holds (λ c. omega arith) (λ c κs. omega arith) returns (λ c. omega arith)
+    (λ c. omega arith) loop-again (λ c. omega arith) loop2-holds (λ c. omega arith) (λ c. omega arith) returns-2
+    (λ c. omega arith) (λ c. omega arith) loop2-again returns-3)

@@ -23,34 +23,10 @@ abbrev μ-loop : tie.MeasureT-loop
 loop-holds : tie.Need-loop-holds Inv-loop μ-loop
 loop-holds c = (c .pre .0, c .pre .1, refl)
 
-mul-if1 : tie.Need-mul-if1 Inv-loop μ-loop
-mul-if1 c = omega arith
-
-element-copy-out-if1 : tie.Need-element-copy-out-if1 Inv-loop μ-loop
-element-copy-out-if1 c = omega arith
-
-mul-if1-2 : tie.Need-mul-if1-2 Inv-loop μ-loop
-mul-if1-2 c = omega arith
-
-element-copy-out-if1-2 : tie.Need-element-copy-out-if1-2 Inv-loop μ-loop
-element-copy-out-if1-2 c = omega arith
-
 returns : tie.Need-returns Inv-loop μ-loop
 returns c =
     let v = c .before .before .before .before .loop .inv in
     every-fails _ _ _ _ (omega arith) (rw (lt-leb _ _ (rw (v .0) at (c .if1 .taken)))) (v .2)
-
-mul-if2 : tie.Need-mul-if2 Inv-loop μ-loop
-mul-if2 c = omega arith
-
-element-copy-out-if2 : tie.Need-element-copy-out-if2 Inv-loop μ-loop
-element-copy-out-if2 c = omega arith
-
-mul-if2-2 : tie.Need-mul-if2-2 Inv-loop μ-loop
-mul-if2-2 c = omega arith
-
-element-copy-out-if2-2 : tie.Need-element-copy-out-if2-2 Inv-loop μ-loop
-element-copy-out-if2-2 c = omega arith
 
 returns-2 : tie.Need-returns-2 Inv-loop μ-loop
 returns-2 c =
@@ -58,12 +34,6 @@ returns-2 c =
     let v = d .before .before .before .before .loop .inv in
     every-fails _ _ _ _ (omega arith)
     (rw (le-leb _ _ (rw (v .0) at (d .if1 .left)), lt-leb _ _ (rw (v .1) at (c .if2 .taken)))) (v .2)
-
-add-i : tie.Need-add-i Inv-loop μ-loop
-add-i c = omega arith
-
-loop-less : tie.Need-loop-less Inv-loop μ-loop
-loop-less c = omega arith
 
 loop-again : tie.Need-loop-again Inv-loop μ-loop
 loop-again c =
@@ -79,20 +49,6 @@ pub run-spec : {M : Type 1} → statement M
 run-spec =
     tie.close
     (tie.spec
-    Inv-loop
-    μ-loop
-    loop-holds
-    mul-if1
-    element-copy-out-if1
-    mul-if1-2
-    element-copy-out-if1-2
-    returns
-    mul-if2
-    element-copy-out-if2
-    mul-if2-2
-    element-copy-out-if2-2
-    returns-2
-    add-i
-    loop-less
-    loop-again
-    returns-3)
+    Inv-loop μ-loop loop-holds (λ c. omega arith) (λ c. omega arith) (λ c. omega arith) (λ c. omega arith) returns
+    (λ c. omega arith) (λ c. omega arith) (λ c. omega arith) (λ c. omega arith) returns-2 (λ c. omega arith)
+    (λ c. omega arith) loop-again returns-3)

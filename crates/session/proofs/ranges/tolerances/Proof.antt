@@ -7,15 +7,9 @@ use Rattle.session.specs.Session.{tolerancesInRange}
 use Rattle.session.proofs.ranges.tolerances.Statement.{statement}
 use Rattle.session.proofs.ranges.tolerances.Tie as tie
 
-not-negative-requires : tie.Need-not-negative-requires
-not-negative-requires c κs = search needs
-
 returns : tie.Need-returns
 unfolding tolerancesInRange
 returns c = rw (sym (c .before .not-negative .ensures) ∙ not-true _ (c .if1 .taken))
-
-not-negative-requires-2 : tie.Need-not-negative-requires-2
-not-negative-requires-2 c κs = search needs
 
 returns-2 : tie.Need-returns-2
 unfolding tolerancesInRange
@@ -24,5 +18,4 @@ returns-2 c =
     (c .not-negative2 .ensures)
 
 pub tolerances-spec : {M : Type 1} → statement M
-tolerances-spec =
-    tie.close (tie.spec not-negative-requires returns not-negative-requires-2 returns-2)
+tolerances-spec = tie.close (tie.spec (λ c κs. search needs) returns (λ c κs. search needs) returns-2)

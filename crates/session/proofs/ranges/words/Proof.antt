@@ -21,12 +21,6 @@ halves : (u : List ℕ) → every (wordInRange u) countWords
     ≡ for half countWords (andAt (wordInRange u)) (for 0 half (andAt (wordInRange u)) true)
 halves u = every-parts (wordInRange u) half countWords (omega arith)
 
-lowest-requires : tie.Need-lowest-requires
-lowest-requires c κs = search needs
-
-highest-requires : tie.Need-highest-requires
-highest-requires c κs = search needs
-
 run-requires : tie.Need-run-requires
 run-requires c κs =
     let h = c .before .before in
@@ -50,4 +44,6 @@ returns-2 c =
 
 pub words-spec : {M : Type 1} → statement M
 words-spec =
-    tie.close (tie.spec lowest-requires highest-requires run-requires returns run-requires-2 returns-2)
+    tie.close
+    (tie.spec
+    (λ c κs. search needs) (λ c κs. search needs) run-requires returns run-requires-2 returns-2)
