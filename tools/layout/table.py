@@ -1,7 +1,9 @@
 """The field list of a session: the structs of crates/common/src/lib.rt, and the tables that say what those do not.
 
 A new field goes to the end of its group in its struct (floats, counts, flags), with its comment. It needs a row in
-RANGES if it is a count, and one in INITIAL if a start gives it another value than 0, false or Adams.
+RANGES if it is a count, and one in INITIAL if a start gives it another value than 0, false or Adams. After a run of
+tools/record.py what is left is its use: in the code and the definition that set it, in the lists of what a move may
+change (`attempted`, `moved`), for a float its law `put-..` where it is set, for a count that it stays in its range.
 """
 import re
 
