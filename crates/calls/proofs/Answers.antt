@@ -18,10 +18,12 @@ use Rattle.questions.specs.declared.Phase.{Phase}
 use Rattle.questions.specs.declared.Phase.the-variants as Phase
 use Rattle.questions.specs.Turns.{RunState}
 use Rattle.session.specs.Session.{encodeOf, decodeOf}
-use Rattle.session.specs.Names as Word
+use Rattle.session.specs.Names.{nWord, phaseWord}
 use Rattle.session.specs.InRange.{InRange}
 use Rattle.session.proofs.InRange.{in-range}
 use Rattle.refusals.specs.Rows.{Row, NoneHolds, FirstIs}
+use Rattle.common.specs.Limits.{maxStates}
+use Rattle.common.specs.SessionWords.{sessionLength}
 use Rattle.common.specs.State.{Given}
 use Rattle.rules.specs.Rules.{Start}
 use Rattle.refinement.specs.Shown.{sessionOf, resumed, isTaken}
@@ -55,17 +57,17 @@ module _ (g : Given) (a : Start) (run : Runs g a) (l : RunState) (bytes : List �
   rows = replyRows (r .kind) (r .numbers) lent
 
   abbrev n : ℕ
-  n = Word.n bytes
+  n = nWord bytes
 
   left-by : (number : ℕ) → FirstIs number rows → answer ≡ leaves number
   left-by number f = reply-refused (r .kind) (r .numbers) (r .time) lent .unchanged number f
 
   -- ---- the rows of the lengths
 
-  long : length bytes ≢ 1448 → ⊥
+  long : length bytes ≢ sessionLength → ⊥
   long h = h (k .long)
 
-  stated : (n ≡ 0) ⊎ (64 < n) → ⊥
+  stated : (n ≡ 0) ⊎ (maxStates < n) → ⊥
   stated (inl e) = omega (arith, e, k .states, run .ok .settings .n .0)
   stated (inr h) = omega (arith, h, k .states, run .ok .settings .n .1)
 
@@ -83,8 +85,8 @@ module _ (g : Given) (a : Start) (run : Runs g a) (l : RunState) (bytes : List �
   module _ (sized : isSized (g .s .n) r ≡ true) where
     -- ---- the rows of what is stored
 
-    running : isOver (l .turn .phase) ≡ false → Word.phase bytes ≡ 10 → ⊥
-    running e = eqb-false (Word.phase bytes) 10 (k .finished ∙ e)
+    running : isOver (l .turn .phase) ≡ false → phaseWord bytes ≡ 10 → ⊥
+    running e = eqb-false (phaseWord bytes) 10 (k .finished ∙ e)
 
     ranged : isOver (l .turn .phase) ≡ false → (InRange bytes (l .ipiv) → ⊥) → ⊥
     ranged e out = out (in-range bytes (l .ipiv) .0 (k .found e .passed))
@@ -95,7 +97,7 @@ module _ (g : Given) (a : Start) (run : Runs g a) (l : RunState) (bytes : List �
     first-14 : Asks false → (isOver (l .turn .phase) ≡ false) ⊎ (l .turn .phase ≡ Phase.Finished) → FirstIs 14 rows
     first-14 off (inr e) =
         inr (long, inr (stated, inr (fitting sized,
-        inl (eqb-true (Word.phase bytes) 10 (k .finished ∙ ap isOver e), refl))))
+        inl (eqb-true (phaseWord bytes) 10 (k .finished ∙ ap isOver e), refl))))
     first-14 off (inl e) =
         inr (long, inr (stated, inr (fitting sized, inr (running e, inr (ranged e,
         inl (asked-now (r .kind) (r .numbers) (r .time) lent .1 (rw (k .decoded) off), refl))))))

@@ -23,6 +23,8 @@ use Rattle.coefficients.specs.Table.{elcoOf, tescoOf, sm1Of}
 use Rattle.vectors.specs.Norm.{vmnormOf}
 use Rattle.vectors.specs.Tolerance.{toleranceOf}
 use Rattle.vectors.specs.Weights.{ewsetOf, invertOf}
+use Rattle.common.specs.Initial as Initial
+use Rattle.common.specs.SessionWords.{sessionLength}
 use Rattle.common.specs.Rules.{firstCallInitOf, resetOf}
 use Rattle.history.specs.Columns.{predictColumnsOf, retractColumnsOf, rescaleColumnsOf, addScaledOf, correctColumnsOf}
 use Rattle.history.specs.Columns.{copyOf, slopeOf, fillOf, scalePartOf}
@@ -96,7 +98,7 @@ abbrev slices : Buffers
 slices = record {
   work = replicate 20 zeroF;
   pivots = replicate 1 0;
-  session = replicate 1448 0;
+  session = replicate sessionLength 0;
   question = replicate 20 zeroF;
 }
 
@@ -179,7 +181,7 @@ unfolding toldBy standsAt kindOf acceptedSettings givenStepOf Refusals.smallestO
     Rules.attempts Rules.decide Rules.tested Rules.stepped Rules.afterAcceptance Rules.closed Rules.afterReport
       Rules.follow
     Rules.attempted iterated turns iterations passAt pass
-    Begin.setupOf Begin.preparedAt Begin.preparedOf Begin.predictedAt Reports.initialOf Start.firstSizeOf
+    Begin.setupOf Begin.preparedAt Begin.preparedOf Begin.predictedAt Initial.initialOf Start.firstSizeOf
     Attempt.retractedOf Attempt.repredictOf Attempt.errorOf Attempt.shrunkOf Attempt.missedAt
     Attempt.missedOf Attempt.overshotOf Attempt.failedOf Attempt.unconvergedOf Attempt.quarteredOf
     Attempt.noConvergenceAt Attempt.noConvergenceOf Accept.correctedOf Accept.keepFamilyOf Accept.testFamilyOf

@@ -8,7 +8,6 @@ use mathlib.Core.Logic.{_≢_}
 use mathlib.Core.Path.{_≡_, refl, sym, ap, _∙_}
 use Prim.Native.Nat.{ℕ, zero, suc, _+_, _*_, _≤_, _<_}
 use native.Mathlib.Omega.{arith}
-use native.Mathlib.Nat.{zero-add}
 use lib.Dec.{eqb, lit≤}
 use lib.Ieee.{Float}
 use lib.ListN.{length, getD, set, length-set}
@@ -22,6 +21,8 @@ use Rattle.session.specs.Fields.{countsOf, floatsOf}
 use Rattle.session.specs.Session.{encodeOf, putTolerancesOf}
 use Rattle.session.proofs.Back.{length-encode, length-put-tolerances}
 use Rattle.refusals.specs.Start.{acceptedSettings}
+use Rattle.common.specs.SessionWords.{countWords, floatWords, rtolAt, atolAt, sessionLength}
+use Rattle.common.specs.Limits.{maxStates}
 use Rattle.common.specs.State.{Given}
 use Rattle.refinement.specs.Shown.{sessionOf}
 use Rattle.refinement.specs.AtNode.{startedAt}
@@ -87,18 +88,22 @@ module _ (m : ℕ) where
 
 -- ---- the session
 
-kept-fresh : (x : Session) (rtol atol : List Float) (a b : List ℕ) → length a ≡ 1448 → length b ≡ 1448
+kept-fresh : (x : Session) (rtol atol : List Float) (a b : List ℕ) → length a ≡ sessionLength → length b ≡ sessionLength
     → putTolerancesOf rtol atol (encodeOf x a) ≡ putTolerancesOf rtol atol (encodeOf x b)
 unfolding putTolerancesOf encodeOf putCountsOf putFloatsOf
 kept-fresh x rtol atol a b p q =
-    let none : Agree 1448 (8 * (0 + 0)) a b =
+    let none : Agree sessionLength (8 * (0 + 0)) a b =
     record { room = omega arith; long = p ∙ sym q; same = λ i l. absurd (omega arith) } in
     let u = countsOf x in
     let f = floatsOf x in
-    let counts = agree-row 1448 0 (λ i. getD u i 0) (putCountAt u) (λ i b. rw (zero-add i)) 34 0 (lit≤ tt) none in
-    let floats = agree-row 1448 34 (slotOf f) (putFloatAt 34 f) (λ i b. refl) 19 0 (lit≤ tt) counts in
-    let rtols = agree-row 1448 53 (slotOf rtol) (putFloatAt 53 rtol) (λ i b. refl) 64 0 (lit≤ tt) floats in
-    let all = agree-row 1448 117 (slotOf atol) (putFloatAt 117 atol) (λ i b. refl) 64 0 (lit≤ tt) rtols in
+    let counts = agree-row sessionLength 0 (λ i. getD u i 0) (putCountAt 0 u) (λ i b. refl)
+        countWords 0 (lit≤ tt) none in
+    let floats = agree-row sessionLength countWords (slotOf f) (putFloatAt countWords f) (λ i b. refl)
+        floatWords 0 (lit≤ tt) counts in
+    let rtols = agree-row sessionLength rtolAt (slotOf rtol) (putFloatAt rtolAt rtol) (λ i b. refl)
+        maxStates 0 (lit≤ tt) floats in
+    let all = agree-row sessionLength atolAt (slotOf atol) (putFloatAt atolAt atol) (λ i b. refl)
+        maxStates 0 (lit≤ tt) rtols in
     let long = length-put-tolerances rtol atol (encodeOf x a) ∙ length-encode x a in
     ext-getD 0 (putTolerancesOf rtol atol (encodeOf x a)) (putTolerancesOf rtol atol (encodeOf x b)) (all .long)
     (λ i l. all .same i (omega (arith, long, l)))

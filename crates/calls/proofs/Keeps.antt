@@ -27,6 +27,7 @@ use Rattle.session.specs.Session.{encodeOf, decodeOf, rtolSlots, atolSlots, sto
 use Rattle.session.specs.Session.{tolerancesInRange, inRangeOf}
 use Rattle.session.proofs.Back.{length-encode, encoded-count, finished-encode, decode-encode, rtol-kept, atol-kept}
 use Rattle.session.proofs.Passes.{passes, tolerances-kept}
+use Rattle.common.specs.SessionWords.{sessionLength}
 use Rattle.common.specs.State.{Given}
 use Rattle.rules.specs.Rules.{Start}
 use Rattle.rules.specs.Replies.{Reply as Fed}
@@ -74,7 +75,7 @@ pub record Found (g : Given) (l : RunState) (bytes : List ℕ) : Type 0 where
   pub ialth : l .turn .common .ialth ≤ 13
 
 pub record Keeps (g : Given) (l : RunState) (bytes : List ℕ) : Type 0 where
-  pub long : length bytes ≡ 1448
+  pub long : length bytes ≡ sessionLength
   pub lent : Lent (g .s .n) (l .work) (l .ipiv)
   pub states : storedN bytes ≡ g .s .n
   pub finished : finishedIn bytes ≡ isOver (l .turn .phase)
@@ -139,7 +140,7 @@ module _ (g : Given) (a : Start) (run : Runs g a) where
         column = omega (arith, o .column, s .n);
       }
 
-  pub found-after : (l : RunState) (bytes : List ℕ) → 1448 ≤ length bytes → Fits (sessionOf g l)
+  pub found-after : (l : RunState) (bytes : List ℕ) → sessionLength ≤ length bytes → Fits (sessionOf g l)
       → tolerancesInRange bytes (g .s) ≡ true → Low 0 (l .turn .common)
       → Resumes (sessionOf g l) (g .rtol) (g .atol) (l .work) (l .ipiv)
       → Found g l (encodeOf (sessionOf g l) bytes)
@@ -163,7 +164,7 @@ module _ (g : Given) (a : Start) (run : Runs g a) where
 
     pub keeps-next : Keeps g after written
     keeps-next =
-        let room : 1448 ≤ length bytes = omega (arith, k .long) in
+        let room : sessionLength ≤ length bytes = omega (arith, k .long) in
         let x = sessionOf g after in
         let floats = floats-kept (sessionOf g l) (r .kind) (r .numbers) (r .time) (withOf g l) (k .floats) time in
         let fits : Fits x = record { counts = counts-fit-of after bounded; floats = floats } in

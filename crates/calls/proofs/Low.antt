@@ -21,8 +21,8 @@ use Rattle.corrector.specs.declared.Correction.{Correction}
 use Rattle.corrector.specs.Verdict.{judgeOf}
 use Rattle.corrector.proofs.Judged.{same-judge}
 use Rattle.attempt.specs.Attempt.{retractedOf, retractedWork, repredictOf, unconvergedOf as missedOf, poorOf}
-use Rattle.attempt.specs.Attempt.{quarteredOf, noConvergenceAt, noConvergenceOf, tenthOf, missedAt}
-use Rattle.attempt.specs.Attempt.{overshotOf, failedOf, loweredOf}
+use Rattle.attempt.specs.Attempt.{quarteredOf, noConvergenceAt, noConvergenceOf, tenthOf, missedAt, overshotOf}
+use Rattle.attempt.specs.Attempt.{failedOf, loweredOf}
 use Rattle.attempt.specs.Attempt as Attempt
 use Rattle.acceptance.specs.declared.family.Change.{Change}
 use Rattle.acceptance.specs.declared.family.Change.the-variants.{Stay, Gap, To}
@@ -30,8 +30,8 @@ use Rattle.acceptance.specs.declared.family.Proposal.{Proposal}
 use Rattle.acceptance.specs.Family.{changeOf, changedOf}
 use Rattle.acceptance.specs.declared.Branch.{Branch}
 use Rattle.acceptance.specs.declared.order.Factors.{Factors}
-use Rattle.acceptance.specs.Order.{Settled, heldOf, settleOf, raiseOf, lowerOf, sameLargest, chooseOf}
-use Rattle.acceptance.specs.Order.{forgottenOf, factorsOf as sizesOf, limitedFactorsOf, raisedLeftOf, chooseOrderOf}
+use Rattle.acceptance.specs.Order.{Settled, heldOf, settleOf, raiseOf, lowerOf, sameLargest, chooseOf, forgottenOf}
+use Rattle.acceptance.specs.Order.{factorsOf as sizesOf, limitedFactorsOf, raisedLeftOf, chooseOrderOf}
 use Rattle.acceptance.specs.Accept.{correctedOf, countedDown, keepFamilyOf, testedOf, testFamilyOf, acceptOf}
 use Rattle.between_steps.specs.Begin.{setupOf}
 use Rattle.invariants.proofs.Floats.{either}

@@ -13,9 +13,9 @@ use Rattle.questions.specs.declared.Phase.the-variants as Phase
 use Rattle.questions.specs.declared.Question.{Question}
 use Rattle.questions.specs.declared.Question.the-variants as Question
 use Rattle.questions.specs.Turns.{RunState}
-use Rattle.rules.specs.Play.{derivativeAt, jacobianAt}
+use Rattle.rules.specs.Play.{derivativeAt, jacobianAt, finished, stepRefused, weightRefused, exhausted, Play, ret}
+use Rattle.rules.specs.Play.{ask, tell, say}
 use Rattle.common.specs.State.{Given}
-use Rattle.rules.specs.Play.{finished, stepRefused, weightRefused, exhausted, Play, ret, ask, tell, say}
 use Rattle.refinement.specs.Shown.{Shown, wantsDerivative, wantsJacobian, reports, ends, refusesStep, refusesWeight}
 use Rattle.refinement.specs.Shown.{refuses, stuck, wantedAt, shownAs}
 use Rattle.refinement.specs.AtNode.{AtNode}

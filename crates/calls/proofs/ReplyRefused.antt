@@ -16,6 +16,8 @@ use lib.ListN.{length}
 use borrow.Author.Tests.{eqb-true, eqb-false, lt-leb}
 use Rattle.loops.specs.Test.{differs, both, one-of}
 use Rattle.numbers.specs.Float.{zeroF}
+use Rattle.common.specs.Limits.{maxStates}
+use Rattle.common.specs.SessionWords.{sessionLength}
 use Rattle.common.specs.declared.Settings.{Settings}
 use Rattle.questions.specs.declared.Phase.{Phase}
 use Rattle.questions.specs.declared.Phase.the-variants as Phase
@@ -25,7 +27,7 @@ use Rattle.between_steps.specs.Replies.{isDerivative, isJacobian, isAnswer}
 use Rattle.words.proofs.Rows.{counts-at}
 use Rattle.session.specs.States.{phaseOf}
 use Rattle.session.specs.Session.{decodeOf, rtolOf, atolOf, finishedIn, inRangeOf}
-use Rattle.session.specs.Names as Word
+use Rattle.session.specs.Names.{nWord, phaseWord}
 use Rattle.session.specs.InRange.{InRange}
 use Rattle.session.proofs.InRange.{in-range}
 use Rattle.session.proofs.Back.{stored-n}
@@ -194,13 +196,13 @@ two false t a b = refl
 abbrev pub withIn : Buffers → With
 withIn b = record { rtol = rtolOf (b .session); atol = atolOf (b .session); work = b .work; ipiv = b .pivots }
 
-pub stored-phase : (b : List ℕ) → decodeOf b .phase ≡ phaseOf (Word.phase b)
+pub stored-phase : (b : List ℕ) → decodeOf b .phase ≡ phaseOf (phaseWord b)
 unfolding decodeOf
 stored-phase b = ap phaseOf (counts-at b 0 (lit< tt))
 
 module _ (kind : ℕ) (numbers : List Float) (time : Float) (b : Buffers) where
   abbrev n : ℕ
-  n = Word.n (b .session)
+  n = nWord (b .session)
 
   abbrev leaves : ℕ → Called
   leaves k = record { reply = plainReply k 0 zeroF zeroF; lent = b }
@@ -210,10 +212,10 @@ module _ (kind : ℕ) (numbers : List Float) (time : Float) (b : Buffers) where
 
   -- the six tests
   abbrev unlong : Bool
-  unlong = not (eqb (length (b .session)) 1448)
+  unlong = not (eqb (length (b .session)) sessionLength)
 
   abbrev unstated : Bool
-  unstated = eqb n 0 || ltb 64 n
+  unstated = eqb n 0 || ltb maxStates n
 
   abbrev unsized : Bool
   unsized = not (eqb (length (b .work)) (n * n + 19 * n))
@@ -233,10 +235,10 @@ module _ (kind : ℕ) (numbers : List Float) (time : Float) (b : Buffers) where
       (cond (finishedIn (b .session)) (plain 14) (cond outside (plain 13) (cond (not (isKind kind)) (plain 14) none)))))
   unfolding replyRefusalOf
   refusal-is =
-      ap (λ (r : Refusal). cond unlong (plain 3) (cond (eqb n 0) (plain 13) (cond (ltb 64 n) (plain 13) r)))
+      ap (λ (r : Refusal). cond unlong (plain 3) (cond (eqb n 0) (plain 13) (cond (ltb maxStates n) (plain 13) r)))
       (lengths-are n (length (b .work)) (length (b .pivots)) (length (b .question)) _
       ∙ ap (cond unsized (plain 3)) (stored-are (isKind kind) (b .pivots) (b .session)))
-      ∙ ap (cond unlong (plain 3)) (two (eqb n 0) (ltb 64 n) (plain 13) _)
+      ∙ ap (cond unlong (plain 3)) (two (eqb n 0) (ltb maxStates n) (plain 13) _)
 
   at-cond : (t : Bool) (k : ℕ) (r : Refusal) → eqb k 0 ≡ false
       → replyAt (cond t (plain k) r) kind numbers time b ≡ cond t (leaves k) (replyAt r kind numbers time b)
@@ -294,11 +296,11 @@ module _ (kind : ℕ) (numbers : List Float) (time : Float) (b : Buffers) where
   outcome : Says (replyOf kind numbers time b) (replyRows kind numbers b)
   outcome =
       rw reply-is
-      (says-row unlong 3 (denied _ (equal (length (b .session)) 1448))
-      (says-row unstated 13 (or (eqb n 0) (ltb 64 n) (equal n 0) (smaller 64 n))
+      (says-row unlong 3 (denied _ (equal (length (b .session)) sessionLength))
+      (says-row unstated 13 (or (eqb n 0) (ltb maxStates n) (equal n 0) (smaller maxStates n))
       (says-row unsized 3 (or _ _ (denied _ (equal (length (b .work)) (n * n + 19 * n)))
       (or _ _ (denied _ (equal (length (b .pivots)) n)) (denied _ (equal (length (b .question)) (14 * n + 6)))))
-      (says-row (finishedIn (b .session)) 14 (equal (Word.phase (b .session)) 10)
+      (says-row (finishedIn (b .session)) 14 (equal (phaseWord (b .session)) 10)
       (says-row outside 13 (denied _ in-ranges)
       (says-row (not (isKind kind && isNow)) 14 (denied _ asked-now) (takes tt refl)))))))
 

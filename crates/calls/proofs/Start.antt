@@ -19,6 +19,8 @@ use Rattle.vectors.specs.Tolerance.{List1OrN}
 use Rattle.history.proofs.Filled.{filled}
 use Rattle.questions.specs.declared.Session.{Session}
 use Rattle.questions.specs.Requires.{Resumes}
+use Rattle.common.specs.SessionWords.{rtolAt, atolAt, sessionLength}
+use Rattle.common.specs.Limits.{maxStates}
 use Rattle.common.specs.Initial.{initialOf}
 use Rattle.refusals.specs.Start.{acceptedSettings}
 use Rattle.session.specs.Fields.{countsOf, FloatsFit, Fits}
@@ -121,7 +123,7 @@ module _ (p : Problem) (b : Buffers) (begins : Begins p b) where
         natol = formed .atol;
       }
 
-  room : 1448 ≤ length (b .session)
+  room : sessionLength ≤ length (b .session)
   room = omega (arith, formed .session)
 
   floats : FloatsFit x
@@ -148,7 +150,7 @@ module _ (p : Problem) (b : Buffers) (begins : Begins p b) where
     floats = floats;
   }
 
-  short : (list : List Float) → OneOrN (length (p .y0)) (length list) → length list ≤ 64
+  short : (list : List Float) → OneOrN (length (p .y0)) (length list) → length list ≤ maxStates
   short list (inl e) = omega arith
   short list (inr e) = omega (arith, formed .states .1)
 
@@ -179,7 +181,7 @@ module _ (p : Problem) (b : Buffers) (begins : Begins p b) where
   unfolding acceptedSettings
   begun-keeps =
       let e = encodeOf x (b .session) in
-      let in-e : 1448 ≤ length e = rw length-encode room in
+      let in-e : sessionLength ≤ length e = rw length-encode room in
       record {
         long = length-put-tolerances (p .rtol) (p .atol) e ∙ length-encode x (b .session)
             ∙ formed .session;
@@ -191,9 +193,9 @@ module _ (p : Problem) (b : Buffers) (begins : Begins p b) where
         rtol = rtol-put (p .rtol) (p .atol) e in-e (short (p .rtol) (formed .rtol)) rtol-fits;
         atol = atol-put (p .rtol) (p .atol) e in-e (short (p .atol) (formed .atol)) atol-fits;
         slots = (
-          slots-put bytes 53 (p .rtol) (short (p .rtol) (formed .rtol)) rtol-fits
+          slots-put bytes rtolAt (p .rtol) (short (p .rtol) (formed .rtol)) rtol-fits
               (rtol-slot (p .rtol) (p .atol) e in-e rtol-fits),
-          slots-put bytes 117 (p .atol) (short (p .atol) (formed .atol)) atol-fits
+          slots-put bytes atolAt (p .atol) (short (p .atol) (formed .atol)) atol-fits
               (atol-slot (p .rtol) (p .atol) e in-e atol-fits),
         );
         signs = signs;

@@ -23,6 +23,8 @@ use Rattle.vectors.specs.Tolerance.{toleranceOf}
 use Rattle.vectors.specs.Weights.{ewsetOf, invertOf}
 use Rattle.vectors.proofs.Examples.{sum-3}
 use Rattle.dense.proofs.Examples.{sum-4-factored, sum-4-solved, sum-5-zero, sum-5-nan}
+use Rattle.common.specs.Initial as Initial
+use Rattle.common.specs.SessionWords.{sessionLength}
 use Rattle.common.specs.Layout.{column}
 use Rattle.common.specs.Rules.{firstCallInitOf, resetOf}
 use Rattle.history.specs.Columns.{predictColumnsOf, retractColumnsOf, rescaleColumnsOf, addScaledOf, correctColumnsOf}
@@ -72,7 +74,7 @@ use Rattle.calls.proofs.Host.{hosted, allowed, Host, said-shown, hosts}
 -- ---- a row that is accepted
 
 abbrev pub sizes : Lengths
-sizes = record { n = 1; rtol = 1; atol = 1; work = 20; pivots = 1; session = 1448; question = 20 }
+sizes = record { n = 1; rtol = 1; atol = 1; work = 20; pivots = 1; session = sessionLength; question = 20 }
 
 one-fits : (v : Float) → Fit v → ListFits (v ∷ [])
 one-fits v f zero h = f
@@ -245,7 +247,7 @@ unfolding allowed hosted shownAs acceptedSettings givenStepOf Refusals.smallestO
     Turns.beganOf Turns.goOnAt Turns.goOnOf Pass.attemptedAt Pass.reportedOf Pass.closedAt Pass.endStepOf
     Pass.acceptedAt
     Pass.acceptedOf Pass.errorTestAt Pass.errorTestOf Pass.passFailedOf Pass.concludedAt Pass.iterateOf
-    Pass.iterationsOf Pass.openedReplyAt Pass.openedReplyOf Pass.furtherReplyOf Reports.initialOf Start.firstSizeOf
+    Pass.iterationsOf Pass.openedReplyAt Pass.openedReplyOf Pass.furtherReplyOf Initial.initialOf Start.firstSizeOf
     Reports.sizedAt Reports.sizedOf Reports.weightedAt Reports.firstDerivativeOf Reports.afterFirstReportOf
     Reports.afterReportOf Attempt.retractedOf Attempt.repredictOf Attempt.errorOf Attempt.shrunkOf Attempt.missedAt
     Attempt.missedOf Attempt.overshotOf Attempt.failedOf Attempt.unconvergedOf Attempt.quarteredOf

@@ -29,8 +29,8 @@ use Rattle.jacobian.specs.Jacobian.{beginOf, finishJacobianOf as factorsOf}
 use Rattle.corrector.specs.declared.Pass.{Pass}
 use Rattle.corrector.specs.declared.Pass.the-variants as Pass
 use Rattle.corrector.specs.Iterate.{openOf, correctOf}
-use Rattle.attempt.specs.Attempt.{poorOf, noConvergenceAt, noConvergenceOf, errorOf, missedAt, missedOf}
-use Rattle.attempt.specs.Attempt.{overshotOf, failedOf, retractedWork}
+use Rattle.attempt.specs.Attempt.{poorOf, noConvergenceAt, noConvergenceOf, errorOf, missedAt, missedOf, overshotOf}
+use Rattle.attempt.specs.Attempt.{failedOf, retractedWork}
 use Rattle.attempt.specs.Attempt as Attempt
 use Rattle.acceptance.specs.declared.Branch.{Branch}
 use Rattle.acceptance.specs.declared.Branch.the-variants as Branch
@@ -45,22 +45,17 @@ use Rattle.questions.specs.declared.Session.{Session}
 use Rattle.between_steps.specs.declared.Status.the-variants as Status
 use Rattle.questions.specs.declared.Turn.{Turn}
 use Rattle.questions.specs.Turns.{askedOf, askedInStepOf, finishedOf}
-use Rattle.between_steps.specs.Start.{withDerivative}
-use Rattle.questions.specs.Begin.{openPassOf}
-use Rattle.between_steps.specs.Begin.{isCut, cutOf, preparedAt, preparedOf, predictedAt, firstPredictionOf}
-use Rattle.questions.specs.Begin.{beganOf, goOnAt, goOnOf}
-use Rattle.between_steps.specs.Begin.{isGoing}
+use Rattle.between_steps.specs.Start.{withDerivative, firstStepOf, restartOf}
+use Rattle.questions.specs.Begin.{openPassOf, beganOf, goOnAt, goOnOf}
+use Rattle.between_steps.specs.Begin.{isCut, cutOf, preparedAt, preparedOf, predictedAt, firstPredictionOf, isGoing}
 use Rattle.passes.specs.Pass.{attemptedAt, attemptedOf, reportedOf, closedAt, endStepOf, acceptedAt, acceptedOf}
 use Rattle.passes.specs.Pass.{errorTestAt, errorTestOf, passFailedOf, concludedAt, iterateOf, iterationsOf}
-use Rattle.between_steps.specs.Pass.{verdictOf}
-use Rattle.passes.specs.Pass.{matrixDoneAt, matrixDoneOf, askColumnOf, askJacobianAt, askJacobianOf}
-use Rattle.between_steps.specs.Pass.{isSupplied}
-use Rattle.passes.specs.Pass.{openedReplyAt, openedReplyOf, jacobianReplyOf, columnReplyAt, columnReplyOf}
-use Rattle.passes.specs.Pass.{furtherReplyOf, restepReplyOf}
+use Rattle.passes.specs.Pass.{matrixDoneAt, matrixDoneOf, askColumnOf, askJacobianAt, askJacobianOf, openedReplyAt}
+use Rattle.passes.specs.Pass.{openedReplyOf, jacobianReplyOf, columnReplyAt, columnReplyOf, furtherReplyOf}
+use Rattle.passes.specs.Pass.{restepReplyOf}
+use Rattle.between_steps.specs.Pass.{verdictOf, isSupplied}
 use Rattle.reports.specs.Reports.{sizedAt, sizedOf, weightedAt, firstDerivativeOf, afterFirstReportOf}
-use Rattle.between_steps.specs.Start.{firstStepOf}
 use Rattle.reports.specs.Reports.{firstModifiedOf, afterReportOf, modifiedOf}
-use Rattle.between_steps.specs.Start.{restartOf}
 use Rattle.machine.specs.Resume.{With, isAsked, unasked, dealtOf, resumeOf}
 use Rattle.calls.specs.ReplyMeans.{HeldAtEnd, Meant}
 use Rattle.calls.proofs.Agrees.{Agrees}

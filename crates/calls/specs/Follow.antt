@@ -12,6 +12,7 @@ use lib.ListN.{length, replicate}
 use lib.Ieee.{Float}
 use Rattle.loops.specs.Part.{putPart}
 use Rattle.numbers.specs.Float.{zeroF}
+use Rattle.common.specs.SessionWords.{sessionLength}
 use Rattle.common.specs.Limits.{maxStates}
 use Rattle.between_steps.specs.declared.Kind.the-variants as Kind
 use Rattle.questions.specs.declared.Phase.{Phase}
@@ -164,7 +165,7 @@ abbrev pub slotsOf : List Float → List Float
 slotsOf list = list ++ replicate (maxStates - length list) zeroF
 
 pub record SessionAt (p : Problem) (b : Buffers) (t : Play) (bytes : List ℕ) : Type 0 where
-  pub sized : length bytes ≡ 1448
+  pub sized : length bytes ≡ sessionLength
   pub settings : decodeOf bytes .settings ≡ givenOf p b .s
   pub common : decodeOf bytes .common ≡ stateAt t .c
   pub phase : PhaseAt (length (p .y0)) t (decodeOf bytes .phase)

@@ -10,12 +10,13 @@ use Prim.Native.Nat.{ℕ, _+_, _*_, _<_}
 use lib.ListN.{length}
 use lib.Ieee.{Float}
 use Rattle.numbers.specs.Float.{zeroF}
+use Rattle.common.specs.SessionWords.{sessionLength}
 use Rattle.common.specs.Layout.{workLength}
 use Rattle.common.specs.Limits.{maxStates}
 use Rattle.questions.specs.declared.Phase.{Phase}
 use Rattle.questions.specs.declared.Phase.the-variants as Phase
 use Rattle.session.specs.States.{phaseOf}
-use Rattle.session.specs.Names as Word
+use Rattle.session.specs.Names.{nWord, phaseWord}
 use Rattle.session.specs.InRange.{InRange}
 use Rattle.refusals.specs.Rows.{Row, row, NoneHolds, FirstIs}
 use Rattle.answers.specs.Answers.{plainReply}
@@ -52,19 +53,19 @@ Asked nothing n kind len = ⊥
 
 -- what the stored session waits for
 abbrev pub phaseIn : Buffers → Phase
-phaseIn b = phaseOf (Word.phase (b .session))
+phaseIn b = phaseOf (phaseWord (b .session))
 
 -- ---- the rows of a reply
 
 abbrev pub replyRows : ℕ → List Float → Buffers → List Row
 replyRows kind numbers b =
-    let n = Word.n (b .session) in
+    let n = nWord (b .session) in
     -- the session's length; a stored n that is no number of states; the lengths that need n
-    row 3 (length (b .session) ≢ 1448)
+    row 3 (length (b .session) ≢ sessionLength)
     ∷ row 13 ((n ≡ 0) ⊎ (maxStates < n))
     ∷ row 3 ((length (b .work) ≢ workLength n) ⊎ (length (b .pivots) ≢ n) ⊎ (length (b .question) ≢ 14 * n + 6))
     -- finished: the other values always pass 13
-    ∷ row 14 (Word.phase (b .session) ≡ 10)
+    ∷ row 14 (phaseWord (b .session) ≡ 10)
     -- a value out of range
     ∷ row 13 (InRange (b .session) (b .pivots) → ⊥)
     -- of another kind or length than asked

@@ -16,6 +16,7 @@ use Rattle.vectors.specs.Norm.{vmnormOf}
 use Rattle.dense.specs.Factor.{factorOf}
 use Rattle.dense.specs.Solve.{solveOf}
 use Rattle.interpolation.specs.Evaluate.{outputs, interpolateOf}
+use Rattle.common.specs.SessionWords.{sessionLength}
 use Rattle.common.specs.Layout.{column}
 use Rattle.refusals.specs.declared.Options.{Options}
 use Rattle.answers.specs.declared.Reply.{Reply}
@@ -104,7 +105,7 @@ pub data Act : Type 0 where
 pub record LentOne (b : Buffers) (q : ℕ → List Float) : Type 0 where
   pub work : length (b .work) ≡ 20
   pub pivots : length (b .pivots) ≡ 1
-  pub session : length (b .session) ≡ 1448
+  pub session : length (b .session) ≡ sessionLength
   pub question : length (b .question) ≡ 20
   pub replies : (i : ℕ) → length (q i) ≡ 20
 

@@ -9,6 +9,7 @@ use lib.ListN.{length, getD}
 use lib.Ieee as Ieee
 use lib.Ieee.{nan}
 use Rattle.numbers.specs.Float.{_⊖_, zeroF}
+use Rattle.common.specs.SessionWords.{sessionLength}
 use Rattle.common.specs.Layout.{workLength}
 use Rattle.common.specs.Limits.{maxStates}
 use Rattle.refusals.specs.FirstStep.{StepTaken}
@@ -21,10 +22,10 @@ pub record WellFormed (p : Problem) (b : Buffers) : Type 0 where
   -- tolerance lists 1 or n long
   pub rtol : (length (p .rtol) ≡ 1) ⊎ (length (p .rtol) ≡ length (p .y0))
   pub atol : (length (p .atol) ≡ 1) ⊎ (length (p .atol) ≡ length (p .y0))
-  -- n·n + 19·n numbers of work, n pivots, 1448 bytes of session, 14·n + 6 numbers of question
+  -- n·n + 19·n numbers of work, n pivots, sessionLength bytes of session, 14·n + 6 numbers of question
   pub work : length (b .work) ≡ workLength (length (p .y0))
   pub pivots : length (b .pivots) ≡ length (p .y0)
-  pub session : length (b .session) ≡ 1448
+  pub session : length (b .session) ≡ sessionLength
   pub question : length (b .question) ≡ 14 * length (p .y0) + 6
   -- settings up to 1,000,000, four of them not 0
   pub maxsteps : (1 ≤ p .options .«max_steps») × (p .options .«max_steps» ≤ 1000000)
