@@ -26,7 +26,7 @@ use Rattle.common.specs.Limits.{maxStates}
 use Rattle.common.specs.SessionWords.{sessionLength}
 use Rattle.common.specs.State.{Given}
 use Rattle.rules.specs.Rules.{Start}
-use Rattle.refinement.specs.Shown.{sessionOf, resumed, isTaken}
+use Rattle.refinement.specs.Shown.{sessionFound, resumed, isTaken}
 use Rattle.answers.specs.Answers.{plainReply, questionReply}
 use Rattle.answers.specs.Called.{Buffers, Called}
 use Rattle.raimsklo.specs.Replies.{isKind, kindOf, questionOf, turnWrittenOf, turned, written, acceptedReplyOf}
@@ -125,7 +125,7 @@ module _ (g : Given) (a : Start) (run : Runs g a) (l : RunState) (bytes : List �
     abbrev taken : RunState → Called
     taken m = record {
       reply = questionReply (m .turn .question);
-      lent = lentOf m (encodeOf (sessionOf g m) bytes)
+      lent = lentOf m (encodeOf (sessionFound g m) bytes)
           (questionOf (g .s) (m .turn .phase) (m .turn .common) (m .work) (r .question));
     }
 

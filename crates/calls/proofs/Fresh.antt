@@ -24,7 +24,7 @@ use Rattle.refusals.specs.Start.{acceptedSettings}
 use Rattle.common.specs.SessionWords.{countWords, floatWords, rtolAt, atolAt, sessionLength}
 use Rattle.common.specs.Limits.{maxStates}
 use Rattle.common.specs.State.{Given}
-use Rattle.refinement.specs.Shown.{sessionOf}
+use Rattle.refinement.specs.Shown.{sessionFound}
 use Rattle.refinement.specs.AtNode.{startedAt}
 use Rattle.answers.specs.Called.{Buffers, Called}
 use Rattle.raimsklo.specs.Calls.{Problem}
@@ -122,7 +122,7 @@ module _ (p : Problem) (b c : Buffers) (v : WellFormed p b) (w : WellFormed p c)
   same-bytes : begunBytes p b ≡ begunBytes p c
   unfolding acceptedSettings
   same-bytes =
-      kept-fresh (sessionOf (givenOf p b) (left (givenOf p b))) (p .rtol) (p .atol) (b .session) (c .session)
+      kept-fresh (sessionFound (givenOf p b) (left (givenOf p b))) (p .rtol) (p .atol) (b .session) (c .session)
       (v .session) (w .session)
 
   pub starts-fresh : StartsFresh p b c

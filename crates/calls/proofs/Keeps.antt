@@ -31,7 +31,7 @@ use Rattle.common.specs.SessionWords.{sessionLength}
 use Rattle.common.specs.State.{Given}
 use Rattle.rules.specs.Rules.{Start}
 use Rattle.rules.specs.Replies.{Reply as Fed}
-use Rattle.refinement.specs.Shown.{sessionOf, withOf, resumed}
+use Rattle.refinement.specs.Shown.{sessionFound, withOf, resumed}
 use Rattle.refinement.specs.InRun.{Accepts, InRun}
 use Rattle.between_steps.proofs.Within.{coreOf}
 use Rattle.invariants.proofs.Ranges.{Closing}
@@ -83,8 +83,8 @@ pub record Keeps (g : Given) (l : RunState) (bytes : List ℕ) : Type 0 where
   pub atol : part 0 (g .s .natol) (atolSlots bytes) ≡ g .atol
   pub slots : (rtolSlots bytes ≡ slotsOf (g .rtol)) × (atolSlots bytes ≡ slotsOf (g .atol))
   pub signs : tolerancesInRange bytes (g .s) ≡ true
-  pub floats : FloatsFit (sessionOf g l)
-  pub decoded : decodeOf bytes ≡ sessionOf g l
+  pub floats : FloatsFit (sessionFound g l)
+  pub decoded : decodeOf bytes ≡ sessionFound g l
   pub found : isOver (l .turn .phase) ≡ false → Found g l bytes
 
 -- ---- an encoding
@@ -104,7 +104,7 @@ module _ (g : Given) (a : Start) (run : Runs g a) where
     pub counts : Counts (l .turn .common) (2 ^ 62 - 1)
     pub low : Low 0 (l .turn .common)
 
-  pub counts-fit-of : (l : RunState) → Bounded l → CountsFit (sessionOf g l)
+  pub counts-fit-of : (l : RunState) → Bounded l → CountsFit (sessionFound g l)
   counts-fit-of l h =
       let s = run .ok .settings in
       let c = l .turn .common in
@@ -140,14 +140,14 @@ module _ (g : Given) (a : Start) (run : Runs g a) where
         column = omega (arith, o .column, s .n);
       }
 
-  pub found-after : (l : RunState) (bytes : List ℕ) → sessionLength ≤ length bytes → Fits (sessionOf g l)
+  pub found-after : (l : RunState) (bytes : List ℕ) → sessionLength ≤ length bytes → Fits (sessionFound g l)
       → tolerancesInRange bytes (g .s) ≡ true → Low 0 (l .turn .common)
-      → Resumes (sessionOf g l) (g .rtol) (g .atol) (l .work) (l .ipiv)
-      → Found g l (encodeOf (sessionOf g l) bytes)
+      → Resumes (sessionFound g l) (g .rtol) (g .atol) (l .work) (l .ipiv)
+      → Found g l (encodeOf (sessionFound g l) bytes)
   found-after l bytes room fits signs low r =
       let c = l .turn .common in
       record {
-        passed = passes (sessionOf g l) bytes room fits (r .ranges) (run .nrtol) (run .natol) signs (l .ipiv)
+        passed = passes (sessionFound g l) bytes room fits (r .ranges) (run .nrtol) (run .natol) signs (l .ipiv)
             (pivots-below (r .lent));
         ialth = low-ialth (c .nq) (c .ialth) (r .ranges .orders .nq .1) low;
       }
@@ -160,17 +160,17 @@ module _ (g : Given) (a : Start) (run : Runs g a) where
     after = resumed g l r
 
     abbrev written : List ℕ
-    written = encodeOf (sessionOf g after) bytes
+    written = encodeOf (sessionFound g after) bytes
 
     pub keeps-next : Keeps g after written
     keeps-next =
         let room : sessionLength ≤ length bytes = omega (arith, k .long) in
-        let x = sessionOf g after in
-        let floats = floats-kept (sessionOf g l) (r .kind) (r .numbers) (r .time) (withOf g l) (k .floats) time in
+        let x = sessionFound g after in
+        let floats = floats-kept (sessionFound g l) (r .kind) (r .numbers) (r .time) (withOf g l) (k .floats) time in
         let fits : Fits x = record { counts = counts-fit-of after bounded; floats = floats } in
         record {
           long = length-encode x bytes ∙ k .long;
-          lent = resume-lent (sessionOf g l) (r .numbers) (r .time) (withOf g l) (k .lent) (r .kind);
+          lent = resume-lent (sessionFound g l) (r .numbers) (r .time) (withOf g l) (k .lent) (r .kind);
           states = encoded-count x bytes room 1 (lit< tt) (omega (arith, run .ok .settings .n .1));
           finished = finished-encode x bytes room;
           rtol = rw (rtol-kept x bytes room) (k .rtol);

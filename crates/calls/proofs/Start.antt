@@ -32,7 +32,7 @@ use Rattle.session.proofs.Passes.{assembled, fields-in-range, pivots-in-range, 
 use Rattle.session.proofs.Listed.{counts-fit}
 use Rattle.common.specs.State.{Given}
 use Rattle.rules.specs.Rules.{Start, beginning}
-use Rattle.refinement.specs.Shown.{sessionOf, reachedAfter}
+use Rattle.refinement.specs.Shown.{sessionFound, reachedAfter}
 use Rattle.refinement.specs.AtNode.{startedAt}
 use Rattle.refinement.proofs.Kept.{session-kept}
 use Rattle.invariants.proofs.Fits.{start-fits}
@@ -63,7 +63,7 @@ module _ (p : Problem) (b : Buffers) where
   from = fromOf p
 
   abbrev first : Session
-  first = sessionOf given (startedAt given from)
+  first = sessionFound given (startedAt given from)
 
   abbrev pub begunBytes : List ℕ
   begunBytes = putTolerancesOf (p .rtol) (p .atol) (encodeOf first (b .session))

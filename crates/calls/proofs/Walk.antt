@@ -30,7 +30,7 @@ use Rattle.rules.specs.Play.{Play}
 use Rattle.common.specs.State.{Given}
 use Rattle.rules.specs.Rules.{Start, beginning, start}
 use Rattle.rules.specs.Replies.{Reply as Fed}
-use Rattle.refinement.specs.Shown.{sessionOf, withOf, resumed, reachedAfter, isTaken, asks, treeNext}
+use Rattle.refinement.specs.Shown.{sessionFound, withOf, resumed, reachedAfter, isTaken, asks, treeNext}
 use Rattle.refinement.specs.AtNode.{AtNode, startedAt}
 use Rattle.refinement.specs.InRun.{InRun}
 use Rattle.refinement.proofs.Follows.{replies, follows}
@@ -147,7 +147,7 @@ module _ (g : Given) (a : Start) (run : Runs g a) where
 
       well : Well 0 (m .turn)
       well =
-          resume-well 0 (sessionOf g l) (r .numbers) (r .time) (withOf g l) (at .keeps .found running .ialth)
+          resume-well 0 (sessionFound g l) (r .numbers) (r .time) (withOf g l) (at .keeps .found running .ialth)
           (kindOf (r .kind)) is-taken
 
       stands : AtNode g (treeNext t (fedAs r)) m
@@ -156,7 +156,7 @@ module _ (g : Given) (a : Start) (run : Runs g a) where
       reached : Reached m
       reached = reached-next l (fedAs r) (at .reached)
 
-      keeps : Keeps g m (encodeOf (sessionOf g m) (x .lent .session))
+      keeps : Keeps g m (encodeOf (sessionFound g m) (x .lent .session))
       keeps =
           keeps-next g a run l (x .lent .session) (at .keeps) (fedAs r) (is-f64-fits _ time)
           (bounded m reached (well .low)) (in-run m reached)
@@ -166,7 +166,7 @@ module _ (g : Given) (a : Start) (run : Runs g a) where
 
       answered-taken : replied x r ≡ record {
         reply = questionReply (m .turn .question);
-        lent = lentOf m (encodeOf (sessionOf g m) (x .lent .session)) put;
+        lent = lentOf m (encodeOf (sessionFound g m) (x .lent .session)) put;
       }
       answered-taken =
           answered-is

@@ -23,7 +23,7 @@ use Rattle.rules.specs.Rules.{Start, start}
 use Rattle.rules.specs.Steps.{Step, noted, marked}
 use Rattle.rules.specs.Replies.{Reply, Progress, answerGiven, waits, fed}
 use Rattle.refinement.specs.Shown.{shownAs, shownBy, shownAt, asks, resumed, isTaken, treeNext}
-use Rattle.refinement.specs.Shown.{sessionOf, withOf, reachedAfter, heard, treeAnswers, notRefused, heardTaken}
+use Rattle.refinement.specs.Shown.{sessionFound, withOf, reachedAfter, heard, treeAnswers, notRefused, heardTaken}
 use Rattle.refinement.specs.Shown.{givenTaken}
 use Rattle.refinement.specs.AtNode.{SameState, Arrived, AtNode, startedAt}
 use Rattle.refinement.specs.Follows.{Unchanged, stateAt, Follows}
@@ -83,7 +83,7 @@ module _ (g : Given) where
   -- ---- a list of replies
 
   abbrev again : RunState → RunState
-  again l = unasked (sessionOf g l) (withOf g l)
+  again l = unasked (sessionFound g l) (withOf g l)
 
   -- a reply is taken by both or refused by both
   data Turn (p : Play) (l : RunState) (r : Reply) : Type 0 where

@@ -29,7 +29,7 @@ use Rattle.invariants.proofs.Keeps.{Invariant, Held, HoldsIn, each, Keeps}
 use Rattle.invariants.proofs.Walk.{resume-keeps}
 use Rattle.invariants.proofs.Lent.{lent-keeps}
 use Rattle.invariants.proofs.Ranges.{Closing, closing-of, Ranged, ClosingAt, ranges-keep, within-initial}
-use Rattle.refinement.specs.Shown.{sessionOf, withOf, resumed, reachedAfter}
+use Rattle.refinement.specs.Shown.{sessionFound, withOf, resumed, reachedAfter}
 use Rattle.refinement.specs.AtNode.{startedAt}
 use Rattle.refinement.specs.Follows.{stateAt}
 use Rattle.refinement.specs.InRun.{Accepts, SessionKept}
@@ -74,7 +74,7 @@ module _ (g : Given) (a : Start) (ok : Accepts g a) where
   after-keeps k l [] h = h
   after-keeps k l (r ∷ rs) h =
       after-keeps k (resumed g l r) rs
-      (resume-keeps (sessionOf g l) (r .kind) (r .numbers) (r .time) (withOf g l) (k (r .time)) h)
+      (resume-keeps (sessionFound g l) (r .kind) (r .numbers) (r .time) (withOf g l) (k (r .time)) h)
 
   -- at most as many steps as may be, so icount is at least 20
   abbrev InRanges : RunState → Type 0
@@ -119,7 +119,7 @@ module _ (g : Given) (a : Start) (ok : Accepts g a) where
     where
       resumes : (under : ℕ) → let l = reachedAfter g (startedAt g a) rs in
           Within (g .s) icount20 (g .s .maxsteps) under (coreOf (l .turn .common))
-          → Resumes (sessionOf g l) (g .rtol) (g .atol) (l .work) (l .ipiv)
+          → Resumes (sessionFound g l) (g .rtol) (g .atol) (l .work) (l .ipiv)
       resumes under h = record {
         ranges = record {
           settings = ok .settings;

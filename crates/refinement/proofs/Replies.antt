@@ -24,19 +24,19 @@ use Rattle.questions.specs.Turns.{RunState}
 use Rattle.machine.specs.Resume.{isAsked, unasked, dealtOf, resumeOf}
 use Rattle.rules.specs.Play.{derivativeAt, jacobianAt, Play, ask}
 use Rattle.rules.specs.Replies.{Reply}
-use Rattle.refinement.specs.Shown.{wantedAt, shownAs, sessionOf, withOf, resumed, isTaken}
+use Rattle.refinement.specs.Shown.{wantedAt, shownAs, sessionFound, withOf, resumed, isTaken}
 use Rattle.refinement.specs.AtNode.{derivative, jacobian, answer, AtNode}
 
 -- what the phase does with a reply
 abbrev pub dealt : Given → RunState → Reply → RunState
-dealt g l r = dealtOf (sessionOf g l) (l .turn .phase) (r .kind) (r .numbers) (r .time) (withOf g l)
+dealt g l r = dealtOf (sessionFound g l) (l .turn .phase) (r .kind) (r .numbers) (r .time) (withOf g l)
 
 module _ (g : Given) (l : RunState) where
   pub takes : (r : Reply) → isTaken g l r ≡ true → resumed g l r ≡ dealt g l r
   unfolding resumeOf
   takes r e = rw e
 
-  pub refuses : (r : Reply) → isTaken g l r ≡ false → resumed g l r ≡ unasked (sessionOf g l) (withOf g l)
+  pub refuses : (r : Reply) → isTaken g l r ≡ false → resumed g l r ≡ unasked (sessionFound g l) (withOf g l)
   unfolding resumeOf
   refuses r e = rw e
 

@@ -81,14 +81,14 @@ abbrev pub shownBy : ℕ → RunState → Shown
 shownBy n l = shownAs n (l .turn .question) (l .turn .phase) (l .turn .common) (l .work)
 
 -- what the next reply finds
-abbrev pub sessionOf : Given → RunState → Session
-sessionOf g l = record { settings = g .s; common = l .turn .common; phase = l .turn .phase }
+abbrev pub sessionFound : Given → RunState → Session
+sessionFound g l = record { settings = g .s; common = l .turn .common; phase = l .turn .phase }
 
 abbrev pub withOf : Given → RunState → With
 withOf g l = record { rtol = g .rtol; atol = g .atol; work = l .work; ipiv = l .ipiv }
 
 abbrev pub resumed : Given → RunState → Reply → RunState
-resumed g l r = resumeOf (sessionOf g l) (r .kind) (r .numbers) (r .time) (withOf g l)
+resumed g l r = resumeOf (sessionFound g l) (r .kind) (r .numbers) (r .time) (withOf g l)
 
 -- where a run stands after a list of replies, refused ones included
 unfoldable pub reachedAfter : Given → RunState → List Reply → RunState
