@@ -8,10 +8,11 @@ use native.Mathlib.Omega.{arith}
 use lib.Dec.{eqb, ltb}
 use lib.Ieee.{Float}
 use borrow.Author.Tests.{eqb-false}
+use Rattle.loops.specs.Test.{chosen-by}
 use Rattle.common.specs.declared.Settings.{Settings}
 use Rattle.common.specs.declared.Common.{Common}
 use Rattle.history.specs.Steps.{adjustOf}
-use Rattle.history.proofs.Laws.{chosen-if, length-rescale}
+use Rattle.history.proofs.Laws.{length-rescale}
 use Rattle.acceptance.specs.declared.family.Change.{Change}
 use Rattle.acceptance.specs.declared.family.Change.the-variants.{Stay, Gap, To}
 use Rattle.acceptance.specs.declared.family.Move.{Move}
@@ -26,7 +27,7 @@ module _ (s : Settings) (dsm : Float) where
   keep-moves : (c : Common) (work : List Float) → Moves s c (c .ialth) work (keepFamilyOf s c dsm work)
   unfolding keepFamilyOf
   keep-moves c work =
-      chosen-if (Moves s c (c .ialth) work) (eqb (c .ialth - 1) 0)
+      chosen-by (Moves s c (c .ialth) work) (eqb (c .ialth - 1) 0)
       (λ e.
       moves-from s c (c .ialth) (countedDown c) work work _ refl refl refl
       (λ o. same-ready _ refl refl refl refl refl o) refl
@@ -60,7 +61,7 @@ module _ (s : Settings) (dsm : Float) where
   pub test-moves : (c : Common) (work : List Float) → Moves s c (c .ialth) work (testFamilyOf s c dsm work)
   unfolding testFamilyOf
   test-moves c work =
-      chosen-if (Moves s c (c .ialth) work) (ltb (c .icount) 1000000)
+      chosen-by (Moves s c (c .ialth) work) (ltb (c .icount) 1000000)
       (λ e. tested-moves c work (changeOf s c dsm work)
       (λ p. change-within s c dsm work (p .range .order .0) (p .limits .0) (p .limits .1)))
       (λ e. keep-moves c work)

@@ -11,6 +11,8 @@ use lib.ListN.{length, length-set}
 use lib.Ieee as Ieee
 use lib.Ieee.{Float}
 use borrow.Author.Tests.{eqb-false}
+use Rattle.loops.specs.Stores.{length-for}
+use Rattle.loops.specs.Test.{chosen-by}
 use Rattle.numbers.specs.Float.{d1·1}
 use Rattle.numbers.specs.Order.{maxOf}
 use Rattle.common.specs.declared.Settings.{Settings}
@@ -19,7 +21,7 @@ use Rattle.common.specs.Record.{with-h, with-hu, with-rc, with-el0, with-conit,
 use Rattle.common.specs.Record.{with-nq, with-nqnyh, with-ialth, with-icount}
 use Rattle.common.specs.Rules.{resetOf, icount20}
 use Rattle.history.specs.Steps.{leastOf, limitedOf, adjustOf}
-use Rattle.history.proofs.Laws.{chosen-if, length-loop, length-rescale}
+use Rattle.history.proofs.Laws.{length-rescale}
 use Rattle.acceptance.specs.declared.family.Proposal.{Proposal}
 use Rattle.acceptance.specs.declared.Branch.{Branch}
 use Rattle.acceptance.specs.declared.Branch.the-variants.{SmallGain, Lowered, Kept, Raised, HeldBySm1}
@@ -114,22 +116,22 @@ module _ (s : Settings) (k : ℕ) where
       moves-from s c k other work work _ refl refl refl (λ o. reset-ready (p .order) (within o) o) refl
       (taken-moves s other k rh branch work)
       in
-      let taken = chosen-if (λ d. Moves s c k work (orderTakenOf s d rh branch work)) (eqb (p .order) (c .nq))
+      let taken = chosen-by (λ d. Moves s c k work (orderTakenOf s d rh branch work)) (eqb (p .order) (c .nq))
       (λ e. taken-moves s c k rh branch work) (λ e. to-other)
       in
-      chosen-if (Moves s c k work) (heldOf c p) (λ e. three s c k HeldBySm1 work)
-      (λ e. chosen-if (Moves s c k work) (Ieee.lt (p .rh) d1·1) (λ e. three s c k SmallGain work) (λ e. taken))
+      chosen-by (Moves s c k work) (heldOf c p) (λ e. three s c k HeldBySm1 work)
+      (λ e. chosen-by (Moves s c k work) (Ieee.lt (p .rh) d1·1) (λ e. three s c k SmallGain work) (λ e. taken))
 
   length-raise-column : (n j : ℕ) (r : Float) (work : List Float) → length (raiseColumnOf n j r work) ≡ length work
   unfolding raiseColumnOf
-  length-raise-column n j r work = length-loop (raiseColumnAt n j r) 0 n work (λ i t. simp length-set)
+  length-raise-column n j r work = length-for (raiseColumnAt n j r) 0 n work (λ i t. simp length-set)
 
   raise-moves : (c : Common) (up : Float) (work : List Float) → Moves s c k work (raiseOf s c up work)
   unfolding raiseOf
   raise-moves c up work =
       let last = eqb (c .nq + 1) (c .lmax) in
       let small = Ieee.lt up d1·1 in
-      chosen-if (Moves s c k work) (last || small) (λ e. three s c k SmallGain work)
+      chosen-by (Moves s c k work) (last || small) (λ e. three s c k SmallGain work)
       (λ e.
       let more = eqb-false (c .nq + 1) (c .lmax) (first-false last small e) in
       moves-from s c k c work _ _ refl refl refl (λ o. o) (length-raise-column (s .n) (c .nq + 1) _ work)
@@ -138,7 +140,7 @@ module _ (s : Settings) (k : ℕ) where
   lower-moves : (c : Common) (down : Float) (work : List Float) → Moves s c k work (lowerOf s c down work)
   unfolding lowerOf
   lower-moves c down work =
-      chosen-if (Moves s c k work) (eqb (c .nq) 1) (λ e. three s c k SmallGain work)
+      chosen-by (Moves s c k work) (eqb (c .nq) 1) (λ e. three s c k SmallGain work)
       (λ e.
       let more = eqb-false (c .nq) 1 e in
       settled-moves c _ Lowered work (λ o. (omega (arith, more, o .range .order), omega (arith, o .lmax))))
@@ -146,16 +148,16 @@ module _ (s : Settings) (k : ℕ) where
   choose-moves : (c : Common) (f : Factors) (work : List Float) → Moves s c k work (chooseOf s c f work)
   unfolding chooseOf
   choose-moves c f work =
-      chosen-if (Moves s c k work) (sameLargest f)
+      chosen-by (Moves s c k work) (sameLargest f)
       (λ e. settled-moves c _ Kept work (λ o. (o .range .order .0, o .lmax .2)))
-      (λ e. chosen-if (Moves s c k work) (Ieee.lt (f .down) (f .up)) (λ e. raise-moves c (f .up) work)
+      (λ e. chosen-by (Moves s c k work) (Ieee.lt (f .down) (f .up)) (λ e. raise-moves c (f .up) work)
       (λ e. lower-moves c (f .down) work))
 
   length-raised-left : (c : Common) (work : List Float) → length (raisedLeftOf s c work) ≡ length work
   unfolding raisedLeftOf raisedWorkOf
   length-raised-left c work =
-      chosen-if (λ (l : List Float). length l ≡ length work) (eqb (c .nq + 1) (c .lmax)) (λ e. refl)
-      (λ e. length-loop (raisedAt (s .n) (c .lmax)) 0 (s .n) work (λ i t. simp length-set))
+      chosen-by (λ (l : List Float). length l ≡ length work) (eqb (c .nq + 1) (c .lmax)) (λ e. refl)
+      (λ e. length-for (raisedAt (s .n) (c .lmax)) 0 (s .n) work (λ i t. simp length-set))
 
   pub choose-order-moves : (c : Common) (dsm : Float) (work : List Float)
       → Moves s c k work (chooseOrderOf s c dsm work)

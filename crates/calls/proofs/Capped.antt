@@ -30,7 +30,7 @@ use Rattle.rules.proofs.Demands.{demand-3-tree}
 use Rattle.refinement.specs.Shown.{resumed, asks, treeNext}
 use Rattle.refinement.specs.AtNode.{startedAt}
 use Rattle.refinement.specs.Follows.{stateAt}
-use Rattle.sqrt.specs.Rounded.{fits}
+use Rattle.refinement.proofs.Follows.{arrived}
 use Rattle.answers.specs.declared.Reply.{Reply}
 use Rattle.answers.specs.Answers.{plainReply, questionReply}
 use Rattle.answers.specs.Called.{Buffers, Called}
@@ -224,7 +224,7 @@ module _ (g : Given) (a : Start) (run : Runs g a) where
     accepted-is : decodeOf (x .lent .session) .common .nst ≡ stateAt (z .node) .c .nst
     accepted-is =
         ap (λ (y : Session). y .common .nst) (z .at .keeps .decoded)
-        ∙ ap (λ (c : Common). c .nst) (fits g (z .node) (z .left) (z .at .stands) .holds .common)
+        ∙ ap (λ (c : Common). c .nst) (arrived g (z .node) (z .left) (z .at .stands) .holds .common)
 
     count-is : Last (z .node) x → isReport (x .reply) ≡ true → x .reply .count ≡ latest zs
     count-is (inl k) i =

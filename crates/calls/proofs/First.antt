@@ -32,7 +32,7 @@ use Rattle.refusals.specs.Rows.{Row, NoneHolds}
 use Rattle.refusals.proofs.FirstStep.{step-decides}
 use Rattle.refusals.proofs.Rows.{IsFirst, After, exactly, Each, numbered}
 use Rattle.common.specs.State.{Given, State}
-use Rattle.rules.specs.Rules.{start, beginning, firstWeights, stepped}
+use Rattle.rules.specs.Rules.{start, beginning, firstWeights}
 use Rattle.refinement.specs.AtNode.{startedAt}
 use Rattle.invariants.specs.Host.{IsF64}
 use Rattle.answers.specs.declared.Reply.{Reply}
@@ -49,8 +49,7 @@ use Rattle.calls.proofs.Start.{begun-run}
 use Rattle.calls.proofs.Walk.{At, isFitting, call, is-refusal, begun-at}
 use Rattle.calls.proofs.Exactly.{exactly-as}
 use Rattle.calls.proofs.ReplyRefused.{stored-phase, reply-refused}
-use Rattle.calls.proofs.ReplyFirst.{Says, weighty, says}
-use Rattle.calls.specs.Fakes.{reported}
+use Rattle.calls.proofs.ReplyFirst.{Says, weighty, stepped, reported, says}
 
 -- ---- the rows of the weights
 

@@ -15,7 +15,7 @@ use Rattle.rules.specs.Play.{Play}
 use Rattle.common.specs.State.{Given}
 use Rattle.rules.specs.Rules.{Start}
 use Rattle.refinement.specs.AtNode.{startedAt}
-use Rattle.sqrt.specs.Rounded.{fits}
+use Rattle.refinement.proofs.Follows.{arrived}
 use Rattle.answers.specs.Called.{Buffers, Called}
 use Rattle.raimsklo.specs.Calls.{Problem, startOf}
 use Rattle.calls.specs.Run.{Begins, ReplyCall, TimesF64, callsBy, lastBy, replied, callsOf, lastOf, isRefusal}
@@ -121,7 +121,7 @@ calls-follow p b begins =
         session = λ rs f.
             let z = stays-all g a run rs f (treeOf p b) (startedAt g a) (startOf p b) at in
             let k = z .1 .keeps in
-            let h = fits g (standsAt (g .s .n) (treeOf p b) rs) (z .0) (z .1 .stands) .holds in
+            let h = arrived g (standsAt (g .s .n) (treeOf p b) rs) (z .0) (z .1 .stands) .holds in
             let phase = ap (λ (x : Session). x .phase) (k .decoded) in
             record {
               sized = k .long;
@@ -136,10 +136,10 @@ calls-follow p b begins =
       taken = λ rs f. taken-all g a run rs f (treeOf p b) (startedAt g a) (startOf p b) at;
       work = λ rs f.
           let z = stays-all g a run rs f (treeOf p b) (startedAt g a) (startOf p b) at in
-          z .1 .work ∙ fits g (standsAt (g .s .n) (treeOf p b) rs) (z .0) (z .1 .stands) .holds .work;
+          z .1 .work ∙ arrived g (standsAt (g .s .n) (treeOf p b) rs) (z .0) (z .1 .stands) .holds .work;
       pivots = λ rs f.
           let z = stays-all g a run rs f (treeOf p b) (startedAt g a) (startOf p b) at in
-          z .1 .pivots ∙ fits g (standsAt (g .s .n) (treeOf p b) rs) (z .0) (z .1 .stands) .holds .ipiv;
+          z .1 .pivots ∙ arrived g (standsAt (g .s .n) (treeOf p b) rs) (z .0) (z .1 .stands) .holds .ipiv;
       refused = λ rs r f t i.
           let z = stays-all g a run rs f (treeOf p b) (startedAt g a) (startOf p b) at in
           refused-so g a run _ (z .0) _ r (call g a run _ (z .0) _ r t (z .1)) i;

@@ -27,7 +27,7 @@ use Rattle.rules.specs.Rules.{Start}
 use Rattle.refinement.specs.Shown.{Shown, snapshotShown, shownAs, isTaken, resumed, treeNext}
 use Rattle.refinement.specs.AtNode.{derivative, answer}
 use Rattle.refinement.specs.Follows.{stateAt}
-use Rattle.sqrt.specs.Rounded.{fits}
+use Rattle.refinement.proofs.Follows.{arrived}
 use Rattle.answers.specs.declared.Reply.{Reply}
 use Rattle.answers.specs.Answers.{questionReply}
 use Rattle.answers.specs.Called.{Called}
@@ -124,7 +124,7 @@ module _ (g : Given) (a : Start) (run : Runs g a) (one : g .s .n ≡ 1) where
   said-shown l x h =
       h .said
       ∙ ap (λ (v : Shown). saidOf (g .s .n) (stateAt (h .node) .c .nq) v (h .question))
-      (sym (fits g (h .node) l (h .at .stands) .shows))
+      (sym (arrived g (h .node) l (h .at .stands) .shows))
 
   sized : (kind : ℕ) (numbers : List Float) (time : Float) (q : List Float) → length q ≡ 20
       → isSized (g .s .n) (replyWith kind numbers time q) ≡ true
@@ -134,7 +134,7 @@ module _ (g : Given) (a : Start) (run : Runs g a) (one : g .s .n ≡ 1) where
       → isKind (r .kind) ≡ true → isTaken g l (fedAs r) ≡ true → Outcome g a run (h .node) l x r
       → Host (resumed g l (fedAs r)) (replied x r)
   goes-by l x r h s k t (refused e q) =
-      let i = fits g (h .node) l (h .at .stands) .holds .takes (fedAs r) in
+      let i = arrived g (h .node) l (h .at .stands) .holds .takes (fedAs r) in
       let asked = sym i ∙ t in
       differs (sym e ∙ rw (s, k, asked))
   goes-by l x r h s k t (taken e w) = record {

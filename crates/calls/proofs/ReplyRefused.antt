@@ -17,7 +17,7 @@ use borrow.Author.Tests.{eqb-true, eqb-false, lt-leb}
 use Rattle.loops.specs.Test.{differs, both, one-of}
 use Rattle.numbers.specs.Float.{zeroF}
 use Rattle.common.specs.Limits.{maxStates}
-use Rattle.common.specs.SessionWords.{sessionLength}
+use Rattle.common.specs.SessionWords.{countWords, sessionLength}
 use Rattle.common.specs.declared.Settings.{Settings}
 use Rattle.questions.specs.declared.Phase.{Phase}
 use Rattle.questions.specs.declared.Phase.the-variants as Phase
@@ -198,7 +198,7 @@ withIn b = record { rtol = rtolOf (b .session); atol = atolOf (b .session); work
 
 pub stored-phase : (b : List ℕ) → decodeOf b .phase ≡ phaseOf (phaseWord b)
 unfolding decodeOf
-stored-phase b = ap phaseOf (counts-at b 0 (lit< tt))
+stored-phase b = ap phaseOf (counts-at b 0 countWords 0 0 (lit< tt))
 
 module _ (kind : ℕ) (numbers : List Float) (time : Float) (b : Buffers) where
   abbrev n : ℕ

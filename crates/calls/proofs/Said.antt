@@ -28,7 +28,7 @@ use Rattle.common.specs.State.{Given}
 use Rattle.refinement.specs.Shown.{shownAs}
 use Rattle.refinement.specs.Shown as Seen
 use Rattle.refinement.specs.AtNode.{AtNode}
-use Rattle.sqrt.specs.Rounded.{fits}
+use Rattle.refinement.proofs.Follows.{arrived}
 use Rattle.answers.specs.Answers.{questionReply}
 use Rattle.raimsklo.specs.Replies.{withY, questionOf}
 use Rattle.calls.specs.Follow.{says, saidOf, saidAt}
@@ -111,6 +111,6 @@ module _ (g : Given) where
       → says (questionReply (l .turn .question)) (questionOf (g .s) (l .turn .phase) (l .turn .common) (l .work) q)
       ≡ saidAt (g .s .n) t q
   says-node t l q s w o history room =
-      let f = fits g t l s in
+      let f = arrived g t l s in
       says-question (g .s) (l .turn .common) (l .work) q history room (l .turn .question) (l .turn .phase) (w .agrees) o
       ∙ rw (f .shows, f .holds .common)

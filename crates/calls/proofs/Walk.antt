@@ -34,7 +34,7 @@ use Rattle.refinement.specs.Shown.{sessionFound, withOf, resumed, reachedAfter,
 use Rattle.refinement.specs.AtNode.{AtNode, startedAt}
 use Rattle.refinement.specs.InRun.{InRun}
 use Rattle.refinement.proofs.Follows.{replies, follows}
-use Rattle.sqrt.specs.Rounded.{fits}
+use Rattle.refinement.proofs.Follows.{arrived}
 use Rattle.refinement.proofs.Kept.{counts-after, closing-after, session-kept}
 use Rattle.answers.specs.Answers.{plainReply, questionReply}
 use Rattle.answers.specs.Called.{Buffers, Called}
@@ -132,7 +132,7 @@ module _ (g : Given) (a : Start) (run : Runs g a) where
     answered-is = rw (at .work, at .pivots)
 
     takes : isTaken g l (fedAs r) ≡ asks (g .s .n) t (fedAs r)
-    takes = fits g t l (at .stands) .holds .takes (fedAs r)
+    takes = arrived g t l (at .stands) .holds .takes (fedAs r)
 
     module _ (sized : isSized (g .s .n) r ≡ true) (known : isKind (r .kind) ≡ true)
         (asked : asks (g .s .n) t (fedAs r) ≡ true) where

@@ -7,6 +7,8 @@ use mathlib.Core.List.{List}
 use Prim.Native.Nat.{ℕ}
 use lib.ListN.{length, length-set}
 use lib.Ieee.{Float}
+use Rattle.loops.specs.Stores.{length-for}
+use Rattle.loops.specs.Test.{chosen}
 use Rattle.dense.specs.Solve.{solveOf}
 use Rattle.dense.proofs.Laws.{length-solve}
 use Rattle.common.specs.declared.MethodFamily.{MethodFamily}
@@ -14,7 +16,6 @@ use Rattle.common.specs.declared.MethodFamily.the-variants.{Adams, Bdf}
 use Rattle.common.specs.declared.Settings.{Settings}
 use Rattle.common.specs.declared.Common.{Common}
 use Rattle.common.specs.Layout.{yAt, matrixAt}
-use Rattle.history.proofs.Laws.{chosen, length-loop}
 use Rattle.jacobian.proofs.Laws.{SameStep, same-pass-moved}
 use Rattle.corrector.specs.Iterate.{openOf, adamsResidualAt, adamsResidualOf, adamsUpdateAt, adamsUpdateOf}
 use Rattle.corrector.specs.Iterate.{bdfResidualAt, bdfResidualOf, bdfUpdateAt, bdfUpdateOf, Corrected, adamsOf}
@@ -25,19 +26,19 @@ use Rattle.corrector.specs.Iterate.{bdfOf, correctIn, correctOf}
 module _ (n : ℕ) (work : List Float) where
   length-adams-residual : (h : Float) → length (adamsResidualOf n h work) ≡ length work
   unfolding adamsResidualOf
-  length-adams-residual h = length-loop (adamsResidualAt n h) 0 n work (λ i t. simp length-set)
+  length-adams-residual h = length-for (adamsResidualAt n h) 0 n work (λ i t. simp length-set)
 
   length-adams-update : (e : Float) → length (adamsUpdateOf n e work) ≡ length work
   unfolding adamsUpdateOf
-  length-adams-update e = length-loop (adamsUpdateAt n e) 0 n work (λ i t. simp length-set)
+  length-adams-update e = length-for (adamsUpdateAt n e) 0 n work (λ i t. simp length-set)
 
   length-bdf-residual : (h : Float) → length (bdfResidualOf n h work) ≡ length work
   unfolding bdfResidualOf
-  length-bdf-residual h = length-loop (bdfResidualAt n h) 0 n work (λ i t. simp length-set)
+  length-bdf-residual h = length-for (bdfResidualAt n h) 0 n work (λ i t. simp length-set)
 
   length-bdf-update : (e : Float) → length (bdfUpdateOf n e work) ≡ length work
   unfolding bdfUpdateOf
-  length-bdf-update e = length-loop (bdfUpdateAt n e) 0 n work (λ i t. simp length-set)
+  length-bdf-update e = length-for (bdfUpdateAt n e) 0 n work (λ i t. simp length-set)
 
 module _ (s : Settings) (c : Common) (work : List Float) where
   pub length-adams : length (adamsOf s c work .work) ≡ length work

@@ -10,20 +10,19 @@ use borrow.Author.Tests.{eqb-false}
 use lib.Dec.{eqb, leb}
 use lib.Ieee as Ieee
 use lib.Ieee.{Float}
+use Rattle.loops.specs.Test.{chosen, chosen-by, differs}
 use Rattle.numbers.specs.Float.{_⊗_, oneF, uround, d2, d100}
-use Rattle.loops.specs.Test.{differs}
 use Rattle.common.specs.declared.MethodFamily.{MethodFamily}
 use Rattle.common.specs.declared.MethodFamily.the-variants.{Adams, Bdf}
 use Rattle.common.specs.declared.Settings.{Settings}
 use Rattle.common.specs.declared.Common.{Common}
 use Rattle.common.specs.Record.{isBdf, with-jcur, with-due, with-m, with-delp}
-use Rattle.history.proofs.Laws.{chosen, chosen-if}
 use Rattle.jacobian.proofs.Laws.{SameStep, passMoved, same-pass-moved}
 use Rattle.corrector.specs.declared.Pass.the-variants.{Converged, Retry, NoConvergence, Further}
 use Rattle.corrector.specs.declared.Verdict.{Verdict}
 use Rattle.corrector.specs.declared.Correction.{Correction}
-use Rattle.corrector.specs.Verdict.{ratedOf, dconOf, estimatedOf, judgedConverged, oldJacobian, giveUpOf, strays}
-use Rattle.corrector.specs.Verdict.{judgedFurther, judgedTested, ratedVerdict, judgeOf}
+use Rattle.corrector.specs.Verdict.{ratedOf, dconOf, estimatedOf, judgedConverged, oldJacobian, giveUpOf}
+use Rattle.corrector.specs.Verdict.{strays, judgedFurther, judgedTested, ratedVerdict, judgeOf}
 
 -- what a verdict may be after an iteration from the record c, and what is known then
 pub data Ways (s : Settings) (c : Common) : Verdict → Type 0 where
@@ -62,7 +61,7 @@ module _ (s : Settings) where
       let last = eqb (c .m + 1) (s .maxcor) in
       let grown = leb 2 (c .m + 1) && Ieee.lt (d2 ⊗ c .delp) del in
       let next = with-m (c .m + 1) (with-delp del c) in
-      chosen-if (Ways s c) (strays s c del) (λ e. give-up-ways c)
+      chosen-by (Ways s c) (strays s c del) (λ e. give-up-ways c)
       (λ e. goes-on next refl (eqb-false _ _ (not-last last grown e)) refl refl)
 
   tested-ways : (c : Common) (del : Float) → Ways s c (judgedTested s c del)

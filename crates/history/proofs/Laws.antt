@@ -1,9 +1,8 @@
 -- What callers need of the definitions: each keeps the length of the list, predict and retract leave every number
 -- from nqnyh on, and a prediction, a rescale and another order keep what a step's functions ask of the record
--- (`StepInRange`); with two laws of a choice by a test (`chosen`, `chosen-if`).
+-- (`StepInRange`).
 -- Assumes nothing.
 use mathlib.Core.Path.{_≡_, refl, _∙_}
-use mathlib.Core.Bool.{Bool, true, false, cond}
 use mathlib.Core.List.{List}
 use Prim.Native.Nat.{ℕ, _+_, _-_, _*_, _<_, _≤_}
 use native.Mathlib.Nat.{mul-le-mul-right}
@@ -12,7 +11,8 @@ use lib.ListN.{length, getD, set, length-set, replicate, length-replicate}
 use lib.Seq.{getD-set-other}
 use lib.Ieee.{Float, nan}
 use borrow.Rule.Slice.PartMut.{same-len-mid}
-use Rattle.loops.specs.For.{for, keeps}
+use Rattle.loops.specs.For.{for, keeps, always}
+use Rattle.loops.specs.Stores.{length-for}
 use Rattle.loops.specs.Part.{part, length-putPart}
 use Rattle.numbers.specs.Float.{_⊕_, _⊖_, _⊗_}
 use Rattle.common.specs.declared.Settings.{Settings}
@@ -20,30 +20,9 @@ use Rattle.common.specs.declared.Common.{Common}
 use Rattle.common.specs.Record.{with-nq}
 use Rattle.common.specs.Rules.{resetOf}
 use Rattle.history.specs.Columns.{predictColumnsOf, retractColumnsOf, timesAt, timesOf, Rescaled, rescaleAt}
-use Rattle.history.specs.Columns.{rescaleColumnsOf, addScaledAt, addScaledOf, correctAt, correctColumnsOf, copyAt}
-use Rattle.history.specs.Columns.{copyOf, slopeAt, slopeOf, fillOf, scalePartOf}
+use Rattle.history.specs.Columns.{rescaleColumnsOf, addScaledAt, addScaledOf, correctAt, correctColumnsOf}
+use Rattle.history.specs.Columns.{copyAt, copyOf, slopeAt, slopeOf, fillOf, scalePartOf}
 use Rattle.history.specs.Steps.{StepInRange, adjustOf, predictedOf}
-
--- what a choice has if each side has it where it is taken
-pub chosen-if : {A : Type 0} (P : A → Type 0) (t : Bool) {x y : A} → (t ≡ true → P x) → (t ≡ false → P y)
-    → P (cond t x y)
-chosen-if P true p q = p refl
-chosen-if P false p q = q refl
-
--- what both sides have, the chosen one has
-pub chosen : {A : Type 0} (P : A → Type 0) (t : Bool) {x y : A} → P x → P y → P (cond t x y)
-chosen P t p q = chosen-if P t (λ e. p) (λ e. q)
-
--- what every turn keeps the loop keeps, whatever its bounds
-pub always : {S : Type 0} (P : S → Type 0) (f : ℕ → S → S) (i e : ℕ) (s : S)
-    → ((k : ℕ) (t : S) → P t → P (f k t)) → P s → P (for i e f s)
-always P f i e s kept p =
-    let q : i + (e - i) - i ≡ e - i = omega arith in
-    rw q at (keeps P f (i + (e - i)) (λ k t below h. kept k t h) i s (omega arith) p)
-
-pub length-loop : {A : Type 0} (f : ℕ → List A → List A) (i e : ℕ) (l : List A)
-    → ((k : ℕ) (s : List A) → length (f k s) ≡ length s) → length (for i e f l) ≡ length l
-length-loop f i e l one = always (λ s. length s ≡ length l) f i e l (λ k s p. one k s ∙ p) refl
 
 -- the passes of predict and retract: they differ in g, what a turn stores
 module _ (n nqnyh : ℕ) (g : ℕ → List Float → Float) where
@@ -51,7 +30,7 @@ module _ (n nqnyh : ℕ) (g : ℕ → List Float → Float) where
   passes nq yh = for 0 nq (λ k s. for (nqnyh - (k + 1) * n) nqnyh (λ i t. set t i (g i t)) s) yh
 
   length-passes : (nq : ℕ) (yh : List Float) → length (passes nq yh) ≡ length yh
-  length-passes nq yh = length-loop _ 0 nq yh (λ k s. length-loop _ _ nqnyh s (λ i t. length-set t i (g i t)))
+  length-passes nq yh = length-for _ 0 nq yh (λ k s. length-for _ _ nqnyh s (λ i t. length-set t i (g i t)))
 
   same-pass : (a i : ℕ) (yh : List Float) → a ≤ nqnyh → nqnyh ≤ i
       → getD (for a nqnyh (λ k t. set t k (g k t)) yh) i nan ≡ getD yh i nan
@@ -83,7 +62,7 @@ module _ (n nq nqnyh : ℕ) (yh : List Float) where
   same-retract i beyond = same-passes n nqnyh (λ j t. getD t j nan ⊖ getD t (j + n) nan) nq i yh beyond
 
 length-scale : (r : Float) (v : List Float) → length (timesOf r v) ≡ length v
-length-scale r v = length-loop (timesAt r) 0 (length v) v (λ i t. simp length-set)
+length-scale r v = length-for (timesAt r) 0 (length v) v (λ i t. simp length-set)
 
 pub length-scale-part : (n at : ℕ) (r : Float) (work : List Float) → length (scalePartOf n at r work) ≡ length work
 unfolding scalePartOf
@@ -97,19 +76,19 @@ length-rescale n l rh yh =
 
 length-add-scaled : (n j : ℕ) (e : Float) (at : ℕ) (l : List Float) → length (addScaledOf n j e at l) ≡ length l
 unfolding addScaledOf
-length-add-scaled n j e at l = length-loop (addScaledAt n j e at) 0 n l (λ i t. simp length-set)
+length-add-scaled n j e at l = length-for (addScaledAt n j e at) 0 n l (λ i t. simp length-set)
 
 pub length-correct : (s : Settings) (c : Common) (work : List Float) → length (correctColumnsOf s c work) ≡ length work
 unfolding correctColumnsOf
-length-correct s c work = length-loop (correctAt s c) 0 (c .nq + 1) work (λ j t. length-add-scaled (s .n) j _ _ t)
+length-correct s c work = length-for (correctAt s c) 0 (c .nq + 1) work (λ j t. length-add-scaled (s .n) j _ _ t)
 
 pub length-copy : (n to from : ℕ) (work : List Float) → length (copyOf n to from work) ≡ length work
 unfolding copyOf
-length-copy n to from work = length-loop (copyAt to from) 0 n work (λ i t. simp length-set)
+length-copy n to from work = length-for (copyAt to from) 0 n work (λ i t. simp length-set)
 
 pub length-slope : (n : ℕ) (h : Float) (work : List Float) → length (slopeOf n h work) ≡ length work
 unfolding slopeOf
-length-slope n h work = length-loop (slopeAt n h) 0 n work (λ i t. simp length-set)
+length-slope n h work = length-for (slopeAt n h) 0 n work (λ i t. simp length-set)
 
 pub length-fill : (n at : ℕ) (x : Float) (work : List Float) → at + n ≤ length work
     → length (fillOf n at x work) ≡ length work

@@ -19,6 +19,7 @@ use lib.Ieee.Exact.{HasValue, round-exact}
 use lib.Ieee.Fits.{down-pos}
 use borrow.Author.Count.{below-none, below-more}
 use borrow.Author.Tests.{eq-eqb, eqb-true, ltb-false, le-ltb}
+use Rattle.loops.specs.For.{reaches}
 use Rattle.numbers.specs.Float.{whole}
 use Rattle.interpolation.specs.declared.Count.{Count}
 use Rattle.interpolation.specs.declared.Count.the-variants.{Is, NotWhole}
@@ -26,7 +27,6 @@ use Rattle.interpolation.specs.declared.Sizes.{Sizes}
 use Rattle.interpolation.specs.declared.Header.{Header}
 use Rattle.interpolation.specs.declared.Header.the-variants.{Read, Refused}
 use Rattle.interpolation.specs.Header.{wholeCountAt, wholeCountOf, withOrder, withStates, readHeaderOf, Reads}
-use Rattle.interpolation.proofs.Laws.{reaches}
 
 -- what is known of x once the counts below k were tried
 abbrev Tried : Float → ℕ → Count → Type 0

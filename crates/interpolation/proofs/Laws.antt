@@ -4,11 +4,10 @@
 --     reaches    what speaks of the turn and is carried on by every turn holds at the loop's end
 --     each       a loop over a list that makes one number at each turn, number by number
 -- Assumes nothing.
-use mathlib.Core.Path.{_≡_, refl, sym, ap, _∙_, subst}
+use mathlib.Core.Path.{_≡_, refl, sym, ap, _∙_}
 use mathlib.Core.Logic.{_⊎_, inl, inr, ⊎-elim}
-use mathlib.Core.Bool.{Bool, true, false, cond}
 use mathlib.Core.List.{List}
-use Prim.Native.Nat.{ℕ, zero, suc, _+_, _-_, _*_, _≤_, _<_}
+use Prim.Native.Nat.{ℕ, _+_, _-_, _*_, _≤_, _<_}
 use native.Mathlib.Omega.{arith}
 use lib.Dec.{eqb, ltb}
 use lib.ListN.{length, getD, set, length-set}
@@ -17,7 +16,8 @@ use lib.Ieee as Ieee
 use lib.Ieee.{Float, nan}
 use borrow.Author.Count.{below-more}
 use borrow.Author.Tests.{eq-eqb}
-use Rattle.loops.specs.For.{for, times, keeps}
+use Rattle.loops.specs.For.{for, keeps, reaches}
+use Rattle.loops.specs.Test.{chosen}
 use Rattle.numbers.specs.Float.{zeroF}
 use Rattle.common.specs.declared.Settings.{Settings}
 use Rattle.common.specs.declared.Common.{Common}
@@ -28,23 +28,6 @@ use Rattle.interpolation.specs.Snapshot.{headerOf, snapshotAt, snapshotO
 use Rattle.interpolation.specs.Header.{readHeaderOf}
 use Rattle.interpolation.specs.Evaluate.{lastColumnOf, Interpolated, outputs, interpolateSizedOf, headedOf}
 use Rattle.interpolation.specs.Evaluate.{interpolateOf}
-
-module _ {S : Type 0} (P : ℕ → S → Type 0) (f : ℕ → S → S) (e : ℕ)
-    (one : (k : ℕ) (s : S) → k < e → P k s → P (k + 1) (f k s)) where
-  reaches-times : (n i : ℕ) (s : S) → i + n ≡ e → P i s → P e (times f n i s)
-  unfolding times
-  reaches-times zero i s h p =
-      let q : i ≡ e = omega arith in
-      subst (λ (k : ℕ). P k s) q p
-  reaches-times (suc n) i s h p = reaches-times n (i + 1) (f i s) (omega arith) (one i s (omega arith) p)
-
-  pub reaches : (i : ℕ) (s : S) → i ≤ e → P i s → P e (for i e f s)
-  reaches i s h p = reaches-times (e - i) i s (omega arith) p
-
--- what both choices have, the chosen one has
-chosen : {S : Type 0} (P : S → Type 0) (t : Bool) {x y : S} → P x → P y → P (cond t x y)
-chosen P true p q = p
-chosen P false p q = q
 
 -- after holds g i x where before holds x at i
 pub record Each (g : ℕ → Float → Float) (before after : List Float) : Type 0 where

@@ -14,14 +14,14 @@ use lib.Seq.{getD-take, getD-drop}
 use lib.Ieee as Ieee
 use lib.Ieee.{Float, nan}
 use borrow.Author.Tests.{eq-eqb, ne-eqb, le-ltb}
-use Rattle.loops.specs.For.{for}
+use Rattle.loops.specs.For.{reaches, for}
 use Rattle.numbers.specs.Float.{_⊕_, _⊖_, _⊗_, _⊘_, zeroF}
 use Rattle.interpolation.specs.declared.Sizes.{Sizes}
 use Rattle.interpolation.specs.Header.{Reads}
-use Rattle.interpolation.specs.Evaluate.{lastColumnOf, hornerOf, columnIn, hornerTurn, evaluateOf}
-use Rattle.interpolation.specs.Evaluate.{outputs, interpolateSizedOf, interpolateOf}
+use Rattle.interpolation.specs.Evaluate.{lastColumnOf, hornerOf, columnIn, hornerTurn, evaluateOf, outputs}
+use Rattle.interpolation.specs.Evaluate.{interpolateSizedOf, interpolateOf}
 use Rattle.interpolation.specs.Published.{horner, power, polynomial, Exact, numberAt, numbersAt}
-use Rattle.interpolation.proofs.Laws.{reaches, Each, each, last-each}
+use Rattle.interpolation.proofs.Laws.{Each, each, last-each}
 use Rattle.interpolation.proofs.Counts.{reads-header}
 
 horner-each : (column : List Float) (s : Float) (yi : List Float)

@@ -14,7 +14,7 @@ use lib.ListN.{length, getD, take, drop, length-append, length-drop}
 use lib.Seq.{length-take-le, take-at, drop-at, drop-drop, getD-append-add, getD-take, sets-eq, paste, paste-zero}
 use lib.Seq.{paste-suc}
 use lib.Ieee.{Float, nan}
-use Rattle.loops.specs.For.{within}
+use Rattle.loops.specs.For.{reaches, within}
 use Rattle.loops.specs.Part.{part}
 use Rattle.numbers.specs.Float.{whole, uround}
 use Rattle.common.specs.declared.Settings.{Settings}
@@ -22,7 +22,6 @@ use Rattle.common.specs.declared.Common.{Common}
 use Rattle.interpolation.specs.Snapshot.{headerOf, snapshotAt, snapshotOf}
 use Rattle.interpolation.specs.Header.{Reads}
 use Rattle.interpolation.specs.Published.{numberAt}
-use Rattle.interpolation.proofs.Laws.{reaches}
 use Rattle.interpolation.proofs.Counts.{whole-self}
 
 abbrev pub header : Settings → Common → List Float

@@ -12,6 +12,7 @@ use Prim.Native.Nat.{ℕ, _+_, _*_}
 use lib.ListN.{length, length-set}
 use lib.Ieee.{Float}
 use borrow.Rule.Slice.PartMut.{same-len-mid}
+use Rattle.loops.specs.Stores.{length-for}
 use Rattle.loops.specs.Part.{part}
 use Rattle.dense.proofs.Laws.{Below, length-factor-a, length-factor-ipiv, factor-below}
 use Rattle.common.specs.declared.Settings.{Settings}
@@ -20,7 +21,7 @@ use Rattle.common.specs.Record.{with-nje, with-nslp, with-nlu, with-rc, with-pd
 use Rattle.common.specs.Record.{with-convrate, with-rate, with-delp, with-m, with-due, with-jcur}
 use Rattle.common.specs.Layout.{matrix, matrixAt}
 use Rattle.history.specs.Steps.{StepInRange}
-use Rattle.history.proofs.Laws.{length-loop, same-range}
+use Rattle.history.proofs.Laws.{same-range}
 use Rattle.jacobian.specs.Jacobian.{beginOf, minusHl0, perturbOf, differenceAt, differenceOf, restoreOf}
 use Rattle.jacobian.specs.Jacobian.{scaledAt, scaledOf, suppliedOf, identityAt, identityOf, identityFactorsOf}
 use Rattle.jacobian.specs.Jacobian.{inForce, finishJacobianOf}
@@ -38,11 +39,11 @@ module _ (s : Settings) (c : Common) (work : List Float) where
       let at = matrixAt (s .n) in
       let a = part at (length jac) work in
       same-len-mid at (length jac) work (scaledOf (minusHl0 c) jac a)
-      (length-loop (scaledAt (minusHl0 c) jac) 0 (length jac) a (λ i t. simp length-set))
+      (length-for (scaledAt (minusHl0 c) jac) 0 (length jac) a (λ i t. simp length-set))
 
 pub length-difference : (n j : ℕ) (fac : Float) (work : List Float) → length (differenceOf n j fac work) ≡ length work
 unfolding differenceOf
-length-difference n j fac work = length-loop (differenceAt n j fac) 0 n work (λ i t. simp length-set)
+length-difference n j fac work = length-for (differenceAt n j fac) 0 n work (λ i t. simp length-set)
 
 pub length-restore : (s : Settings) (c : Common) (j : ℕ) (work : List Float)
     → length (restoreOf s c j work) ≡ length work
@@ -51,7 +52,7 @@ length-restore s c j work = simp length-set (length-difference (s .n) j _ work)
 
 length-identity : (n : ℕ) (a : List Float) → length (identityOf n a) ≡ length a
 unfolding identityOf
-length-identity n a = length-loop (identityAt n) 0 n a (λ i t. simp length-set)
+length-identity n a = length-for (identityAt n) 0 n a (λ i t. simp length-set)
 
 module _ (s : Settings) (c : Common) (work : List Float) (ipiv : List ℕ) where
   pub length-finished : length (finishJacobianOf s c work ipiv .work) ≡ length work

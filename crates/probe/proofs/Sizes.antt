@@ -1,21 +1,17 @@
 -- What the tests of sizes tell: what the callees require. Assumes nothing.
 use Prim.Native.Nat.{ℕ, _+_, _-_, _*_, _≤_}
-use mathlib.Core.Path.{_≡_, refl}
-use mathlib.Core.Bool.{Bool, true, false, _||_}
+use mathlib.Core.Path.{_≡_}
+use mathlib.Core.Bool.{true}
 use mathlib.Core.List.{List}
-use mathlib.Core.Logic.{_⊎_, inl, inr, ⊎-map}
+use mathlib.Core.Logic.{_⊎_, ⊎-map}
 use native.Mathlib.Omega.{arith}
 use lib.Dec.{eqb, leb}
 use lib.ListN.{length}
 use lib.Ieee.{Float}
 use borrow.Author.Tests.{leb-true, eqb-true}
-use Rattle.loops.specs.Test.{both}
+use Rattle.loops.specs.Test.{both, one-of}
 use Rattle.vectors.specs.Tolerance.{List1OrN}
 use Rattle.probe.specs.Leaves.{isMatrix, isToleranceList, isBehind, isWeighed, isSystem}
-
-either : (a b : Bool) → (a || b) ≡ true → (a ≡ true) ⊎ (b ≡ true)
-either true b h = inl refl
-either false b h = inr h
 
 pub matrix-fits : (n matrix vector : ℕ) → isMatrix n matrix vector ≡ true → (n * n ≤ matrix) × (n ≤ vector)
 unfolding isMatrix
@@ -29,7 +25,7 @@ list-serves n list h =
     let p = both (leb 1 n) _ h in
     let least = leb-true 1 n (p .0) in
     ⊎-map (λ e. eqb-true (length list) 1 e) (λ e. omega (arith, eqb-true (length list) n e))
-    (either (eqb (length list) 1) (eqb (length list) n) (p .1))
+    (one-of (eqb (length list) 1) (eqb (length list) n) (p .1))
 
 pub behind-fits : (n at len : ℕ) → isBehind n at len ≡ true → (n ≤ at) × (at + n ≤ len)
 unfolding isBehind

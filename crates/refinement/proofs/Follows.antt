@@ -34,16 +34,16 @@ use Rattle.refinement.proofs.Start.{begins}
 -- ---- one reply
 
 module _ (g : Given) where
-  fits : (p : Play) (l : RunState) → AtNode g p l → Arrived g p (stateAt p) l
-  fits (ret (finished status x)) l s = s
-  fits (ret (stepRefused h x)) l s = s
-  fits (ret (weightRefused i x)) l s = s
-  fits (ret (exhausted x)) l s = absurd s
-  fits (ask (derivativeAt t v) x k) l s = s .0
-  fits (ask (jacobianAt t v) x k) l s = s .0
-  fits (tell r x k) l s = s .0
-  fits (say e p) l s =
-      let f = fits p l s in
+  pub arrived : (p : Play) (l : RunState) → AtNode g p l → Arrived g p (stateAt p) l
+  arrived (ret (finished status x)) l s = s
+  arrived (ret (stepRefused h x)) l s = s
+  arrived (ret (weightRefused i x)) l s = s
+  arrived (ret (exhausted x)) l s = absurd s
+  arrived (ask (derivativeAt t v) x k) l s = s .0
+  arrived (ask (jacobianAt t v) x k) l s = s .0
+  arrived (tell r x k) l s = s .0
+  arrived (say e p) l s =
+      let f = arrived p l s in
       let h = f .holds in
       record {
         shows = f .shows;
@@ -96,10 +96,10 @@ module _ (g : Given) where
   turn-at false p l r s h q = refused h q (replies-of.refuses g l r h)
 
   turn : (p : Play) (l : RunState) (r : Reply) → AtNode g p l → Turn p l r
-  turn p l r s = turn-at (asks (g .s .n) p r) p l r s (fits p l s .holds .takes r) refl
+  turn p l r s = turn-at (asks (g .s .n) p r) p l r s (arrived p l s .holds .takes r) refl
 
   shows : (p : Play) (l : RunState) → AtNode g p l → shownBy (g .s .n) l ≡ shownAt p
-  shows p l s = fits p l s .shows
+  shows p l s = arrived p l s .shows
 
   -- a refused reply changes nothing but the answer
   heard-again : (l : RunState) (rs : List Reply) → heard g (again l) rs ≡ heard g l rs
@@ -183,7 +183,7 @@ module _ (g : Given) where
 
     ended-holds : (rs : List Reply) → At (ret e) (reachedAfter g l rs) × At (ret e) (reachedAfter g (again l) rs)
     unfolding reachedAfter
-    ended-holds [] = let h = fits (ret e) l s .holds in (h, at-again h)
+    ended-holds [] = let h = arrived (ret e) l s .holds in (h, at-again h)
     ended-holds (r ∷ rs) = let h = ended-turn r rs (ended-holds rs .1) (turn (ret e) l r s) in (h, h)
 
   held-all : (p : Play) (xs : List Step) (l : RunState) (rs : List Reply) → AtNode g p l
@@ -191,10 +191,10 @@ module _ (g : Given) where
   unfolding fed
   held-all (ret e) xs l rs s = ended-holds e l s rs .0
   held-all (ask q x k) xs l rs s =
-      waits-hold (ask q x k) l s _ _ (fits (ask q x k) l s .holds)
+      waits-hold (ask q x k) l s _ _ (arrived (ask q x k) l s .holds)
       (λ r rest n. held-all (k (r .numbers)) (noted q xs) (resumed g l r) rest n) rs .0
   held-all (tell q x k) xs l rs s =
-      waits-hold (tell q x k) l s _ _ (fits (tell q x k) l s .holds)
+      waits-hold (tell q x k) l s _ _ (arrived (tell q x k) l s .holds)
       (λ r rest n. held-all (k (answerGiven (r .kind)) (r .numbers) (r .time)) xs (resumed g l r) rest n) rs .0
   held-all (say e p) xs l rs s = held-all p (marked e xs) l rs s
 

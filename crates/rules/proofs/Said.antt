@@ -10,7 +10,7 @@ use borrow.Author.Tests.{ltb-true, ltb-false, eqb-true, eqb-false, le-leb, lt-le
 use lib.Dec.{eqb, leb, ltb}
 use lib.Ieee as Ieee
 use lib.Ieee.{Float}
-use Rattle.loops.specs.Test.{differs}
+use Rattle.loops.specs.Test.{chosen, differs}
 use Rattle.numbers.specs.Float.{_⊕_, _⊗_, oneF, uround, d0·25, d1·1, d2, d100}
 use Rattle.numbers.specs.Order.{maxOf}
 use Rattle.common.specs.declared.MethodFamily.{MethodFamily}
@@ -26,14 +26,13 @@ use Rattle.history.specs.Steps.{limitedOf, adjustOf, predictedOf}
 use Rattle.corrector.specs.declared.Pass.the-variants as Pass
 use Rattle.corrector.specs.declared.Verdict.{Verdict}
 use Rattle.corrector.specs.declared.Correction.{Correction}
-use Rattle.corrector.specs.Verdict.{ratedOf, dconOf, estimatedOf, judgedConverged, oldJacobian, giveUpOf}
-use Rattle.corrector.specs.Verdict.{strays, judgedFurther, judgedTested, ratedVerdict, judgeOf}
-use Rattle.history.proofs.Laws.{chosen}
+use Rattle.corrector.specs.Verdict.{ratedOf, dconOf, estimatedOf, judgedConverged, oldJacobian, giveUpOf, strays}
+use Rattle.corrector.specs.Verdict.{judgedFurther, judgedTested, ratedVerdict, judgeOf}
 use Rattle.corrector.proofs.Judged.{Ways, converges, retries, fails, goes-on, judge-ways}
 use Rattle.attempt.specs.declared.Next.the-variants.{Pass, TooSmall, Poor}
-use Rattle.attempt.specs.Attempt.{Attempt, retractedOf, retractedWork, repredictOf}
-use Rattle.attempt.specs.Attempt.{unconvergedOf, quarteredOf, noConvergenceAt, noConvergenceOf}
-use Rattle.attempt.specs.Attempt.{tenthOf, missedAt, missedOf, overshotOf, failedOf, loweredOf, restepOf}
+use Rattle.attempt.specs.Attempt.{Attempt, retractedOf, retractedWork, repredictOf, unconvergedOf, quarteredOf}
+use Rattle.attempt.specs.Attempt.{noConvergenceAt, noConvergenceOf, tenthOf, missedAt, missedOf, overshotOf, failedOf}
+use Rattle.attempt.specs.Attempt.{loweredOf, restepOf}
 use Rattle.attempt.proofs.Laws.{unconverged, restepped}
 use Rattle.acceptance.specs.declared.family.Change.the-variants.{Gap}
 use Rattle.acceptance.specs.Family.{moveIf, toBdfOf, toAdamsAt, toAdamsOf, adamsProposalOf, changeIn, changeOf}
@@ -48,8 +47,8 @@ use Rattle.between_steps.specs.declared.Status.the-variants as Status
 use Rattle.between_steps.specs.Begin.{isGoing, isCut, cutOf, setupOf, preparedAt, preparedOf, predictedAt}
 use Rattle.rules.specs.Play.{finished, ret}
 use Rattle.rules.specs.Rules.{step, solveAt, solve, predicted}
-use Rattle.rules.specs.Said.{Tiny, floorOf, Old, NoConvergenceSaid, ErrorSaid, SingleSaid}
-use Rattle.rules.specs.Said.{GapSaid, BetweenSaid, OpenedSaid, StepSaid}
+use Rattle.rules.specs.Said.{Tiny, floorOf, Old, NoConvergenceSaid, ErrorSaid, SingleSaid, GapSaid, BetweenSaid}
+use Rattle.rules.specs.Said.{OpenedSaid, StepSaid}
 
 -- ---- small laws
 

@@ -13,7 +13,7 @@ use native.Mathlib.Omega.{arith}
 use lib.Dec.{eqb, ltb, leb}
 use lib.ListN.{length, getD}
 use borrow.Author.Tests.{ltb-true, leb-true, eqb-true, lt-ltb, le-leb, eq-eqb}
-use Rattle.loops.specs.Test.{both}
+use Rattle.loops.specs.Test.{both, one-of}
 use Rattle.common.specs.declared.Settings.{Settings}
 use Rattle.common.specs.declared.Common.{Common}
 use Rattle.common.specs.Limits.{mxncfOf}
@@ -22,10 +22,6 @@ use Rattle.session.specs.Fields.{lowest, highest}
 use Rattle.session.specs.Session.{every, wordInRange, oneOrN, OneOrN, listsInRange, ordersInRange}
 use Rattle.session.specs.Session.{countersInRange, fieldsInRange}
 use Rattle.session.proofs.Every.{every-at}
-
-either : (a b : Bool) → a || b ≡ true → (a ≡ true) ⊎ (b ≡ true)
-either true b e = inl refl
-either false b e = inr e
 
 -- ---- what one word says
 
@@ -60,7 +56,7 @@ upto p = (omega arith, p)
 -- ---- what fields say of each other
 
 one-or-n : (n k : ℕ) → oneOrN n k ≡ true → OneOrN n k
-one-or-n n k e = ⊎-elim (λ t. inl (eqb-true k 1 t)) (λ t. inr (eqb-true k n t)) (either (eqb k 1) (eqb k n) e)
+one-or-n n k e = ⊎-elim (λ t. inl (eqb-true k 1 t)) (λ t. inr (eqb-true k n t)) (one-of (eqb k 1) (eqb k n) e)
 
 is-one-or-n : (n k : ℕ) → OneOrN n k → oneOrN n k ≡ true
 is-one-or-n n k (inl e) = rw (eq-eqb k 1 e)
