@@ -1,5 +1,6 @@
 -- An accepted step, as in `stoda`: the columns corrected, the family test where icount is below 0, the order choice
 -- where ialth comes to 0; and the end of a step, where acor is scaled and the weights are those of the new state.
+-- An accepted step passed the method's own error test; how far it lies from the solution is not claimed.
 use mathlib.Core.Bool.{cond}
 use mathlib.Core.List.{List}
 use Prim.Native.Nat.{ℕ, _+_, _-_}

@@ -1,5 +1,6 @@
 -- The order choice of an accepted step, due where ialth has come to 0, as in `stoda`: the factors that the errors at
 -- the orders nq + 1, nq and nq - 1 allow, and what the largest of them leads to. The Rust's l is nq + 1; kflag is 0.
+-- That the order chosen is the best is not claimed: it is the one that the factors pick.
 use mathlib.Core.Bool.{Bool, cond, not, _&&_, _||_}
 use mathlib.Core.List.{List}
 use Prim.Native.Nat.{ℕ, _+_, _-_, _*_}

@@ -1,4 +1,5 @@
 -- What the host lends for a call, and what the call answers and leaves.
+-- That slices do not overlap is the host's part: a call takes them as separate lists.
 use mathlib.Core.List.{List}
 use Prim.Native.Nat.{ℕ}
 use lib.Ieee.{Float}

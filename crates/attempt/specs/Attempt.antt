@@ -2,6 +2,7 @@
 -- convergence retracts and quarters h, or ends poor; an error above 1 retracts and shrinks h, restarts at order 1, or
 -- ends too small. The Rust's kflag counts down and marks the ends; here kflag is the number of error failures, and
 -- `Next` says how it goes on. The Rust's l is nq + 1.
+-- That h shrinks is not claimed: a NaN or 0 stays, and ends by a count.
 use mathlib.Core.Bool.{Bool, true, false, cond, _||_}
 use mathlib.Core.List.{List}
 use Prim.Native.Nat.{_+_}

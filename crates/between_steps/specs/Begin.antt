@@ -1,5 +1,6 @@
 -- What opens a step, as in `solve`: the interval's end, the setup, the first prediction.
 -- The interval's end cuts the step or the setup is done, not both: a cut skips the setup.
+-- A step size of 0 or a NaN is taken as it is; that time moves on is not claimed.
 use mathlib.Core.Bool.{Bool, true, false}
 use mathlib.Core.List.{List}
 use Prim.Native.Nat.{_+_}

@@ -2,6 +2,7 @@
 -- session that a reply takes; and what the functions inside a reply ask of the record. A count rises at most once or
 -- twice in a reply, so that below 2^62 none can overflow.
 -- (icount is kept with 1,000,000 added, kflag as the number of error failures.)
+-- Nothing is said of the floats, which may be any, nor that a session in range is of a run.
 use mathlib.Core.List.{List}
 use mathlib.Core.Path.{_≡_}
 use Prim.Native.Nat.{ℕ, _+_, _-_, _*_, _%_, _^_, _≤_, _<_}

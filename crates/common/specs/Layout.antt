@@ -1,6 +1,7 @@
 -- The one lent slice `work`: the history of 13 columns, six vectors of n, then the matrix, `workLength n` numbers.
 --     0 history   13n ewt   14n savf   15n ftem   16n acor   17n y   18n y_fd   19n matrix
 -- `ewtAt` to `matrixAt` are where the parts begin (EWT to MATRIX in src/lib.rt), `ewt` to `matrix` what stands there.
+-- The order of the parts is ours: of the Rust, which has a vector for each, nothing is claimed here.
 use mathlib.Core.List.{List}
 use Prim.Native.Nat.{ℕ, _+_, _*_}
 use lib.Ieee.{Float}

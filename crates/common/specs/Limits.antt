@@ -1,4 +1,5 @@
 -- The limits in force: a start keeps the settings as they were given, and some act as another number.
+-- Which numbers a start accepts is not said here (crate refusals).
 use Prim.Native.Nat.{ℕ, min, max}
 use Rattle.common.specs.declared.MethodFamily.{MethodFamily}
 use Rattle.common.specs.declared.MethodFamily.the-variants.{Adams, Bdf}

@@ -1,5 +1,6 @@
 -- The rules that touch the record alone: `stoda_first_call_init`, `stoda_reset`, and which coefficients are in force.
 -- el, el0 and conit change at a reset alone, so el is the row of the order nqnyh / n in the table in force.
+-- Taken from the Rust line by line; that they are the Rust's is shown by runs, not by a theorem.
 use mathlib.Core.Bool.{Bool}
 use Prim.Native.Nat.{ℕ, _+_, _*_, _/_}
 use lib.Ieee as Ieee

@@ -1,4 +1,5 @@
 -- What a run is: what its start fixes, and what its steps change.
+-- Any lists and numbers make a state: what holds of those of a run is in crates between_steps and invariants.
 use mathlib.Core.List.{List}
 use Prim.Native.Nat.{ℕ}
 use lib.Ieee.{Float}

@@ -1,5 +1,6 @@
 -- One corrector iteration of each family, as in `stoda_corrector_loop`: what becomes of savf, acor and y, and the size
 -- del of the correction. The vectors stand in work as crate common's Layout says; el[0] is that of the order in force.
+-- That iterations come nearer to a solution is not claimed: what is weighed is the size of a correction.
 use mathlib.Core.Bool.{Bool, true, false, cond}
 use mathlib.Core.List.{List}
 use Prim.Native.Nat.{ℕ, _+_}

@@ -1,5 +1,6 @@
 -- The verdict on an iteration, as in `stoda_corrector_loop`: converged, a further derivative, a retry (second family,
 -- old Jacobian) or no convergence. The Rust's m, rate and delp are the record's; its ipup > 0 is due, its jcur a flag.
+-- Converged means that the test passed, a NaN among its numbers or not; no solution is claimed.
 use mathlib.Core.Bool.{Bool, true, false, cond, not, _&&_}
 use Prim.Native.Nat.{_+_}
 use lib.Dec.{eqb, leb}

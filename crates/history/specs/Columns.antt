@@ -1,6 +1,7 @@
 -- What predict, retract, rescale and the correction make of the history (`stoda_get_predicted_values`, `retract_yh`,
 -- `stoda_adjust_step_size` and the accepted step of `stoda`), on the one flat list: column j is the n numbers at j·n.
 -- The vectors savf and acor stand where crate common's Layout says.
+-- Floats round: that a retraction brings the columns back is not claimed, and is false.
 use mathlib.Core.List.{List}
 use Prim.Native.Nat.{ℕ, _+_, _-_, _*_}
 use lib.ListN.{length, getD, set, replicate}

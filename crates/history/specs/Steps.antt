@@ -1,6 +1,7 @@
 -- `stoda_adjust_step_size` and `stoda_get_predicted_values` on the record: what they read of it and what they leave.
 -- The Rust's l is nq + 1. Its miter is 0 in the Adams family alone, so `ipup = miter` makes a Jacobian due in the BDF
 -- family and drops it in Adams. Its irflag is not kept: nothing reads it.
+-- Nothing is claimed of the sizes: h may become 0, a NaN or infinite.
 use mathlib.Core.Bool.{Bool, cond, _||_}
 use mathlib.Core.List.{List}
 use Prim.Native.Nat.{_+_, _*_, _^_, _≤_, _<_}

@@ -1,6 +1,7 @@
 -- `interpolate`: a copy where snapshot and output have equal length; otherwise 15 (Header.antt), 16 and 17, in this
 -- order and with the output as it was; otherwise Horner's rule on the columns at s = (xi - tn) / h.
 --     16 the output's length is not n    17 the history is shorter than (nq + 1)·n, or h is zero
+-- That t lies in the step is neither asked nor claimed: outside it the polynomial is evaluated all the same.
 use mathlib.Core.Bool.{cond}
 use mathlib.Core.List.{List}
 use Prim.Native.Nat.{ℕ, _+_, _-_, _*_}

@@ -1,4 +1,5 @@
 -- `snapshot_step`: n, nq, t, h, hu, 2^-52, columns 0 to nq, written to the question from n on.
+-- Of a question that is too short nothing is said: the caller has seen to its length.
 use mathlib.Core.List.{List}
 use Prim.Native.Nat.{ℕ, _+_, _*_}
 use lib.ListN.{getD, set}

@@ -1,6 +1,7 @@
 -- `prja` and what `stoda_corrector_loop` stores after it: the matrix -h·el0·J, by differences or from the host, its
 -- norm, the identity added, its factors. The Rust's y_fd stands in work; r0 and an increment are computed anew where
 -- they are used, from what no column changes: savf, the weights and y.
+-- How near a difference column is to the derivative is not claimed, nor that a matrix that factors is well conditioned.
 use mathlib.Core.Bool.{Bool, true, false, cond}
 use mathlib.Core.List.{List}
 use Prim.Native.Nat.{ℕ, _+_, _*_}

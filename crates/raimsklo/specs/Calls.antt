@@ -1,5 +1,6 @@
 -- start and reply on lent contents: what is answered and what every lent slice holds then, refused calls included.
 -- A refusal leaves all as it was; an end leaves the question as it was (01-scope, 'Limits and refusals').
+-- Contents alone: what a call costs, and what a host does between calls, is not said here.
 use mathlib.Core.Bool.{cond}
 use mathlib.Core.List.{List}
 use Prim.Native.Nat.{ℕ}

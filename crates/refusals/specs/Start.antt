@@ -1,5 +1,6 @@
 -- What a start is refused for: the scope's table, 1 to 11 in its order; and the settings of an accepted start, as
 -- `solve` makes them.
+-- 12 is not here: it needs the first derivative (crate reports).
 use mathlib.Core.Bool.{Bool, false, cond, not, _||_}
 use mathlib.Core.List.{List, [], _∷_}
 use Prim.Native.Nat.{ℕ, _+_, _*_}

@@ -25,7 +25,6 @@ use Rattle.questions.specs.Begin.{goOnOf}
 
 -- ---- the start
 
-
 -- 11: a first step that is zero, NaN or of another sign
 unfoldable pub sizedAt : Settings → Bool → Common → Float → List Float → TurnWork
 sizedAt s true c h work =

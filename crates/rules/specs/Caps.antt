@@ -1,5 +1,6 @@
 -- The caps of demand 3, for one step: functions of the step's own limits, of the family it began in, and of what a
 -- Jacobian costs. (A mxncf of 0 counts as 1 in the limits.)
+-- The second family's cap is an upper bound; that a run attains it is not claimed (docs/PROOFS.md).
 use mathlib.Core.List.{List, [], _∷_}
 use Prim.Native.Nat.{ℕ, _+_, _*_, _≤_}
 use Rattle.common.specs.declared.MethodFamily.{MethodFamily}

@@ -1,5 +1,6 @@
 -- Demands 1 and 3 over the step rules, for every accepted start and every list of replies, refused ones included.
 -- A list that ends early covers the steps that are not finished.
+-- Of how a run ends nothing is claimed but that it does, by name: a run of NaNs may end as success.
 use mathlib.Core.List.{List, [], _∷_}
 use mathlib.Core.Path.{_≡_}
 use Prim.Native.Nat.{ℕ, _+_, _*_, _≤_}

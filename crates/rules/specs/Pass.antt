@@ -1,6 +1,6 @@
 -- A corrector pass: one derivative, a Jacobian if one is due, which by differences is one derivative a column, and then
--- at most maxcor - 1 further derivatives. The matrix, the iteration and its verdict are those of crates jacobian,
--- corrector and verdict.
+-- at most maxcor - 1 further derivatives. The matrix, the iteration and its verdict are those of crates jacobian
+-- and corrector.
 -- `on` is what comes after. A bound of a recursion is its first argument: further derivatives, columns.
 use mathlib.Core.Bool.{Bool, true, false}
 use mathlib.Core.List.{List}

@@ -2,6 +2,7 @@
 -- 'A step' and of the Rust. The tests, sizes, orders and families are those of the crates below.
 -- `on` is what comes after. A bound of a recursion is its first argument: the passes of a step, the steps; that no
 -- bound is used up in a run is part of demand 3.
+-- That the tree is the Rust's is not claimed by a theorem: it is read beside lsoda.rs and compared by runs.
 use mathlib.Core.Bool.{Bool, true, false}
 use mathlib.Core.List.{List, [], _∷_}
 use Prim.Native.Nat.{ℕ, zero, suc, _+_, _*_}

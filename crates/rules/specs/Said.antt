@@ -2,6 +2,7 @@
 -- what becomes of h, the time, the order, the counts and the Jacobian; the coefficient gap; what comes between steps.
 -- It is said of the definitions that the rules use, so other definitions do not meet it. kflag counts upwards here (the
 -- scope's -3 is 3), and icount is kept with 1,000,000 added.
+-- It does not fix the definitions whole: sizes, coefficients and columns are believed (docs/PROOFS.md).
 use mathlib.Core.Bool.{true, false}
 use mathlib.Core.List.{List}
 use mathlib.Core.Logic.{_⊎_, _↔_}
