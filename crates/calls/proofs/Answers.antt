@@ -16,7 +16,7 @@ use borrow.Author.Tests.{eqb-true, eqb-false}
 use Rattle.numbers.specs.Float.{zeroF}
 use Rattle.questions.specs.declared.Phase.{Phase}
 use Rattle.questions.specs.declared.Phase.the-variants as Phase
-use Rattle.questions.specs.Turns.{RunState}
+use Rattle.questions.specs.Turns.{RunState, turnIn}
 use Rattle.session.specs.Session.{encodeOf, decodeOf}
 use Rattle.session.specs.Names.{nWord, phaseWord}
 use Rattle.session.specs.InRange.{InRange}
@@ -26,7 +26,8 @@ use Rattle.common.specs.Limits.{maxStates}
 use Rattle.common.specs.SessionWords.{sessionLength}
 use Rattle.common.specs.State.{Given}
 use Rattle.rules.specs.Rules.{Start}
-use Rattle.refinement.specs.Shown.{sessionFound, resumed, isTaken}
+use Rattle.invariants.specs.Next.{sessionFound}
+use Rattle.refinement.specs.Shown.{resumed, isTaken}
 use Rattle.answers.specs.Answers.{plainReply, questionReply}
 use Rattle.answers.specs.Called.{Buffers, Called}
 use Rattle.raimsklo.specs.Replies.{isKind, kindOf, questionOf, turnWrittenOf, turned, written, acceptedReplyOf}
@@ -40,7 +41,7 @@ use Rattle.calls.proofs.Keeps.{over-or-not, Runs, Keeps}
 use Rattle.calls.proofs.ReplyRefused.{asked-now, gone, reply-refused}
 
 abbrev pub lentOf : RunState → List ℕ → List Float → Buffers
-lentOf l bytes q = record { work = l .work; pivots = l .ipiv; session = bytes; question = q }
+lentOf l bytes q = record { work = l .st .w; pivots = l .st .p; session = bytes; question = q }
 
 module _ (g : Given) (a : Start) (run : Runs g a) (l : RunState) (bytes : List ℕ) (k : Keeps g l bytes)
     (r : ReplyCall) where
@@ -72,7 +73,7 @@ module _ (g : Given) (a : Start) (run : Runs g a) (l : RunState) (bytes : List �
   stated (inr h) = omega (arith, h, k .states, run .ok .settings .n .1)
 
   fitting : isSized (g .s .n) r ≡ true
-      → (length (l .work) ≢ n * n + 19 * n) ⊎ (length (l .ipiv) ≢ n) ⊎ (length (r .question) ≢ 14 * n + 6) → ⊥
+      → (length (l .st .w) ≢ n * n + 19 * n) ⊎ (length (l .st .p) ≢ n) ⊎ (length (r .question) ≢ 14 * n + 6) → ⊥
   fitting sized (inl h) = h (rw (k .states) (k .lent .sized))
   fitting sized (inr (inl h)) = h (rw (k .states) (k .lent .pivots))
   fitting sized (inr (inr h)) = h (rw (k .states) (eqb-true (length (r .question)) (14 * g .s .n + 6) sized))
@@ -85,16 +86,16 @@ module _ (g : Given) (a : Start) (run : Runs g a) (l : RunState) (bytes : List �
   module _ (sized : isSized (g .s .n) r ≡ true) where
     -- ---- the rows of what is stored
 
-    running : isOver (l .turn .phase) ≡ false → phaseWord bytes ≡ 10 → ⊥
+    running : isOver (l .phase) ≡ false → phaseWord bytes ≡ 10 → ⊥
     running e = eqb-false (phaseWord bytes) 10 (k .finished ∙ e)
 
-    ranged : isOver (l .turn .phase) ≡ false → (InRange bytes (l .ipiv) → ⊥) → ⊥
-    ranged e out = out (in-range bytes (l .ipiv) .0 (k .found e .passed))
+    ranged : isOver (l .phase) ≡ false → (InRange bytes (l .st .p) → ⊥) → ⊥
+    ranged e out = out (in-range bytes (l .st .p) .0 (k .found e .passed))
 
     abbrev Asks : Bool → Type 0
     Asks t = isKind (r .kind) && isTaken g l (fedAs r) ≡ t
 
-    first-14 : Asks false → (isOver (l .turn .phase) ≡ false) ⊎ (l .turn .phase ≡ Phase.Finished) → FirstIs 14 rows
+    first-14 : Asks false → (isOver (l .phase) ≡ false) ⊎ (l .phase ≡ Phase.Finished) → FirstIs 14 rows
     first-14 off (inr e) =
         inr (long, inr (stated, inr (fitting sized,
         inl (eqb-true (phaseWord bytes) 10 (k .finished ∙ ap isOver e), refl))))
@@ -103,11 +104,11 @@ module _ (g : Given) (a : Start) (run : Runs g a) (l : RunState) (bytes : List �
         inl (asked-now (r .kind) (r .numbers) (r .time) lent .1 (rw (k .decoded) off), refl))))))
 
     pub reply-unasked : Asks false → answer ≡ leaves 14
-    reply-unasked off = left-by 14 (first-14 off (over-or-not (l .turn .phase)))
+    reply-unasked off = left-by 14 (first-14 off (over-or-not (l .phase)))
 
     -- ---- none holds
 
-    none : isOver (l .turn .phase) ≡ false → Asks true → NoneHolds rows
+    none : isOver (l .phase) ≡ false → Asks true → NoneHolds rows
     none e on =
         (long, (stated, (fitting sized, (running e, (ranged e,
         (λ no. no (asked-now (r .kind) (r .numbers) (r .time) lent .0 (rw (k .decoded) on)), tt))))))
@@ -124,16 +125,16 @@ module _ (g : Given) (a : Start) (run : Runs g a) (l : RunState) (bytes : List �
 
     abbrev taken : RunState → Called
     taken m = record {
-      reply = questionReply (m .turn .question);
+      reply = questionReply (m .question);
       lent = lentOf m (encodeOf (sessionFound g m) bytes)
-          (questionOf (g .s) (m .turn .phase) (m .turn .common) (m .work) (r .question));
+          (questionOf (g .s) (m .phase) (m .st .c) (m .st .w) (r .question));
     }
 
-    write : (m : RunState) → Well 0 (m .turn) → written (g .s) m lent ≡ taken m
+    write : (m : RunState) → Well 0 (turnIn m) → written (g .s) m lent ≡ taken m
     unfolding turnWrittenOf
-    write m w = rw (asking (m .turn .question) (m .turn .phase) (m .turn .common) (w .agrees))
+    write m w = rw (asking (m .question) (m .phase) (m .st .c) (w .agrees))
 
-    pub reply-taken : isOver (l .turn .phase) ≡ false → Asks true → Well 0 (resumed g l (fedAs r) .turn)
+    pub reply-taken : isOver (l .phase) ≡ false → Asks true → Well 0 (turnIn (resumed g l (fedAs r)))
         → answer ≡ taken (resumed g l (fedAs r))
     reply-taken e on w =
         gone (r .kind) (r .numbers) (r .time) lent (none e on) ∙ go-is ∙ write (resumed g l (fedAs r)) w

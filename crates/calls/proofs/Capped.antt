@@ -12,7 +12,6 @@ use lib.Dec.{eqb, lit<}
 use lib.Ieee.{Float}
 use Rattle.loops.specs.Test.{differs, both}
 use Rattle.numbers.specs.Float.{zeroF}
-use Rattle.common.specs.declared.Common.{Common}
 use Rattle.between_steps.specs.declared.Answer.{Answer}
 use Rattle.questions.specs.declared.Question.{Question}
 use Rattle.questions.specs.declared.Question.the-variants as Question
@@ -21,7 +20,7 @@ use Rattle.questions.specs.Turns.{RunState}
 use Rattle.session.specs.Session.{decodeOf}
 use Rattle.rules.specs.Play.{derivativeAt, jacobianAt, Ending, Play, ret, ask, tell, say, finished, stepRefused}
 use Rattle.rules.specs.Play.{weightRefused, exhausted}
-use Rattle.common.specs.State.{Given}
+use Rattle.common.specs.State.{Given, State}
 use Rattle.rules.specs.Rules.{Start}
 use Rattle.rules.specs.Steps.{Step, Tally, requested, put-tally, noted, marked}
 use Rattle.rules.specs.Replies.{Reply as Fed}
@@ -224,7 +223,7 @@ module _ (g : Given) (a : Start) (run : Runs g a) where
     accepted-is : decodeOf (x .lent .session) .common .nst ≡ stateAt (z .node) .c .nst
     accepted-is =
         ap (λ (y : Session). y .common .nst) (z .at .keeps .decoded)
-        ∙ ap (λ (c : Common). c .nst) (arrived g (z .node) (z .left) (z .at .stands) .holds .common)
+        ∙ ap (λ (y : State). y .c .nst) (arrived g (z .node) (z .left) (z .at .stands) .holds .same)
 
     count-is : Last (z .node) x → isReport (x .reply) ≡ true → x .reply .count ≡ latest zs
     count-is (inl k) i =

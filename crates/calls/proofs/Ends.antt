@@ -88,7 +88,7 @@ module _ (g : Given) (a : Start) (run : Runs g a) where
   spoken t l x r w = record {
     question = r .question;
     said = w .said;
-    asked = resumed g l (fedAs r) .turn .question;
+    asked = resumed g l (fedAs r) .question;
     answer = w .answer;
   }
 

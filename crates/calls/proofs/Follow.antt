@@ -12,7 +12,7 @@ use Rattle.questions.specs.declared.Session.{Session}
 use Rattle.questions.specs.Turns.{RunState}
 use Rattle.refusals.specs.Start.{acceptedSettings}
 use Rattle.rules.specs.Play.{Play}
-use Rattle.common.specs.State.{Given}
+use Rattle.common.specs.State.{Given, State}
 use Rattle.rules.specs.Rules.{Start}
 use Rattle.refinement.specs.AtNode.{startedAt}
 use Rattle.refinement.proofs.Follows.{arrived}
@@ -126,7 +126,7 @@ calls-follow p b begins =
             record {
               sized = k .long;
               settings = ap (λ (x : Session). x .settings) (k .decoded);
-              common = ap (λ (x : Session). x .common) (k .decoded) ∙ h .common;
+              common = ap (λ (x : Session). x .common) (k .decoded) ∙ ap (λ (x : State). x .c) (h .same);
               phase = rw phase (z .1 .phased);
               takes = λ r. rw phase (h .takes r);
               rtol = k .slots .0;
@@ -136,10 +136,12 @@ calls-follow p b begins =
       taken = λ rs f. taken-all g a run rs f (treeOf p b) (startedAt g a) (startOf p b) at;
       work = λ rs f.
           let z = stays-all g a run rs f (treeOf p b) (startedAt g a) (startOf p b) at in
-          z .1 .work ∙ arrived g (standsAt (g .s .n) (treeOf p b) rs) (z .0) (z .1 .stands) .holds .work;
+          z .1 .work
+          ∙ ap (λ (x : State). x .w) (arrived g (standsAt (g .s .n) (treeOf p b) rs) (z .0) (z .1 .stands) .holds .same);
       pivots = λ rs f.
           let z = stays-all g a run rs f (treeOf p b) (startedAt g a) (startOf p b) at in
-          z .1 .pivots ∙ arrived g (standsAt (g .s .n) (treeOf p b) rs) (z .0) (z .1 .stands) .holds .ipiv;
+          z .1 .pivots
+          ∙ ap (λ (x : State). x .p) (arrived g (standsAt (g .s .n) (treeOf p b) rs) (z .0) (z .1 .stands) .holds .same);
       refused = λ rs r f t i.
           let z = stays-all g a run rs f (treeOf p b) (startedAt g a) (startOf p b) at in
           refused-so g a run _ (z .0) _ r (call g a run _ (z .0) _ r t (z .1)) i;

@@ -24,7 +24,7 @@ use Rattle.refusals.specs.Start.{acceptedSettings}
 use Rattle.common.specs.SessionWords.{countWords, floatWords, rtolAt, atolAt, sessionLength}
 use Rattle.common.specs.Limits.{maxStates}
 use Rattle.common.specs.State.{Given}
-use Rattle.refinement.specs.Shown.{sessionFound}
+use Rattle.invariants.specs.Next.{sessionFound}
 use Rattle.refinement.specs.AtNode.{startedAt}
 use Rattle.answers.specs.Called.{Buffers, Called}
 use Rattle.raimsklo.specs.Calls.{Problem}
@@ -131,9 +131,9 @@ module _ (p : Problem) (b c : Buffers) (v : WellFormed p b) (w : WellFormed p c)
       let is' = begun-is p c w in
       record {
         reply = ap (λ (x : Called). x .reply) is ∙ sym (ap (λ (x : Called). x .reply) is');
-        work = ap (λ (x : Called). x .lent .work) is ∙ ap (λ (l : RunState). l .work) same-left
+        work = ap (λ (x : Called). x .lent .work) is ∙ ap (λ (l : RunState). l .st .w) same-left
             ∙ sym (ap (λ (x : Called). x .lent .work) is');
-        pivots = ap (λ (x : Called). x .lent .pivots) is ∙ ap (λ (l : RunState). l .ipiv) same-left
+        pivots = ap (λ (x : Called). x .lent .pivots) is ∙ ap (λ (l : RunState). l .st .p) same-left
             ∙ sym (ap (λ (x : Called). x .lent .pivots) is');
         session = ap (λ (x : Called). x .lent .session) is ∙ same-bytes
             ∙ sym (ap (λ (x : Called). x .lent .session) is');

@@ -46,7 +46,7 @@ use Rattle.calls.proofs.Walk.{At, Outcome, refused, taken, call}
 
 abbrev pub acted : Given → RunState → Act → RunState
 acted g l (gives f) = resumed g l (derivative (f ∷ []) zeroF)
-acted g l continues = resumed g l (answer Continue (y (g .s .n) (l .work)) (l .turn .common .tn))
+acted g l continues = resumed g l (answer Continue (y (g .s .n) (l .st .w)) (l .st .c .tn))
 
 unfoldable pub hosted : Given → RunState → List Act → RunState
 hosted g l [] = l
@@ -65,7 +65,7 @@ isReported Question.Unasked = false
 abbrev pub isFine : Given → RunState → Act → Bool
 isFine g l (gives f) = isTaken g l (derivative (f ∷ []) zeroF)
 isFine g l continues =
-    isReported (l .turn .question) && isTaken g l (answer Continue (y (g .s .n) (l .work)) (l .turn .common .tn))
+    isReported (l .question) && isTaken g l (answer Continue (y (g .s .n) (l .st .w)) (l .st .c .tn))
 
 unfoldable pub allowed : Given → RunState → List Act → Bool
 allowed g l [] = true
@@ -114,13 +114,13 @@ module _ (g : Given) (a : Start) (run : Runs g a) (one : g .s .n ≡ 1) where
     pub at : At g a run node l x
     pub question : List Float
     pub said : saidBy x ≡ saidAt (g .s .n) node question
-    pub answer : x .reply ≡ questionReply (l .turn .question)
-    pub agrees : Agrees (l .turn .question) (l .turn .phase) (l .turn .common)
+    pub answer : x .reply ≡ questionReply (l .question)
+    pub agrees : Agrees (l .question) (l .phase) (l .st .c)
 
   -- what was said is what the machine shows
   pub said-shown : (l : RunState) (x : Called) (h : Host l x)
       → saidBy x ≡ saidOf (g .s .n) (stateAt (h .node) .c .nq)
-      (shownAs (g .s .n) (l .turn .question) (l .turn .phase) (l .turn .common) (l .work)) (h .question)
+      (shownAs (g .s .n) (l .question) (l .phase) (l .st .c) (l .st .w)) (h .question)
   said-shown l x h =
       h .said
       ∙ ap (λ (v : Shown). saidOf (g .s .n) (stateAt (h .node) .c .nq) v (h .question))
@@ -156,16 +156,16 @@ module _ (g : Given) (a : Start) (run : Runs g a) (one : g .s .n ≡ 1) where
   acts l x (gives f) q long h e =
       goes l x (replyWith 1 (f ∷ []) zeroF q) (fits-is-f64 _ (literal 0)) h (sized 1 (f ∷ []) zeroF q long) refl e
   acts l x continues q long h e =
-      let w = both (isReported (l .turn .question)) _ e in
-      let v = l .turn .question in
-      let c = l .turn .common in
-      let state = y (g .s .n) (l .work) in
-      let room : 19 * g .s .n ≤ length (l .work) = omega (arith, h .at .keeps .lent .sized) in
+      let w = both (isReported (l .question)) _ e in
+      let v = l .question in
+      let c = l .st .c in
+      let state = y (g .s .n) (l .st .w) in
+      let room : 19 * g .s .n ≤ length (l .st .w) = omega (arith, h .at .keeps .lent .sized) in
       let first : part 0 (g .s .n) (x .lent .question) ≡ state =
       ap (λ (z : Said). part 0 (g .s .n) (z .question)) (said-shown l x h)
-      ∙ reads-state (g .s .n) (stateAt (h .node) .c .nq) c (l .work) (h .question) room v (l .turn .phase) (w .0) in
+      ∙ reads-state (g .s .n) (stateAt (h .node) .c .nq) c (l .st .w) (h .question) room v (l .phase) (w .0) in
       let time : x .reply .time ≡ c .tn =
-      ap (λ (z : Reply). z .time) (h .answer) ∙ reads-time v (l .turn .phase) c (w .0) (h .agrees) in
+      ap (λ (z : Reply). z .time) (h .answer) ∙ reads-time v (l .phase) c (w .0) (h .agrees) in
       rw (ap (λ (k : ℕ). part 0 k (x .lent .question)) (sym one) ∙ first, time)
       (goes l x (replyWith 3 state (c .tn) q) (fits-is-f64 _ (h .at .keeps .floats .tn)) h
       (sized 3 state (c .tn) q long) refl (w .1))

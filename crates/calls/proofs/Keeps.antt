@@ -31,7 +31,8 @@ use Rattle.common.specs.SessionWords.{sessionLength}
 use Rattle.common.specs.State.{Given}
 use Rattle.rules.specs.Rules.{Start}
 use Rattle.rules.specs.Replies.{Reply as Fed}
-use Rattle.refinement.specs.Shown.{sessionFound, withOf, resumed}
+use Rattle.invariants.specs.Next.{sessionFound}
+use Rattle.refinement.specs.Shown.{resumed}
 use Rattle.refinement.specs.InRun.{Accepts, InRun}
 use Rattle.between_steps.proofs.Within.{coreOf}
 use Rattle.invariants.proofs.Ranges.{Closing}
@@ -71,21 +72,21 @@ pub record Runs (g : Given) (a : Start) : Type 0 where
 
 -- of a run that has not ended
 pub record Found (g : Given) (l : RunState) (bytes : List ℕ) : Type 0 where
-  pub passed : inRangeOf bytes (l .ipiv) ≡ true
-  pub ialth : l .turn .common .ialth ≤ 13
+  pub passed : inRangeOf bytes (l .st .p) ≡ true
+  pub ialth : l .st .c .ialth ≤ 13
 
 pub record Keeps (g : Given) (l : RunState) (bytes : List ℕ) : Type 0 where
   pub long : length bytes ≡ sessionLength
-  pub lent : Lent (g .s .n) (l .work) (l .ipiv)
+  pub lent : Lent (g .s .n) (l .st .w) (l .st .p)
   pub states : storedN bytes ≡ g .s .n
-  pub finished : finishedIn bytes ≡ isOver (l .turn .phase)
+  pub finished : finishedIn bytes ≡ isOver (l .phase)
   pub rtol : part 0 (g .s .nrtol) (rtolSlots bytes) ≡ g .rtol
   pub atol : part 0 (g .s .natol) (atolSlots bytes) ≡ g .atol
   pub slots : (rtolSlots bytes ≡ slotsOf (g .rtol)) × (atolSlots bytes ≡ slotsOf (g .atol))
   pub signs : tolerancesInRange bytes (g .s) ≡ true
   pub floats : FloatsFit (sessionFound g l)
   pub decoded : decodeOf bytes ≡ sessionFound g l
-  pub found : isOver (l .turn .phase) ≡ false → Found g l bytes
+  pub found : isOver (l .phase) ≡ false → Found g l bytes
 
 -- ---- an encoding
 
@@ -100,14 +101,14 @@ pivots-below p k h = p .below k (omega (arith, p .pivots))
 module _ (g : Given) (a : Start) (run : Runs g a) where
   -- a run's counts, whether it has ended or not
   pub record Bounded (l : RunState) : Type 0 where
-    pub closing : Closing (g .s) (coreOf (l .turn .common))
-    pub counts : Counts (l .turn .common) (2 ^ 62 - 1)
-    pub low : Low 0 (l .turn .common)
+    pub closing : Closing (g .s) (coreOf (l .st .c))
+    pub counts : Counts (l .st .c) (2 ^ 62 - 1)
+    pub low : Low 0 (l .st .c)
 
   pub counts-fit-of : (l : RunState) → Bounded l → CountsFit (sessionFound g l)
   counts-fit-of l h =
       let s = run .ok .settings in
-      let c = l .turn .common in
+      let c = l .st .c in
       let k = h .counts in
       let o = h .closing in
       record {
@@ -141,13 +142,13 @@ module _ (g : Given) (a : Start) (run : Runs g a) where
       }
 
   pub found-after : (l : RunState) (bytes : List ℕ) → sessionLength ≤ length bytes → Fits (sessionFound g l)
-      → tolerancesInRange bytes (g .s) ≡ true → Low 0 (l .turn .common)
-      → Resumes (sessionFound g l) (g .rtol) (g .atol) (l .work) (l .ipiv)
+      → tolerancesInRange bytes (g .s) ≡ true → Low 0 (l .st .c)
+      → Resumes (sessionFound g l) (g .rtol) (g .atol) (l .st .w) (l .st .p)
       → Found g l (encodeOf (sessionFound g l) bytes)
   found-after l bytes room fits signs low r =
-      let c = l .turn .common in
+      let c = l .st .c in
       record {
-        passed = passes (sessionFound g l) bytes room fits (r .ranges) (run .nrtol) (run .natol) signs (l .ipiv)
+        passed = passes (sessionFound g l) bytes room fits (r .ranges) (run .nrtol) (run .natol) signs (l .st .p)
             (pivots-below (r .lent));
         ialth = low-ialth (c .nq) (c .ialth) (r .ranges .orders .nq .1) low;
       }
@@ -166,11 +167,11 @@ module _ (g : Given) (a : Start) (run : Runs g a) where
     keeps-next =
         let room : sessionLength ≤ length bytes = omega (arith, k .long) in
         let x = sessionFound g after in
-        let floats = floats-kept (sessionFound g l) (r .kind) (r .numbers) (r .time) (withOf g l) (k .floats) time in
+        let floats = floats-kept g l (r .kind) (r .numbers) (r .time) (k .floats) time in
         let fits : Fits x = record { counts = counts-fit-of after bounded; floats = floats } in
         record {
           long = length-encode x bytes ∙ k .long;
-          lent = resume-lent (sessionFound g l) (r .numbers) (r .time) (withOf g l) (k .lent) (r .kind);
+          lent = resume-lent g (l .phase) (l .st) (r .numbers) (r .time) (k .lent) (r .kind);
           states = encoded-count x bytes room 1 (lit< tt) (omega (arith, run .ok .settings .n .1));
           finished = finished-encode x bytes room;
           rtol = rw (rtol-kept x bytes room) (k .rtol);
@@ -180,5 +181,5 @@ module _ (g : Given) (a : Start) (run : Runs g a) where
           floats = floats;
           decoded = decode-encode x bytes room fits;
           found = λ e. found-after after bytes room fits (k .signs) (bounded .low)
-              (unless (after .turn .phase) e inRun);
+              (unless (after .phase) e inRun);
         }

@@ -59,22 +59,22 @@ shown-in n phase c w (Question.StepRefused h) g = g
 shown-in n phase c w (Question.WeightRefused i) g = g
 shown-in n phase c w Question.Unasked g = absurd g
 
-module _ (g : Given) (l : RunState) (a : Agrees (l .turn .question) (l .turn .phase) (l .turn .common)) where
+module _ (g : Given) (l : RunState) (a : Agrees (l .question) (l .phase) (l .st .c)) where
   abbrev n : ℕ
   n = g .s .n
 
-  shows : (v : Shown) → shownAs n (l .turn .question) (l .turn .phase) (l .turn .common) (l .work) ≡ v
-      → ShownIn n (l .turn .phase) (l .work) v
+  shows : (v : Shown) → shownAs n (l .question) (l .phase) (l .st .c) (l .st .w) ≡ v
+      → ShownIn n (l .phase) (l .st .w) v
   shows v e =
-      subst (ShownIn n (l .turn .phase) (l .work)) e
-      (shown-in n (l .turn .phase) (l .turn .common) (l .work) (l .turn .question) a)
+      subst (ShownIn n (l .phase) (l .st .w)) e
+      (shown-in n (l .phase) (l .st .c) (l .st .w) (l .question) a)
 
-  pub phase-node : (t : Play) → AtNode g t l → PhaseAt n t (l .turn .phase)
+  pub phase-node : (t : Play) → AtNode g t l → PhaseAt n t (l .phase)
   phase-node (ret (finished status x)) s = shows _ (s .shows)
   phase-node (ret (stepRefused h x)) s = shows _ (s .shows)
   phase-node (ret (weightRefused i x)) s = shows _ (s .shows)
   phase-node (ret (exhausted x)) s = absurd s
-  phase-node (ask (derivativeAt t v) x k) s = rw (← s .0 .holds .work) (shows _ (s .0 .shows))
+  phase-node (ask (derivativeAt t v) x k) s = rw (← s .0 .holds .same) (shows _ (s .0 .shows))
   phase-node (ask (jacobianAt t v) x k) s = shows _ (s .0 .shows)
   phase-node (tell r x k) s = shows _ (s .0 .shows)
   phase-node (say e p) s = phase-node p s

@@ -26,7 +26,7 @@ use Rattle.questions.specs.declared.Session.{Session}
 use Rattle.between_steps.specs.declared.Status.{Status}
 use Rattle.between_steps.specs.declared.Status.the-variants as Status
 use Rattle.questions.specs.declared.Turn.{Turn}
-use Rattle.questions.specs.Turns.{askedOf, askedInStepOf, finishedOf}
+use Rattle.questions.specs.Turns.{turnIn, askedOf, askedInStepOf, finishedOf}
 use Rattle.questions.specs.Begin.{openPassOf, beganOf, goOnAt, goOnOf}
 use Rattle.between_steps.specs.Begin.{isGoing}
 use Rattle.reports.specs.Reports.{afterFirstReportOf, afterReportOf}
@@ -43,7 +43,7 @@ use Rattle.calls.specs.ReplyRefused.{phaseIn, replyRows}
 use Rattle.calls.specs.ReplyMeans.{Kinds, Numbers, Listed, endedBy, AtReport, HeldAtEnd, Meant, ReplyMeans}
 use Rattle.calls.proofs.Agrees.{status-number, asking}
 use Rattle.calls.proofs.Turns.{resume-means}
-use Rattle.calls.proofs.ReplyRefused.{isRefusing, withIn, stored-phase, gone, is-now, agreed, went, refusing}
+use Rattle.calls.proofs.ReplyRefused.{isRefusing, givenIn, stateIn, stored-phase, gone, is-now, agreed, went, refusing}
 use Rattle.calls.proofs.ReplyRefused.{reply-refused}
 
 pub kinds : Kinds
@@ -154,13 +154,13 @@ module _ (kind : ℕ) (numbers : List Float) (time : Float) (b : Buffers) where
   reply = replyOf kind numbers time b
 
   abbrev turn : Turn
-  turn = turned (kindOf kind) numbers time b .turn
+  turn = turnIn (turned (kindOf kind) numbers time b)
 
   meant : NoneHolds rows → Meant (x .settings) (phaseIn b) (kindOf kind) (turn .question) (turn .phase) (turn .common)
   meant h =
       subst (λ (p : Phase). Meant (x .settings) p (kindOf kind) (turn .question) (turn .phase) (turn .common))
       (stored-phase (b .session))
-      (resume-means x numbers time (withIn b) (kindOf kind) (is-now kind numbers time b h))
+      (resume-means (givenIn b) (x .phase) (stateIn b) (kindOf kind) numbers time (is-now kind numbers time b h))
 
   kept : NoneHolds rows
       → reply .lent .session
@@ -185,14 +185,14 @@ module _ (kind : ℕ) (numbers : List Float) (time : Float) (b : Buffers) where
 
   -- the answer, of a phase and a kind that are known
   pub answer-at : (p : Phase) (k : Kind) → NoneHolds rows → phaseIn b ≡ p → kindOf kind ≡ k
-      → reply .reply ≡ questionReply (dealtOf x p k numbers time (withIn b) .turn .question)
+      → reply .reply ≡ questionReply (dealtOf (givenIn b) p (stateIn b) k numbers time .question)
   unfolding resumeOf
   answer-at p k h e f =
       went kind numbers time b h
       ∙ rw (is-now kind numbers time b h)
-      (ap (λ (q : Phase). questionReply (dealtOf x q (kindOf kind) numbers time (withIn b) .turn .question))
+      (ap (λ (q : Phase). questionReply (dealtOf (givenIn b) q (stateIn b) (kindOf kind) numbers time .question))
       (stored-phase (b .session) ∙ e)
-      ∙ ap (λ (j : Kind). questionReply (dealtOf x p j numbers time (withIn b) .turn .question)) f)
+      ∙ ap (λ (j : Kind). questionReply (dealtOf (givenIn b) p (stateIn b) j numbers time .question)) f)
 
   kind-is : (k : ℕ) → kind ≡ k → kindOf kind ≡ kindOf k
   kind-is k e = ap kindOf e

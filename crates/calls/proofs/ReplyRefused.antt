@@ -2,7 +2,7 @@
 --     reply-refused, asked-now
 --     a-derivative, a-jacobian, an-answer     what is asked, by the kind's number and the length
 --     gone, is-now, went, agreed     a reply that is taken is what was asked, and is answered by the machine
---     withIn, stored-phase           what the session is resumed with, and its phase
+--     givenIn, stateIn, stored-phase       what the session is resumed with, and its phase
 -- Assumes nothing.
 use mathlib.Core.Bool.{Bool, true, false, cond, not, _&&_, _||_, true≢false}
 use mathlib.Core.List.{List, [], _∷_}
@@ -18,11 +18,13 @@ use Rattle.loops.specs.Test.{differs, both, one-of}
 use Rattle.numbers.specs.Float.{zeroF}
 use Rattle.common.specs.Limits.{maxStates}
 use Rattle.common.specs.SessionWords.{countWords, sessionLength}
+use Rattle.common.specs.State.{Given, State, given, state}
 use Rattle.common.specs.declared.Settings.{Settings}
 use Rattle.questions.specs.declared.Phase.{Phase}
 use Rattle.questions.specs.declared.Phase.the-variants as Phase
 use Rattle.questions.specs.declared.Turn.{Turn}
-use Rattle.machine.specs.Resume.{With, isAsked}
+use Rattle.questions.specs.Turns.{turnIn}
+use Rattle.machine.specs.Resume.{isAsked}
 use Rattle.between_steps.specs.Replies.{isDerivative, isJacobian, isAnswer}
 use Rattle.words.proofs.Rows.{counts-at}
 use Rattle.session.specs.States.{phaseOf}
@@ -193,8 +195,11 @@ two true t a b = refl
 two false t a b = refl
 
 -- what the stored session is resumed with
-abbrev pub withIn : Buffers → With
-withIn b = record { rtol = rtolOf (b .session); atol = atolOf (b .session); work = b .work; ipiv = b .pivots }
+abbrev pub givenIn : Buffers → Given
+givenIn b = given (decodeOf (b .session) .settings) (rtolOf (b .session)) (atolOf (b .session))
+
+abbrev pub stateIn : Buffers → State
+stateIn b = state (decodeOf (b .session) .common) (b .work) (b .pivots)
 
 pub stored-phase : (b : List ℕ) → decodeOf b .phase ≡ phaseOf (phaseWord b)
 unfolding decodeOf
@@ -248,7 +253,7 @@ module _ (kind : ℕ) (numbers : List Float) (time : Float) (b : Buffers) where
 
   unasked-leaves : isNow ≡ false → go ≡ leaves 14
   unfolding acceptedReplyOf turnWrittenOf
-  unasked-leaves e = rw (resume-same (decodeOf (b .session)) (kindOf kind) numbers time (withIn b) e)
+  unasked-leaves e = rw (resume-same (givenIn b) (decodeOf (b .session) .phase) (stateIn b) (kindOf kind) numbers time e)
 
   last : (s t : Bool) → isNow ≡ t → cond (not s) (leaves 14) go ≡ cond (not (s && t)) (leaves 14) go
   last false t e = refl
@@ -323,21 +328,22 @@ module _ (kind : ℕ) (numbers : List Float) (time : Float) (b : Buffers) where
   is-now h = both (isKind kind) isNow (decided-true _ asked-now (h .1 .1 .1 .1 .1 .0)) .1
 
   pub went : NoneHolds (replyRows kind numbers b)
-      → replyOf kind numbers time b .reply ≡ questionReply (turned (kindOf kind) numbers time b .turn .question)
+      → replyOf kind numbers time b .reply ≡ questionReply (turned (kindOf kind) numbers time b .question)
   unfolding acceptedReplyOf
   went h =
       let m = turned (kindOf kind) numbers time b in
-      ap (λ (x : Called). x .reply) (gone h) ∙ settled-reply (decodeOf (b .session) .settings) (m .turn) (m .work)
+      ap (λ (x : Called). x .reply) (gone h) ∙ settled-reply (decodeOf (b .session) .settings) (turnIn m) (m .st .w)
 
   pub agreed : NoneHolds (replyRows kind numbers b)
-      → let t = turned (kindOf kind) numbers time b .turn in Agrees (t .question) (t .phase) (t .common)
+      → let t = turnIn (turned (kindOf kind) numbers time b) in Agrees (t .question) (t .phase) (t .common)
   agreed h =
       let x = decodeOf (b .session) in
-      resume-well (x .common .ialth) x numbers time (withIn b) (omega arith) (kindOf kind) (is-now h) .agrees
+      resume-well (x .common .ialth) (givenIn b) (stateIn b) numbers time (omega arith) (x .phase) (kindOf kind) (is-now h)
+      .agrees
 
   taken-not : NoneHolds (replyRows kind numbers b) → isRefusal (replyOf kind numbers time b .reply) ≡ false
   taken-not h =
-      let t = turned (kindOf kind) numbers time b .turn in
+      let t = turnIn (turned (kindOf kind) numbers time b) in
       ap isRefusal (went h) ∙ not-refusal (t .question) (t .phase) (t .common) (agreed h)
 
   -- ---- the claim

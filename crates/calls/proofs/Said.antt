@@ -22,7 +22,7 @@ use Rattle.questions.specs.declared.Phase.{Phase}
 use Rattle.questions.specs.declared.Phase.the-variants as Phase
 use Rattle.questions.specs.declared.Question.{Question}
 use Rattle.questions.specs.declared.Question.the-variants as Question
-use Rattle.questions.specs.Turns.{RunState}
+use Rattle.questions.specs.Turns.{RunState, turnIn}
 use Rattle.rules.specs.Play.{Play}
 use Rattle.common.specs.State.{Given}
 use Rattle.refinement.specs.Shown.{shownAs}
@@ -105,12 +105,12 @@ module _ (s : Settings) (c : Common) (work q : List Float) (history : 19 * s .n 
 -- ---- what the tree says
 
 module _ (g : Given) where
-  pub says-node : (t : Play) (l : RunState) (q : List Float) → AtNode g t l → Well 0 (l .turn)
-      → (isOver (l .turn .phase) ≡ false → l .turn .common .nq ≤ 12) → 19 * g .s .n ≤ length (l .work)
+  pub says-node : (t : Play) (l : RunState) (q : List Float) → AtNode g t l → Well 0 (turnIn l)
+      → (isOver (l .phase) ≡ false → l .st .c .nq ≤ 12) → 19 * g .s .n ≤ length (l .st .w)
       → length q ≡ 14 * g .s .n + 6
-      → says (questionReply (l .turn .question)) (questionOf (g .s) (l .turn .phase) (l .turn .common) (l .work) q)
+      → says (questionReply (l .question)) (questionOf (g .s) (l .phase) (l .st .c) (l .st .w) q)
       ≡ saidAt (g .s .n) t q
   says-node t l q s w o history room =
       let f = arrived g t l s in
-      says-question (g .s) (l .turn .common) (l .work) q history room (l .turn .question) (l .turn .phase) (w .agrees) o
-      ∙ rw (f .shows, f .holds .common)
+      says-question (g .s) (l .st .c) (l .st .w) q history room (l .question) (l .phase) (w .agrees) o
+      ∙ rw (f .shows, f .holds .same)

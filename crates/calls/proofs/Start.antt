@@ -32,7 +32,8 @@ use Rattle.session.proofs.Passes.{assembled, fields-in-range, pivots-in-range, 
 use Rattle.session.proofs.Listed.{counts-fit}
 use Rattle.common.specs.State.{Given}
 use Rattle.rules.specs.Rules.{Start, beginning}
-use Rattle.refinement.specs.Shown.{sessionFound, reachedAfter}
+use Rattle.invariants.specs.Next.{sessionFound}
+use Rattle.refinement.specs.Shown.{reachedAfter}
 use Rattle.refinement.specs.AtNode.{startedAt}
 use Rattle.refinement.proofs.Kept.{session-kept}
 use Rattle.invariants.proofs.Fits.{start-fits}
@@ -139,7 +140,7 @@ module _ (p : Problem) (b : Buffers) (begins : Begins p b) where
   atol-fits : ListFits (p .atol)
   atol-fits i h = is-f64-fits _ (begins .floats .atol i h)
 
-  resumes : Resumes x (p .rtol) (p .atol) (startedAt g a .work) (startedAt g a .ipiv)
+  resumes : Resumes x (p .rtol) (p .atol) (startedAt g a .st .w) (startedAt g a .st .p)
   unfolding reachedAfter
   resumes = session-kept g a (begun-run .ok) []
 
@@ -170,10 +171,10 @@ module _ (p : Problem) (b : Buffers) (begins : Begins p b) where
   begun-found =
       let e = encodeOf x (b .session) in
       record {
-        passed = assembled bytes (startedAt g a .ipiv) x (countsOf x) decoded
+        passed = assembled bytes (startedAt g a .st .p) x (countsOf x) decoded
             (counts-put (p .rtol) (p .atol) e ∙ counts-back x (b .session) room fits)
             (fields-in-range x fits (resumes .ranges) (begun-run .nrtol) (begun-run .natol)) signs
-            (pivots-in-range (startedAt g a .ipiv) (g .s .n) (pivots-below (resumes .lent)));
+            (pivots-in-range (startedAt g a .st .p) (g .s .n) (pivots-below (resumes .lent)));
         ialth = omega arith;
       }
 

@@ -128,7 +128,7 @@ record Ends (r : SumRow) : Type 0 where
   asked : allowed (setOf r) (begunOf r) (r .acts) ≡ true
   over : isEnded (shownBy 1 (leftOf r)) ≡ true
   reply : saidAlone (shownBy 1 (leftOf r)) ≡ r .result .reply
-  y : column 1 0 (leftOf r .work) ≡ r .result .y
+  y : column 1 0 (leftOf r .st .w) ≡ r .result .y
 
 pub begins-single : (c : Single) → Accepted c → FloatsGiven (problemOf c) → (b : Buffers)
     → lengthsOf (problemOf c) b ≡ sizes → Begins (problemOf c) b
@@ -201,7 +201,7 @@ module _ (r : SumRow) (accepted : Accepted (r .problem)) (floats : FloatsGiven (
       ∙ ended-said (g .s .n) order (last .question) (shownBy 1 (leftOf r)) (x .over) ∙ x .reply
 
   state-is : column 1 0 (finally .lent .work) ≡ r .result .y
-  state-is = ap (column 1 0) (last .at .work) ∙ ap (λ (m : RunState). column 1 0 (m .work)) same-left ∙ x .y
+  state-is = ap (column 1 0) (last .at .work) ∙ ap (λ (m : RunState). column 1 0 (m .st .w)) same-left ∙ x .y
 
   result-is : resultOf b q r ≡ r .result
   unfolding resultOf

@@ -25,6 +25,7 @@ use Rattle.common.specs.declared.Common.{Common}
 use Rattle.common.specs.Limits.{mxncfOf}
 use Rattle.common.specs.Record.{with-tn, with-column}
 use Rattle.common.specs.Rules.{tinyOf}
+use Rattle.common.specs.State.{Given, State}
 use Rattle.jacobian.specs.Jacobian.{beginOf, finishJacobianOf as factorsOf}
 use Rattle.corrector.specs.declared.Pass.{Pass}
 use Rattle.corrector.specs.declared.Pass.the-variants as Pass
@@ -41,10 +42,9 @@ use Rattle.between_steps.specs.declared.Kind.{Kind}
 use Rattle.between_steps.specs.declared.Kind.the-variants as Kind
 use Rattle.questions.specs.declared.Phase.{Phase}
 use Rattle.questions.specs.declared.Phase.the-variants as Phase
-use Rattle.questions.specs.declared.Session.{Session}
 use Rattle.between_steps.specs.declared.Status.the-variants as Status
 use Rattle.questions.specs.declared.Turn.{Turn}
-use Rattle.questions.specs.Turns.{askedOf, askedInStepOf, finishedOf}
+use Rattle.questions.specs.Turns.{turnIn, askedOf, askedInStepOf, finishedOf}
 use Rattle.between_steps.specs.Start.{withDerivative, firstStepOf, restartOf}
 use Rattle.questions.specs.Begin.{openPassOf, beganOf, goOnAt, goOnOf}
 use Rattle.between_steps.specs.Begin.{isCut, cutOf, preparedAt, preparedOf, predictedAt, firstPredictionOf, isGoing}
@@ -56,7 +56,7 @@ use Rattle.passes.specs.Pass.{restepReplyOf}
 use Rattle.between_steps.specs.Pass.{verdictOf, isSupplied}
 use Rattle.reports.specs.Reports.{sizedAt, sizedOf, weightedAt, firstDerivativeOf, afterFirstReportOf}
 use Rattle.reports.specs.Reports.{firstModifiedOf, afterReportOf, modifiedOf}
-use Rattle.machine.specs.Resume.{With, isAsked, unasked, dealtOf, resumeOf}
+use Rattle.machine.specs.Resume.{isAsked, unasked, dealtOf, resumeOf}
 use Rattle.calls.specs.ReplyMeans.{HeldAtEnd, Meant}
 use Rattle.calls.proofs.Agrees.{Agrees}
 use Rattle.calls.proofs.Low.{Low, small, adjust-low, setup-low, predicted-low, no-convergence-low, failed-low}
@@ -205,7 +205,7 @@ module _ (B : ℕ) (s : Settings) (before : Phase) (kind : Kind) where
     factored-at false c ipiv work f = unconverged c work f
 
     factored : (c : Common) (ipiv : List ℕ) (work : List Float) → Low B c
-        → Good (matrixDoneOf s c rtol atol ipiv work .turn)
+        → Good (turnIn (matrixDoneOf s c rtol atol ipiv work))
     unfolding matrixDoneOf factorsOf
     factored c ipiv work f =
         let x = factorsOf s c work ipiv in
@@ -228,22 +228,22 @@ module _ (B : ℕ) (s : Settings) (before : Phase) (kind : Kind) where
     opened-at false c ipiv work f = iterations c ipiv work f
 
     column-at : (another : Bool) (c : Common) (ipiv : List ℕ) (work : List Float) → Low B c
-        → Good (columnReplyAt s another c rtol atol ipiv work .turn)
+        → Good (turnIn (columnReplyAt s another c rtol atol ipiv work))
     unfolding columnReplyAt
     column-at true c ipiv work f = ask-column c (c .column + 1) work f
     column-at false c ipiv work f = factored (with-column 0 c) ipiv work f
 
 -- ---- any reply
 
-module _ (B : ℕ) (x : Session) (reply : List Float) (time : Float) (w : With) (h : x .common .ialth ≤ B + 13) where
+module _ (B : ℕ) (g : Given) (x : State) (reply : List Float) (time : Float) (h : x .c .ialth ≤ B + 13) where
   abbrev s : Settings
-  s = x .settings
+  s = g .s
 
   abbrev c : Common
-  c = x .common
+  c = x .c
 
   abbrev Taken : Phase → Kind → Type 0
-  Taken phase kind = Good B s phase kind (dealtOf x phase kind reply time w .turn)
+  Taken phase kind = Good B s phase kind (turnIn (dealtOf g phase x kind reply time))
 
   abbrev Asked : Phase → Kind → Type 0
   Asked phase kind = isAsked phase kind (length reply) (s .n) ≡ true
@@ -258,11 +258,11 @@ module _ (B : ℕ) (x : Session) (reply : List Float) (time : Float) (w : With) 
   sized-at kind false h work e = record { low = low; agrees = (refl, refl); means = (refl, refl, refl) }
 
   weighted-at : (kind : Kind) (v : Weights) (work : List Float)
-      → Good B s Phase.FirstDerivative kind (weightedAt s c (w .rtol) (w .atol) v work .turn)
+      → Good B s Phase.FirstDerivative kind (weightedAt s c (g .rtol) (g .atol) v work .turn)
   unfolding weightedAt sizedOf
   weighted-at kind (Refused i) work = record { low = low; agrees = refl; means = refl }
   weighted-at kind Inverted work =
-      let h = firstStepOf s c (w .rtol) (w .atol) work in
+      let h = firstStepOf s c (g .rtol) (g .atol) work in
       sized-at kind (refused h (s .direction)) h work refl
 
   first-report : (a : Answer) → Taken Phase.FirstReport (Kind.Report a)
@@ -285,35 +285,38 @@ module _ (B : ℕ) (x : Session) (reply : List Float) (time : Float) (w : With) 
   taken Phase.FirstReport Kind.Derivative e = differs e
   taken Phase.FirstReport Kind.Jacobian e = differs e
   taken Phase.FirstModified kind e = go-on B s Phase.FirstModified kind c _ low
-  taken Phase.Opened kind e = opened-at B s Phase.Opened kind (w .rtol) (w .atol) (c .due) c (w .ipiv) _ low
-  taken Phase.JacobianAsked kind e = factored B s Phase.JacobianAsked kind (w .rtol) (w .atol) c (w .ipiv) _ low
+  taken Phase.Opened kind e = opened-at B s Phase.Opened kind (g .rtol) (g .atol) (c .due) c (x .p) _ low
+  taken Phase.JacobianAsked kind e = factored B s Phase.JacobianAsked kind (g .rtol) (g .atol) c (x .p) _ low
   taken Phase.DifferenceColumn kind e =
-      column-at B s Phase.DifferenceColumn kind (w .rtol) (w .atol) (ltb (c .column + 1) (s .n)) c (w .ipiv) _ low
+      column-at B s Phase.DifferenceColumn kind (g .rtol) (g .atol) (ltb (c .column + 1) (s .n)) c (x .p) _ low
   taken Phase.FurtherDerivative kind e =
-      iterate B s Phase.FurtherDerivative kind (w .rtol) (w .atol) c (w .ipiv) _ low
+      iterate B s Phase.FurtherDerivative kind (g .rtol) (g .atol) c (x .p) _ low
   taken Phase.Restep kind e =
-      open-pass B s Phase.Restep kind (s .n) _ _ (restep-low B s c (withDerivative (s .n) reply (w .work)))
+      open-pass B s Phase.Restep kind (s .n) _ _ (restep-low B s c (withDerivative (s .n) reply (x .w)))
   taken Phase.Report (Kind.Report a) e = after-report a
   taken Phase.Report Kind.Derivative e = differs e
   taken Phase.Report Kind.Jacobian e = differs e
   taken Phase.Modified kind e = go-on B s Phase.Modified kind (restartOf c) _ (inl h)
   taken Phase.Finished kind e = differs e
 
-  resumed : (kind : Kind) → Asked (x .phase) kind → Good B s (x .phase) kind (resumeOf x kind reply time w .turn)
+  resumed : (phase : Phase) (kind : Kind) → Asked phase kind
+      → Good B s phase kind (turnIn (resumeOf g phase x kind reply time))
   unfolding resumeOf
-  resumed kind e = rw e (taken (x .phase) kind e)
+  resumed phase kind e = rw e (taken phase kind e)
 
-  pub resume-well : (kind : Kind) → Asked (x .phase) kind → Well B (resumeOf x kind reply time w .turn)
-  resume-well kind e = let t = resumed kind e in record { low = t .low; agrees = t .agrees }
+  pub resume-well : (phase : Phase) (kind : Kind) → Asked phase kind
+      → Well B (turnIn (resumeOf g phase x kind reply time))
+  resume-well phase kind e = let t = resumed phase kind e in record { low = t .low; agrees = t .agrees }
 
--- of any ialth
-pub resume-means : (x : Session) (reply : List Float) (time : Float) (w : With) (kind : Kind)
-    → isAsked (x .phase) kind (length reply) (x .settings .n) ≡ true
-    → let t = resumeOf x kind reply time w .turn in
-    Meant (x .settings) (x .phase) kind (t .question) (t .phase) (t .common)
-resume-means x reply time w kind e = resumed (x .common .ialth) x reply time w (omega arith) kind e .means
+module _ (g : Given) (phase : Phase) (x : State) (kind : Kind) (reply : List Float) (time : Float) where
+  abbrev asked : Bool
+  asked = isAsked phase kind (length reply) (g .s .n)
 
-pub resume-same : (x : Session) (kind : Kind) (reply : List Float) (time : Float) (w : With)
-    → isAsked (x .phase) kind (length reply) (x .settings .n) ≡ false → resumeOf x kind reply time w ≡ unasked x w
-unfolding resumeOf
-resume-same x kind reply time w e = rw e
+  -- of any ialth
+  pub resume-means : asked ≡ true
+      → let l = resumeOf g phase x kind reply time in Meant (g .s) phase kind (l .question) (l .phase) (l .st .c)
+  resume-means e = resumed (x .c .ialth) g x reply time (omega arith) phase kind e .means
+
+  pub resume-same : asked ≡ false → resumeOf g phase x kind reply time ≡ unasked phase x
+  unfolding resumeOf
+  resume-same e = rw e

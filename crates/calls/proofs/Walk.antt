@@ -19,7 +19,7 @@ use Rattle.numbers.specs.Float.{zeroF}
 use Rattle.between_steps.specs.declared.Kind.{Kind}
 use Rattle.questions.specs.declared.Phase.{Phase}
 use Rattle.questions.specs.declared.Phase.the-variants as Phase
-use Rattle.questions.specs.Turns.{RunState}
+use Rattle.questions.specs.Turns.{RunState, turnIn}
 use Rattle.common.specs.Initial.{initialOf}
 use Rattle.machine.specs.Resume.{isAsked}
 use Rattle.refusals.specs.Start.{acceptedSettings}
@@ -30,7 +30,8 @@ use Rattle.rules.specs.Play.{Play}
 use Rattle.common.specs.State.{Given}
 use Rattle.rules.specs.Rules.{Start, beginning, start}
 use Rattle.rules.specs.Replies.{Reply as Fed}
-use Rattle.refinement.specs.Shown.{sessionFound, withOf, resumed, reachedAfter, isTaken, asks, treeNext}
+use Rattle.invariants.specs.Next.{sessionFound}
+use Rattle.refinement.specs.Shown.{resumed, reachedAfter, isTaken, asks, treeNext}
 use Rattle.refinement.specs.AtNode.{AtNode, startedAt}
 use Rattle.refinement.specs.InRun.{InRun}
 use Rattle.refinement.proofs.Follows.{replies, follows}
@@ -79,7 +80,7 @@ module _ (g : Given) (a : Start) (run : Runs g a) where
   in-run : (l : RunState) → Reached l → InRun g l
   in-run l h = rw (h .1) (session-kept g a (run .ok) (h .0))
 
-  bounded : (l : RunState) → Reached l → Low 0 (l .turn .common) → Bounded g a run l
+  bounded : (l : RunState) → Reached l → Low 0 (l .st .c) → Bounded g a run l
   bounded l h low = rw (h .1) (record {
     closing = closing-after g a (run .ok) (h .0);
     counts = counts-after g a (run .ok) (h .0);
@@ -89,10 +90,10 @@ module _ (g : Given) (a : Start) (run : Runs g a) where
   pub record At (t : Play) (l : RunState) (x : Called) : Type 0 where
     pub stands : AtNode g t l
     pub reached : Reached l
-    pub work : x .lent .work ≡ l .work
-    pub pivots : x .lent .pivots ≡ l .ipiv
+    pub work : x .lent .work ≡ l .st .w
+    pub pivots : x .lent .pivots ≡ l .st .p
     pub keeps : Keeps g l (x .lent .session)
-    pub phased : PhaseAt (g .s .n) t (l .turn .phase)
+    pub phased : PhaseAt (g .s .n) t (l .phase)
 
   -- ---- a reply
 
@@ -112,8 +113,8 @@ module _ (g : Given) (a : Start) (run : Runs g a) where
   -- a reply that is taken
   pub record Went (t : Play) (l : RunState) (x : Called) (r : ReplyCall) : Type 0 where
     pub at : At (treeNext t (fedAs r)) (resumed g l (fedAs r)) (replied x r)
-    pub answer : replied x r .reply ≡ questionReply (resumed g l (fedAs r) .turn .question)
-    pub agrees : let u = resumed g l (fedAs r) .turn in Agrees (u .question) (u .phase) (u .common)
+    pub answer : replied x r .reply ≡ questionReply (resumed g l (fedAs r) .question)
+    pub agrees : let u = turnIn (resumed g l (fedAs r)) in Agrees (u .question) (u .phase) (u .common)
     pub said : saidBy (replied x r) ≡ saidAt n (treeNext t (fedAs r)) (r .question)
 
   pub data Outcome (t : Play) (l : RunState) (x : Called) (r : ReplyCall) : Type 0 where
@@ -142,13 +143,13 @@ module _ (g : Given) (a : Start) (run : Runs g a) where
       abbrev is-taken : isTaken g l (fedAs r) ≡ true
       is-taken = takes ∙ asked
 
-      running : isOver (l .turn .phase) ≡ false
-      running = not-over (l .turn .phase) (kindOf (r .kind)) (length (r .numbers)) (g .s .n) is-taken
+      running : isOver (l .phase) ≡ false
+      running = not-over (l .phase) (kindOf (r .kind)) (length (r .numbers)) (g .s .n) is-taken
 
-      well : Well 0 (m .turn)
+      well : Well 0 (turnIn m)
       well =
-          resume-well 0 (sessionFound g l) (r .numbers) (r .time) (withOf g l) (at .keeps .found running .ialth)
-          (kindOf (r .kind)) is-taken
+          resume-well 0 g (l .st) (r .numbers) (r .time) (at .keeps .found running .ialth) (l .phase) (kindOf (r .kind))
+          is-taken
 
       stands : AtNode g (treeNext t (fedAs r)) m
       stands = replies g t l (fedAs r) (at .stands) asked
@@ -162,10 +163,10 @@ module _ (g : Given) (a : Start) (run : Runs g a) where
           (bounded m reached (well .low)) (in-run m reached)
 
       abbrev put : List Float
-      put = questionOf (g .s) (m .turn .phase) (m .turn .common) (m .work) (r .question)
+      put = questionOf (g .s) (m .phase) (m .st .c) (m .st .w) (r .question)
 
       answered-taken : replied x r ≡ record {
-        reply = questionReply (m .turn .question);
+        reply = questionReply (m .question);
         lent = lentOf m (encodeOf (sessionFound g m) (x .lent .session)) put;
       }
       answered-taken =
@@ -176,7 +177,7 @@ module _ (g : Given) (a : Start) (run : Runs g a) where
       says-it =
           ap (λ (y : Called). saidBy y) answered-taken
           ∙ says-node g (treeNext t (fedAs r)) m (r .question) stands well
-          (λ e. unless (m .turn .phase) e (in-run m reached) .ranges .orders .nq .1)
+          (λ e. unless (m .phase) e (in-run m reached) .ranges .orders .nq .1)
           (omega (arith, keeps .lent .sized)) (eqb-true (length (r .question)) (14 * g .s .n + 6) sized)
 
       went : Went t l x r
@@ -219,7 +220,7 @@ module _ (g : Given) (a : Start) (run : Runs g a) where
       → isRefusal (replied x r .reply) ≡ not (isFitting t r)
   is-refusal t l x r (refused e q) = rw (q, e) (refused-refusal (isSized n r))
   is-refusal t l x r (taken e w) =
-      let u = resumed g l (fedAs r) .turn in
+      let u = turnIn (resumed g l (fedAs r)) in
       rw e (ap isRefusal (w .answer) ∙ not-refusal (u .question) (u .phase) (u .common) (w .agrees))
 
   -- the run stands at the node that follows, which is the same where the reply is refused, and says what the tree says

@@ -31,6 +31,7 @@ use Rattle.questions.specs.declared.Question.the-variants as Question
 use Rattle.between_steps.specs.declared.Status.{Status}
 use Rattle.between_steps.specs.declared.Status.the-variants as Status
 use Rattle.questions.specs.declared.Step.{Step}
+use Rattle.questions.specs.Turns.{turnIn}
 use Rattle.between_steps.specs.Begin.{isGoing}
 use Rattle.passes.specs.Pass.{acceptedOf}
 use Rattle.between_steps.specs.Pass.{isSupplied}
@@ -143,14 +144,14 @@ pub record ReplyMeans (kind : ℕ) (numbers : List Float) (time : Float) (b : Bu
   pub listed : Listed (replyOf kind numbers time b .reply .number)
   -- taken: the machine's turn is answered and kept
   pub answered : NoneHolds (replyRows kind numbers b)
-      → replyOf kind numbers time b .reply ≡ questionReply (turned (kindOf kind) numbers time b .turn .question)
+      → replyOf kind numbers time b .reply ≡ questionReply (turned (kindOf kind) numbers time b .question)
   pub kept : NoneHolds (replyRows kind numbers b)
-      → let t = turned (kindOf kind) numbers time b .turn in
+      → let t = turnIn (turned (kindOf kind) numbers time b) in
       let s = decodeOf (b .session) .settings in
       replyOf kind numbers time b .lent .session
       ≡ encodeOf (record { settings = s; common = t .common; phase = t .phase }) (b .session)
   pub meant : NoneHolds (replyRows kind numbers b)
-      → let t = turned (kindOf kind) numbers time b .turn in
+      → let t = turnIn (turned (kindOf kind) numbers time b) in
       Meant (decodeOf (b .session) .settings) (phaseIn b) (kindOf kind) (t .question) (t .phase) (t .common)
   -- 111 exactly if an interrupt (4) is taken at a report; the session's h and counts are returned
   pub interrupted : (replyOf kind numbers time b .reply .number ≡ 111)

@@ -22,3 +22,10 @@ pub record State : Type 0 where
 pub record Moved : Type 0 where
   pub common : Common
   pub work : List Float
+
+-- both from their parts, as contracts write them
+abbrev pub given : Settings → List Float → List Float → Given
+given s rtol atol = record { s = s; rtol = rtol; atol = atol }
+
+abbrev pub state : Common → List Float → List ℕ → State
+state c w p = record { c = c; w = w; p = p }

@@ -11,19 +11,21 @@ use Rattle.numbers.specs.Float.{_⊖_, zeroF, oneF}
 use Rattle.common.specs.declared.Settings.{Settings}
 use Rattle.common.specs.declared.Common.{Common}
 use Rattle.common.specs.Record.{with-setup}
+use Rattle.common.specs.State.{Given}
 use Rattle.common.specs.Rules.{firstCallInitOf}
 use Rattle.attempt.specs.Attempt.{noConvergenceOf, failedOf}
 use Rattle.between_steps.specs.declared.Kind.{Kind}
 use Rattle.between_steps.specs.Begin.{isCut, cutOf, setupOf, preparedAt, preparedOf, predictedAt, firstPredictionOf}
 use Rattle.between_steps.specs.Start.{firstStepOf as stepOf}
 use Rattle.questions.specs.declared.Session.{Session}
+use Rattle.questions.specs.Turns.{RunState}
 use Rattle.common.specs.Initial.{initialOf}
-use Rattle.machine.specs.Resume.{With, resumeOf}
+use Rattle.machine.specs.Resume.{resumeOf}
 use Rattle.refusals.specs.declared.Options.{Options}
 use Rattle.refusals.specs.declared.Lengths.{Lengths}
 use Rattle.refusals.specs.Start.{largestOf, smallestOf, inverseOf, inverseLargestOf, acceptedSettings, givenStepOf}
 use Rattle.session.specs.Fields.{Fit, FloatsFit}
-use Rattle.invariants.specs.Next.{startedSession, sessionAfter}
+use Rattle.invariants.specs.Next.{startedSession, sessionFound}
 use Rattle.invariants.proofs.Keeps.{Invariant, each, any, after-pass, Keeps}
 use Rattle.invariants.proofs.Walk.{resume-keeps}
 use Rattle.invariants.proofs.Floats.{either, literal, sum, quotient, absolute, signum}
@@ -108,13 +110,16 @@ module _ (s : Settings) where
     restepped = λ x f w. restep-fits s (x .c) w f;
   }
 
-pub floats-kept : (x : Session) (kind : Kind) (reply : List Float) (time : Float) (w : With) → FloatsFit x → Fit time
-    → FloatsFit (sessionAfter x (resumeOf x kind reply time w))
-floats-kept x kind reply time w f t =
-    let c = commons x f in
-    floats (sessionAfter x (resumeOf x kind reply time w)) (f .xend) (f .direction)
-    (each (resumeOf x kind reply time w .turn .phase) (λ g. g) (λ g. g) (λ g. g)
-    (resume-keeps x kind reply time w (floats-keep (x .settings) (w .rtol) (w .atol) time t) (any (x .phase) c c c)))
+pub floats-kept : (g : Given) (l : RunState) (kind : Kind) (reply : List Float) (time : Float)
+    → FloatsFit (sessionFound g l) → Fit time
+    → FloatsFit (sessionFound g (resumeOf g (l .phase) (l .st) kind reply time))
+floats-kept g l kind reply time f t =
+    let c = commons (sessionFound g l) f in
+    let m = resumeOf g (l .phase) (l .st) kind reply time in
+    floats (sessionFound g m) (f .xend) (f .direction)
+    (each (m .phase) (λ h. h) (λ h. h) (λ h. h)
+    (resume-keeps g (l .phase) (l .st) kind reply time (floats-keep (g .s) (g .rtol) (g .atol) time t)
+    (any (l .phase) c c c)))
 
 -- ---- a start
 

@@ -15,7 +15,7 @@ use lib.Ieee.{Float}
 use Rattle.numbers.specs.Float.{_⊕_}
 use Rattle.common.specs.declared.Settings.{Settings}
 use Rattle.common.specs.declared.Common.{Common}
-use Rattle.common.specs.State.{State}
+use Rattle.common.specs.State.{State, state}
 use Rattle.common.specs.Layout.{matrixAt}
 use Rattle.common.specs.Record.{with-tn, with-h, with-nfe, with-count, with-total, with-column}
 use Rattle.jacobian.specs.Jacobian.{beginOf, finishJacobianOf}
@@ -34,10 +34,6 @@ use Rattle.questions.specs.Turns.{RunState}
 -- what may hold of the record, the work and the pivots
 abbrev pub Invariant : Type 1
 Invariant = State → Type 0
-
--- a state by its parts
-abbrev pub at : Common → List Float → List ℕ → State
-at c w p = record { c = c; w = w; p = p }
 
 -- ---- by phase: B between steps, S in a step, O when the run is over
 
@@ -58,7 +54,7 @@ abbrev pub Holds : Invariant → Invariant → Invariant → Phase → State →
 Holds B S O phase x = Held phase (B x) (S x) (O x)
 
 abbrev pub HoldsIn : Invariant → Invariant → Invariant → RunState → Type 0
-HoldsIn B S O l = Holds B S O (l .turn .phase) (at (l .turn .common) (l .work) (l .ipiv))
+HoldsIn B S O l = Holds B S O (l .phase) (l .st)
 
 module _ {B S O X : Type 0} where
   -- what follows in each phase
@@ -106,10 +102,10 @@ after-pass Next.Poor p r o = o
 
 -- another record, or another work
 abbrev with-c : Common → State → State
-with-c c x = at c (x .w) (x .p)
+with-c c x = state c (x .w) (x .p)
 
 abbrev with-w : List Float → State → State
-with-w w x = at (x .c) w (x .p)
+with-w w x = state (x .c) w (x .p)
 
 -- between-work, step-work: a part of the work is written; over: the run ends between steps
 pub record Keeps (s : Settings) (rtol atol : List Float) (time : Float) (B S O : Invariant) : Type 0 where
@@ -140,7 +136,7 @@ pub record Keeps (s : Settings) (rtol atol : List Float) (time : Float) (B S O :
   pub jacobian-begun : (x : State) → S x → S (with-c (beginOf (x .c)) x)
   pub column : (x : State) → S x → (j : ℕ) → (1 ≤ s .n → j < s .n) → S (with-c (with-column j (x .c)) x)
   pub factored : (x : State) → S x
-      → let f = finishJacobianOf s (x .c) (x .w) (x .p) in S (at (f .common) (f .work) (f .ipiv))
+      → let f = finishJacobianOf s (x .c) (x .w) (x .p) in S (state (f .common) (f .work) (f .ipiv))
   -- after a pass that was not accepted
   pub unconverged : (x : State) → S x → (w : List Float)
       → let a = noConvergenceOf s (x .c) w in After (a .next) (S (with-c (a .common) x)) (O (with-c (a .common) x))

@@ -6,15 +6,15 @@ use Prim.Native.Nat.{_≤_}
 use native.Mathlib.Omega.{arith}
 use lib.Ieee.{Float}
 use lib.ListN.{length}
-use Rattle.common.specs.State.{State}
+use Rattle.common.specs.State.{Given, State}
 use Rattle.common.specs.declared.Settings.{Settings}
 use Rattle.common.specs.Layout.{matrixAt}
 use Rattle.attempt.specs.Attempt.{noConvergenceOf, failedOf}
 use Rattle.between_steps.specs.declared.Kind.{Kind}
 use Rattle.between_steps.specs.Ranges.{Lent}
 use Rattle.between_steps.proofs.Inside.{lent-length, lent-factored}
-use Rattle.questions.specs.declared.Session.{Session}
-use Rattle.machine.specs.Resume.{With, resumeOf}
+use Rattle.questions.specs.declared.Phase.{Phase}
+use Rattle.machine.specs.Resume.{resumeOf}
 use Rattle.invariants.proofs.Keeps.{Invariant, each, any, after-pass, Keeps}
 use Rattle.invariants.proofs.Walk.{resume-keeps}
 
@@ -51,9 +51,9 @@ module _ (s : Settings) where
   }
 
 -- whether it was asked for or not
-pub resume-lent : (x : Session) (reply : List Float) (time : Float) (w : With)
-    → Lent (x .settings .n) (w .work) (w .ipiv) → (kind : Kind)
-    → Lent (x .settings .n) (resumeOf x kind reply time w .work) (resumeOf x kind reply time w .ipiv)
-resume-lent x reply time w p kind =
-    each (resumeOf x kind reply time w .turn .phase) (λ h. h) (λ h. h) (λ h. h)
-    (resume-keeps x kind reply time w (lent-keeps (x .settings) (w .rtol) (w .atol) time) (any (x .phase) p p p))
+pub resume-lent : (g : Given) (phase : Phase) (x : State) (reply : List Float) (time : Float)
+    → Lent (g .s .n) (x .w) (x .p) → (kind : Kind)
+    → let l = resumeOf g phase x kind reply time in Lent (g .s .n) (l .st .w) (l .st .p)
+resume-lent g phase x reply time p kind =
+    each (resumeOf g phase x kind reply time .phase) (λ h. h) (λ h. h) (λ h. h)
+    (resume-keeps g phase x kind reply time (lent-keeps (g .s) (g .rtol) (g .atol) time) (any phase p p p))

@@ -16,6 +16,7 @@ use borrow.Author.Tests.{leb-false}
 use Rattle.common.specs.declared.Settings.{Settings}
 use Rattle.common.specs.declared.Common.{Common}
 use Rattle.common.specs.Limits.{mxncfOf}
+use Rattle.common.specs.State.{Given, State}
 use Rattle.common.specs.Rules.{icount20}
 use Rattle.history.specs.Steps.{StepInRange}
 use Rattle.jacobian.specs.Jacobian.{beginOf}
@@ -28,9 +29,9 @@ use Rattle.between_steps.specs.Ranges.{Accepted, Ranges}
 use Rattle.between_steps.proofs.Within.{Core, coreOf, Within, range-of, within-open, within-judged, within-factored}
 use Rattle.between_steps.proofs.Within.{within-column, within-unconverged, within-failed, failed-pass, failed-restep}
 use Rattle.between_steps.proofs.Within.{within-restep, within-restart, within-first, within-another, within-accept}
-use Rattle.questions.specs.declared.Session.{Session}
+use Rattle.questions.specs.declared.Phase.{Phase}
 use Rattle.common.specs.Initial.{initialOf}
-use Rattle.machine.specs.Resume.{With, resumeOf}
+use Rattle.machine.specs.Resume.{resumeOf}
 use Rattle.invariants.proofs.Keeps.{Invariant, each, any, after-pass, Keeps}
 use Rattle.invariants.proofs.Walk.{resume-keeps}
 
@@ -149,15 +150,15 @@ within-ranges s c p under one =
       nslp = omega (arith, p .counts .nslp); steps = omega (arith, p .counts .nst);
     }
 
-pub order-after : (x : Session) (kind : Kind) (reply : List Float) (time : Float) (w : With)
-    → Ranges (x .settings) (x .common) → resumeOf x kind reply time w .turn .common .nq ≤ 12
-order-after x kind reply time w p =
-    let s = x .settings in
-    let between = within-ranges s (x .common) p 0 (omega arith) in
+pub order-after : (g : Given) (phase : Phase) (x : State) (kind : Kind) (reply : List Float) (time : Float)
+    → Ranges (g .s) (x .c) → resumeOf g phase x kind reply time .st .c .nq ≤ 12
+order-after g phase x kind reply time p =
+    let s = g .s in
+    let between = within-ranges s (x .c) p 0 (omega arith) in
     let k = ranges-keep s 0 (2 ^ 62) (p .settings) (omega (arith, p .settings .maxsteps)) (omega arith) in
-    each (resumeOf x kind reply time w .turn .phase) (λ h. h .nq .1) (λ h. h .nq .1) (λ h. h .nq)
-    (resume-keeps x kind reply time w (k (w .rtol) (w .atol) time)
-    (any (x .phase) between (within-ranges s (x .common) p 1 (omega arith)) (closing-of between)))
+    each (resumeOf g phase x kind reply time .phase) (λ h. h .nq .1) (λ h. h .nq .1) (λ h. h .nq)
+    (resume-keeps g phase x kind reply time (k (g .rtol) (g .atol) time)
+    (any phase between (within-ranges s (x .c) p 1 (omega arith)) (closing-of between)))
 
 -- ---- the start
 

@@ -21,6 +21,7 @@ use Rattle.common.specs.declared.Settings.{Settings}
 use Rattle.common.specs.declared.Common.{Common}
 use Rattle.common.specs.Layout.{ewtAt, savfAt, ftemAt, acorAt, yAt, yfdAt, matrixAt}
 use Rattle.common.specs.Record.{with-tn, with-column}
+use Rattle.common.specs.State.{Given, State, state}
 use Rattle.history.specs.Columns.{copyOf, slopeOf}
 use Rattle.history.specs.Parts.{storedOf}
 use Rattle.history.proofs.Laws.{length-copy, length-slope, length-fill}
@@ -46,7 +47,6 @@ use Rattle.between_steps.specs.Pass.{isSupplied}
 use Rattle.between_steps.proofs.Lengths.{length-first, length-stored, length-taken, length-inverted}
 use Rattle.questions.specs.declared.Phase.{Phase}
 use Rattle.questions.specs.declared.Phase.the-variants as Phase
-use Rattle.questions.specs.declared.Session.{Session}
 use Rattle.questions.specs.Turns.{TurnWork, withPivots, askedOf, askedInStepOf, finishedOf}
 use Rattle.questions.specs.Begin.{openPassOf, beganOf, goOnAt, goOnOf}
 use Rattle.passes.specs.Pass.{attemptedAt, reportedOf, closedAt, endStepOf, acceptedAt, acceptedOf, errorTestAt}
@@ -55,9 +55,9 @@ use Rattle.passes.specs.Pass.{matrixDoneOf, askColumnOf, askJacobianAt, askJaco
 use Rattle.passes.specs.Pass.{jacobianReplyOf, columnReplyAt, columnReplyOf, furtherReplyOf, restepReplyOf}
 use Rattle.reports.specs.Reports.{sizedAt, sizedOf, weightedAt, firstDerivativeOf, afterFirstReportOf, firstModifiedOf}
 use Rattle.reports.specs.Reports.{afterReportOf, modifiedOf}
-use Rattle.machine.specs.Resume.{With, isAsked, unasked, dealtOf, resumeOf}
+use Rattle.machine.specs.Resume.{isAsked, unasked, dealtOf, resumeOf}
 use Rattle.machine.proofs.Replies.{derivative-length}
-use Rattle.invariants.proofs.Keeps.{Invariant, at, Holds, HoldsIn, After, Keeps}
+use Rattle.invariants.proofs.Keeps.{Invariant, Holds, HoldsIn, After, Keeps}
 
 module _ {s : Settings} {rtol atol : List Float} {time : Float} {B S O : Invariant}
     (k : Keeps s rtol atol time B S O) where
@@ -67,28 +67,28 @@ module _ {s : Settings} {rtol atol : List Float} {time : Float} {B S O : Invaria
 
     -- ---- between steps
 
-    opens : (c : Common) (w : List Float) → S (at c w p) → Stays (openPassOf (s .n) c w)
+    opens : (c : Common) (w : List Float) → S (state c w p) → Stays (openPassOf (s .n) c w)
     unfolding openPassOf askedInStepOf
     opens c w h = k .asked-in-step _ (k .step-work _ h _ (λ r. length-copy (s .n) (yAt (s .n)) 0 w)) _ _
 
-    began : (c : Common) (w : List Float) → leb (s .maxsteps) (c .nst) ≡ false → B (at c w p) → Stays (beganOf s c w)
+    began : (c : Common) (w : List Float) → leb (s .maxsteps) (c .nst) ≡ false → B (state c w p) → Stays (beganOf s c w)
     unfolding beganOf
     began c w e h = opens _ _ (k .step-work _ (k .begun _ h e) _ (λ r. length-first s c w))
 
-    go-on-at : (going enough : Bool) (c : Common) (w : List Float) → leb (s .maxsteps) (c .nst) ≡ enough → B (at c w p)
+    go-on-at : (going enough : Bool) (c : Common) (w : List Float) → leb (s .maxsteps) (c .nst) ≡ enough → B (state c w p)
         → Stays (goOnAt s going enough c w)
     unfolding goOnAt finishedOf
     go-on-at false enough c w e h = k .over _ h
     go-on-at true true c w e h = k .over _ h
     go-on-at true false c w e h = began c w e h
 
-    goes-on : (c : Common) (w : List Float) → B (at c w p) → Stays (goOnOf s c w)
+    goes-on : (c : Common) (w : List Float) → B (state c w p) → Stays (goOnOf s c w)
     unfolding goOnOf
     goes-on c w h = go-on-at (isGoing s c) (leb (s .maxsteps) (c .nst)) c w refl h
 
     -- ---- a pass's end
 
-    attempted : (v : Next) (c : Common) (w : List Float) → After v (S (at c w p)) (O (at c w p))
+    attempted : (v : Next) (c : Common) (w : List Float) → After v (S (state c w p)) (O (state c w p))
         → Stays (attemptedAt (s .n) v c w)
     unfolding attemptedAt askedInStepOf finishedOf
     attempted Next.Pass c w h = opens c w h
@@ -96,22 +96,22 @@ module _ {s : Settings} {rtol atol : List Float} {time : Float} {B S O : Invaria
     attempted Next.TooSmall c w h = h
     attempted Next.Poor c w h = h
 
-    unconverges : (c : Common) (w : List Float) → S (at c w p) → Stays (passFailedOf s c w)
+    unconverges : (c : Common) (w : List Float) → S (state c w p) → Stays (passFailedOf s c w)
     unfolding passFailedOf
     unconverges c w h =
         attempted _ _ _ (k .unconverged _ (k .step-work _ h _ (λ r. Attempt.unconverged s c w .sized)) w)
 
-    closed-at : (x : Weights) (c : Common) (w : List Float) → B (at c w p) → Stays (closedAt (s .n) c x w)
+    closed-at : (x : Weights) (c : Common) (w : List Float) → B (state c w p) → Stays (closedAt (s .n) c x w)
     unfolding closedAt reportedOf
     closed-at (Refused i) c w h = k .over _ h
     closed-at Inverted c w h = k .totalled _ (k .between-work _ h _ (λ r. length-copy (s .n) (yAt (s .n)) 0 w)) _
 
-    closes : (order : ℕ) (c : Common) (w : List Float) → B (at c w p) → Stays (endStepOf s c order rtol atol w)
+    closes : (order : ℕ) (c : Common) (w : List Float) → B (state c w p) → Stays (endStepOf s c order rtol atol w)
     unfolding endStepOf
     closes order c w h =
         closed-at _ c _ (k .between-work _ h _ (λ r. length-closed s c order rtol atol w (omega (arith, r))))
 
-    accepted-at : (order : ℕ) (b : Branch) (c : Common) (w : List Float) → B (at c w p)
+    accepted-at : (order : ℕ) (b : Branch) (c : Common) (w : List Float) → B (state c w p)
         → Stays (acceptedAt s order rtol atol b c w)
     unfolding acceptedAt finishedOf
     accepted-at order Branch.CoefficientGap c w h = k .over _ h
@@ -123,7 +123,7 @@ module _ {s : Settings} {rtol atol : List Float} {time : Float} {B S O : Invaria
     accepted-at order Branch.HeldBySm1 c w h = closes order c w h
     accepted-at order Branch.FamilyChanged c w h = closes order c w h
 
-    converged-at : (dsm : Float) (above : Bool) (c : Common) (w : List Float) → S (at c w p)
+    converged-at : (dsm : Float) (above : Bool) (c : Common) (w : List Float) → S (state c w p)
         → Stays (errorTestAt s c dsm rtol atol above w)
     unfolding errorTestAt acceptedOf
     converged-at dsm true c w h =
@@ -133,7 +133,7 @@ module _ {s : Settings} {rtol atol : List Float} {time : Float} {B S O : Invaria
 
     -- ---- iterations
 
-    concluded-at : (v : Pass) (c : Common) (del : Float) (w : List Float) → S (at c w p)
+    concluded-at : (v : Pass) (c : Common) (del : Float) (w : List Float) → S (state c w p)
         → Stays (concludedAt s v c del rtol atol w)
     unfolding concludedAt errorTestOf askedInStepOf
     concluded-at Pass.Converged c del w h =
@@ -142,11 +142,11 @@ module _ {s : Settings} {rtol atol : List Float} {time : Float} {B S O : Invaria
     concluded-at Pass.NoConvergence c del w h = unconverges c w h
     concluded-at Pass.Further c del w h = k .asked-in-step _ h _ _
 
-    iterates : (c : Common) (w : List Float) → S (at c w p) → Stays (iterateOf s c rtol atol p w)
+    iterates : (c : Common) (w : List Float) → S (state c w p) → Stays (iterateOf s c rtol atol p w)
     unfolding iterateOf
     iterates c w h = concluded-at _ _ _ _ (k .step-work _ (k .judged _ h) _ (λ r. length-iteration s c w p))
 
-    iterations : (c : Common) (w : List Float) → S (at c w p) → Stays (iterationsOf s c rtol atol p w)
+    iterations : (c : Common) (w : List Float) → S (state c w p) → Stays (iterationsOf s c rtol atol p w)
     unfolding iterationsOf
     iterations c w h =
         iterates _ _ (k .opened _
@@ -154,19 +154,19 @@ module _ {s : Settings} {rtol atol : List Float} {time : Float} {B S O : Invaria
 
     -- ---- the Jacobian
 
-    factored-at : (done : Bool) (c : Common) (w : List Float) → S (at c w p)
+    factored-at : (done : Bool) (c : Common) (w : List Float) → S (state c w p)
         → Stays (matrixDoneAt s rtol atol done c p w)
     unfolding matrixDoneAt
     factored-at true c w h = iterations c w h
     factored-at false c w h = unconverges c w h
 
-    asks-column : (j : ℕ) (c : Common) (w : List Float) → (1 ≤ s .n → j < s .n) → S (at c w p)
+    asks-column : (j : ℕ) (c : Common) (w : List Float) → (1 ≤ s .n → j < s .n) → S (state c w p)
         → Stays (askColumnOf s c j w)
     unfolding askColumnOf askedInStepOf
     asks-column j c w e h =
         k .asked-in-step _ (k .column _ (k .step-work _ h _ (λ r. length-perturb s c w j)) j e) _ _
 
-    begin-at : (supplied : Bool) (c : Common) (w : List Float) → S (at c w p) → Stays (askJacobianAt s supplied c w)
+    begin-at : (supplied : Bool) (c : Common) (w : List Float) → S (state c w p) → Stays (askJacobianAt s supplied c w)
     unfolding askJacobianAt
     begin-at true c w h = h
     begin-at false c w h =
@@ -174,18 +174,18 @@ module _ {s : Settings} {rtol atol : List Float} {time : Float} {B S O : Invaria
 
     -- ---- replies
 
-    opened-at : (due : Bool) (c : Common) (w : List Float) → S (at c w p) → Stays (openedReplyAt s due c rtol atol p w)
+    opened-at : (due : Bool) (c : Common) (w : List Float) → S (state c w p) → Stays (openedReplyAt s due c rtol atol p w)
     unfolding openedReplyAt askJacobianOf
     opened-at true c w h = begin-at (isSupplied s c) (beginOf c) w (k .jacobian-begun _ h)
     opened-at false c w h = iterations c w h
 
-    sized-at : (no : Bool) (c : Common) (w : List Float) → B (at c w p)
+    sized-at : (no : Bool) (c : Common) (w : List Float) → B (state c w p)
         → Stays (sizedAt s no c (firstStepOf s c rtol atol w) w)
     unfolding sizedAt
     sized-at true c w h = k .over _ (k .first-step _ h w)
     sized-at false c w h = k .first-size _ (k .between-work _ h _ (λ r. length-slope (s .n) _ w)) w
 
-    weighted-at : (x : Weights) (c : Common) (w : List Float) → B (at c w p) → Stays (weightedAt s c rtol atol x w)
+    weighted-at : (x : Weights) (c : Common) (w : List Float) → B (state c w p) → Stays (weightedAt s c rtol atol x w)
     unfolding weightedAt sizedOf
     weighted-at (Refused i) c w h = k .over _ h
     weighted-at Inverted c w h = sized-at (refused (firstStepOf s c rtol atol w) (s .direction)) c w h
@@ -202,21 +202,21 @@ module _ {s : Settings} {rtol atol : List Float} {time : Float} {B S O : Invaria
       taken : matrixAt (s .n) ≤ length w → length (stateOf (s .n) f w) ≡ length w
       taken r = length-taken (s .n) w r f l
 
-      opened : S (at c w p) → Stays (openedReplyOf s c rtol atol f p w)
+      opened : S (state c w p) → Stays (openedReplyOf s c rtol atol f p w)
       unfolding openedReplyOf
       opened h = opened-at (c .due) c _ (k .step-work _ h _ derivative)
 
-      further : S (at c w p) → Stays (furtherReplyOf s c rtol atol f p w)
+      further : S (state c w p) → Stays (furtherReplyOf s c rtol atol f p w)
       unfolding furtherReplyOf
       further h = iterates c _ (k .step-work _ h _ derivative)
 
-      resteps : S (at c w p) → Stays (restepReplyOf s c f w)
+      resteps : S (state c w p) → Stays (restepReplyOf s c f w)
       unfolding restepReplyOf
       resteps h =
           let v = withDerivative (s .n) f w in
           opens _ _ (k .restepped _ (k .step-work _ h _ (λ r. Attempt.restepped s c v .sized ∙ derivative r)) v)
 
-      first-derivative : B (at c w p) → Stays (firstDerivativeOf s c rtol atol f w)
+      first-derivative : B (state c w p) → Stays (firstDerivativeOf s c rtol atol f w)
       unfolding firstDerivativeOf
       first-derivative h =
           let n = s .n in
@@ -227,23 +227,23 @@ module _ {s : Settings} {rtol atol : List Float} {time : Float} {B S O : Invaria
           in
           weighted-at _ c _ (k .between-work _ h _ (λ r. length-inverted n v (omega (arith, e r)) ∙ e r))
 
-      first-report : (a : Answer) → B (at c w p) → Stays (afterFirstReportOf s c a f time w)
+      first-report : (a : Answer) → B (state c w p) → Stays (afterFirstReportOf s c a f time w)
       unfolding afterFirstReportOf finishedOf askedOf
       first-report Continue h = goes-on (with-tn time c) w (k .timed _ h)
       first-report Interrupt h = k .over _ (k .timed _ h)
       first-report Modified h = k .asked _ (k .timed _ (k .between-work _ h _ taken)) _
 
-      first-modified : B (at c w p) → Stays (firstModifiedOf s c f w)
+      first-modified : B (state c w p) → Stays (firstModifiedOf s c f w)
       unfolding firstModifiedOf
       first-modified h = goes-on c _ (k .between-work _ h _ (λ r. length-slope (s .n) (c .h) _ ∙ derivative r))
 
-      after-report : (a : Answer) → B (at c w p) → Stays (afterReportOf s c a f time w)
+      after-report : (a : Answer) → B (state c w p) → Stays (afterReportOf s c a f time w)
       unfolding afterReportOf finishedOf askedOf
       after-report Continue h = goes-on (with-tn time c) _ (k .timed _ (k .between-work _ h _ taken))
       after-report Interrupt h = k .over _ (k .timed _ (k .between-work _ h _ taken))
       after-report Modified h = k .asked _ (k .retimed _ (k .between-work _ h _ taken)) _
 
-      modified : B (at c w p) → Stays (modifiedOf s c f w)
+      modified : B (state c w p) → Stays (modifiedOf s c f w)
       unfolding modifiedOf
       modified h =
           let n = s .n in
@@ -257,23 +257,23 @@ module _ {s : Settings} {rtol atol : List Float} {time : Float} {B S O : Invaria
 
   -- ---- replies that change the pivots
 
-  factors : (c : Common) (p : List ℕ) (w : List Float) → S (at c w p) → HoldsIn B S O (matrixDoneOf s c rtol atol p w)
+  factors : (c : Common) (p : List ℕ) (w : List Float) → S (state c w p) → HoldsIn B S O (matrixDoneOf s c rtol atol p w)
   unfolding matrixDoneOf
   factors c p w h = let x = factorsOf s c w p in factored-at (x .ipiv) (x .done) _ _ (k .factored _ h)
 
-  jacobian : (f : List Float) (c : Common) (p : List ℕ) (w : List Float) → S (at c w p)
+  jacobian : (f : List Float) (c : Common) (p : List ℕ) (w : List Float) → S (state c w p)
       → HoldsIn B S O (jacobianReplyOf s c rtol atol f p w)
   unfolding jacobianReplyOf
   jacobian f c p w h = factors c p _ (k .step-work _ h _ (λ r. length-supplied s c w f))
 
   column-at : (more : Bool) (c : Common) (p : List ℕ) (w : List Float) → ltb (c .column + 1) (s .n) ≡ more
-    → S (at c w p)
+    → S (state c w p)
       → HoldsIn B S O (columnReplyAt s more c rtol atol p w)
   unfolding columnReplyAt
   column-at true c p w e h = asks-column p (c .column + 1) c w (λ n. ltb-true (c .column + 1) (s .n) e) h
   column-at false c p w e h = factors (with-column 0 c) p w (k .column _ h 0 (λ n. n))
 
-  column : (f : List Float) → length f ≡ s .n → (c : Common) (p : List ℕ) (w : List Float) → S (at c w p)
+  column : (f : List Float) → length f ≡ s .n → (c : Common) (p : List ℕ) (w : List Float) → S (state c w p)
       → HoldsIn B S O (columnReplyOf s c rtol atol f p w)
   unfolding columnReplyOf
   column f l c p w h =
@@ -283,41 +283,38 @@ module _ {s : Settings} {rtol atol : List Float} {time : Float} {B S O : Invaria
 
 -- ---- any reply
 
-module _ (x : Session) (kind : Kind) (f : List Float) (time : Float) (w : With) {B S O : Invariant}
-    (k : Keeps (x .settings) (w .rtol) (w .atol) time B S O) where
+module _ (g : Given) (phase : Phase) (x : State) (kind : Kind) (f : List Float) (time : Float) {B S O : Invariant}
+    (k : Keeps (g .s) (g .rtol) (g .atol) time B S O) where
   abbrev c : Common
-  c = x .common
+  c = x .c
 
-  abbrev Before : Phase → Type 0
-  Before phase = Holds B S O phase (at c (w .work) (w .ipiv))
-
-  taken-keeps : (phase : Phase) (kd : Kind) → isAsked phase kd (length f) (x .settings .n) ≡ true → Before phase
-      → HoldsIn B S O (dealtOf x phase kd f time w)
+  taken-keeps : (ph : Phase) (kd : Kind) → isAsked ph kd (length f) (g .s .n) ≡ true → Holds B S O ph x
+      → HoldsIn B S O (dealtOf g ph x kd f time)
   unfolding dealtOf
-  taken-keeps Phase.FirstDerivative kd e h = first-derivative k (w .ipiv) f (derivative-length _ _ kd e) c (w .work) h
+  taken-keeps Phase.FirstDerivative kd e h = first-derivative k (x .p) f (derivative-length _ _ kd e) c (x .w) h
   taken-keeps Phase.FirstReport (Kind.Report a) e h =
-      first-report k (w .ipiv) f (eqb-true (length f) (x .settings .n) e) c (w .work) a h
+      first-report k (x .p) f (eqb-true (length f) (g .s .n) e) c (x .w) a h
   taken-keeps Phase.FirstReport Kind.Derivative e h = absurd (true≢false (sym e))
   taken-keeps Phase.FirstReport Kind.Jacobian e h = absurd (true≢false (sym e))
-  taken-keeps Phase.FirstModified kd e h = first-modified k (w .ipiv) f (derivative-length _ _ kd e) c (w .work) h
-  taken-keeps Phase.Opened kd e h = opened k (w .ipiv) f (derivative-length _ _ kd e) c (w .work) h
-  taken-keeps Phase.JacobianAsked kd e h = jacobian k f c (w .ipiv) (w .work) h
-  taken-keeps Phase.DifferenceColumn kd e h = column k f (derivative-length _ _ kd e) c (w .ipiv) (w .work) h
-  taken-keeps Phase.FurtherDerivative kd e h = further k (w .ipiv) f (derivative-length _ _ kd e) c (w .work) h
-  taken-keeps Phase.Restep kd e h = resteps k (w .ipiv) f (derivative-length _ _ kd e) c (w .work) h
+  taken-keeps Phase.FirstModified kd e h = first-modified k (x .p) f (derivative-length _ _ kd e) c (x .w) h
+  taken-keeps Phase.Opened kd e h = opened k (x .p) f (derivative-length _ _ kd e) c (x .w) h
+  taken-keeps Phase.JacobianAsked kd e h = jacobian k f c (x .p) (x .w) h
+  taken-keeps Phase.DifferenceColumn kd e h = column k f (derivative-length _ _ kd e) c (x .p) (x .w) h
+  taken-keeps Phase.FurtherDerivative kd e h = further k (x .p) f (derivative-length _ _ kd e) c (x .w) h
+  taken-keeps Phase.Restep kd e h = resteps k (x .p) f (derivative-length _ _ kd e) c (x .w) h
   taken-keeps Phase.Report (Kind.Report a) e h =
-      after-report k (w .ipiv) f (eqb-true (length f) (x .settings .n) e) c (w .work) a h
+      after-report k (x .p) f (eqb-true (length f) (g .s .n) e) c (x .w) a h
   taken-keeps Phase.Report Kind.Derivative e h = absurd (true≢false (sym e))
   taken-keeps Phase.Report Kind.Jacobian e h = absurd (true≢false (sym e))
-  taken-keeps Phase.Modified kd e h = modified k (w .ipiv) f (derivative-length _ _ kd e) c (w .work) h
+  taken-keeps Phase.Modified kd e h = modified k (x .p) f (derivative-length _ _ kd e) c (x .w) h
   taken-keeps Phase.Finished kd e h = absurd (true≢false (sym e))
 
-  resumed : (asked : Bool) → isAsked (x .phase) kind (length f) (x .settings .n) ≡ asked → Before (x .phase)
-      → HoldsIn B S O (cond asked (dealtOf x (x .phase) kind f time w) (unasked x w))
-  resumed true e h = taken-keeps (x .phase) kind e h
+  resumed : (asked : Bool) → isAsked phase kind (length f) (g .s .n) ≡ asked → Holds B S O phase x
+      → HoldsIn B S O (cond asked (dealtOf g phase x kind f time) (unasked phase x))
+  resumed true e h = taken-keeps phase kind e h
   resumed false e h = h
 
   -- every reply, refused ones included
-  pub resume-keeps : Before (x .phase) → HoldsIn B S O (resumeOf x kind f time w)
+  pub resume-keeps : Holds B S O phase x → HoldsIn B S O (resumeOf g phase x kind f time)
   unfolding resumeOf
-  resume-keeps h = resumed (isAsked (x .phase) kind (length f) (x .settings .n)) refl h
+  resume-keeps h = resumed (isAsked phase kind (length f) (g .s .n)) refl h

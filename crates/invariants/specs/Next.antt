@@ -1,5 +1,7 @@
--- The session of an accepted start, and the session that a reply leaves: the settings stay.
+-- The session of an accepted start, and the session that the next reply finds: the settings stay.
+-- That these are the bytes a host is given is not said here: see session and calls.
 use lib.Ieee.{Float}
+use Rattle.common.specs.State.{Given}
 use Rattle.questions.specs.declared.Session.{Session}
 use Rattle.questions.specs.declared.Phase.the-variants.{FirstDerivative}
 use Rattle.questions.specs.Turns.{RunState}
@@ -14,5 +16,6 @@ startedSession x0 xend o l =
     let c = initialOf s x0 (givenStepOf o) (smallestOf o) (inverseLargestOf x0 xend o) in
     record { settings = s; common = c; phase = FirstDerivative }
 
-abbrev pub sessionAfter : Session → RunState → Session
-sessionAfter x l = record { settings = x .settings; common = l .turn .common; phase = l .turn .phase }
+-- what the next reply finds
+abbrev pub sessionFound : Given → RunState → Session
+sessionFound g l = record { settings = g .s; common = l .st .c; phase = l .phase }

@@ -12,14 +12,15 @@ use lib.ListN.{length}
 use denote.Enum.Declared.{tagOf}
 use types.Run.{OneOf, miss}
 use borrow.Author.Tests.{eqb-true}
+use Rattle.common.specs.State.{Given, State}
 use Rattle.between_steps.specs.declared.Kind.{Kind}
 use Rattle.between_steps.specs.declared.Kind.the-variants.{Derivative, Jacobian, Report}
 use Rattle.between_steps.specs.Replies.{isDerivative, isJacobian, isAnswer}
 use Rattle.between_steps.proofs.Kind.{the-type as kinds}
-use Rattle.questions.specs.declared.Session.{Session}
 use Rattle.questions.specs.declared.Phase.{Phase}
+use Rattle.questions.specs.declared.Phase.the-variants as Phase
 use Rattle.questions.specs.Requires.{UnlessFinished}
-use Rattle.machine.specs.Resume.{With, isAsked, unasked, dealtOf, resumeOf}
+use Rattle.machine.specs.Resume.{isAsked, unasked, dealtOf, resumeOf}
 use Rattle.machine.specs.Resume.{firstAnsweredOf, answeredOf}
 
 module _ (len n : ℕ) where
@@ -46,28 +47,28 @@ pub asked-in : {p : Phase} (q : Phase) (k : Kind) (len n : ℕ) → p ≡ q → 
     → isAsked q k len n ≡ true
 asked-in q k len n e h = sym (ap (λ (p : Phase). isAsked p k len n) e) ∙ h
 
-module _ (x : Session) (kind : Kind) (reply : List Float) (time : Float) (w : With) where
+module _ (g : Given) (phase : Phase) (x : State) (kind : Kind) (reply : List Float) (time : Float) where
   abbrev asked : Bool
-  asked = isAsked (x .phase) kind (length reply) (x .settings .n)
+  asked = isAsked phase kind (length reply) (g .s .n)
 
-  pub resume-asked : (p : Phase) → x .phase ≡ p → asked ≡ true
-      → resumeOf x kind reply time w ≡ dealtOf x p kind reply time w
+  pub resume-asked : (p : Phase) → phase ≡ p → asked ≡ true
+      → resumeOf g phase x kind reply time ≡ dealtOf g p x kind reply time
   unfolding resumeOf
-  resume-asked p e h =
-      ap (λ (t : Bool). cond t (dealtOf x (x .phase) kind reply time w) (unasked x w)) h
-      ∙ ap (λ (q : Phase). dealtOf x q kind reply time w) e
+  resume-asked p e h = rw (h, e)
 
-  pub resume-unasked : asked ≡ false → resumeOf x kind reply time w ≡ unasked x w
+  pub resume-unasked : asked ≡ false → resumeOf g phase x kind reply time ≡ unasked phase x
   unfolding resumeOf
-  resume-unasked h = ap (λ (t : Bool). cond t (dealtOf x (x .phase) kind reply time w) (unasked x w)) h
+  resume-unasked h = rw h
 
-module _ (x : Session) (reply : List Float) (time : Float) (w : With) where
-  pub first-unasked : (k : Kind) → OneOf (0 ∷ 1 ∷ []) (tagOf kinds k) → firstAnsweredOf x k reply time w ≡ unasked x w
+module _ (g : Given) (x : State) (reply : List Float) (time : Float) where
+  pub first-unasked : (k : Kind) → OneOf (0 ∷ 1 ∷ []) (tagOf kinds k)
+      → firstAnsweredOf g x k reply time ≡ unasked Phase.FirstReport x
   first-unasked Derivative h = refl
   first-unasked Jacobian h = refl
   first-unasked (Report a) h = absurd (miss (0 ∷ 1 ∷ []) 2 tt h)
 
-  pub report-unasked : (k : Kind) → OneOf (0 ∷ 1 ∷ []) (tagOf kinds k) → answeredOf x k reply time w ≡ unasked x w
+  pub report-unasked : (k : Kind) → OneOf (0 ∷ 1 ∷ []) (tagOf kinds k)
+      → answeredOf g x k reply time ≡ unasked Phase.Report x
   report-unasked Derivative h = refl
   report-unasked Jacobian h = refl
   report-unasked (Report a) h = absurd (miss (0 ∷ 1 ∷ []) 2 tt h)

@@ -1,17 +1,19 @@
--- A reply: 14 where it is of another kind or length than asked, else what the phase does with it.
+-- A reply: 14 where it is of another kind or length than asked, else what the phase does with it. The session is the
+-- phase, the settings and the record; the tolerances stay, the work and the pivots go on from reply to reply.
+-- That these definitions are the Rust's is not claimed here: refinement has that they do what the tree of rules does.
 use mathlib.Core.Bool.{Bool, false, cond}
 use mathlib.Core.List.{List}
 use Prim.Native.Nat.{ℕ}
 use lib.ListN.{length}
 use lib.Ieee.{Float}
+use Rattle.common.specs.State.{Given, State}
 use Rattle.between_steps.specs.declared.Kind.{Kind}
 use Rattle.between_steps.specs.declared.Kind.the-variants.{Derivative, Jacobian, Report}
 use Rattle.between_steps.specs.Replies.{isDerivative, isJacobian, isAnswer}
-use Rattle.questions.specs.declared.Session.{Session}
 use Rattle.questions.specs.declared.Phase.{Phase}
 use Rattle.questions.specs.declared.Phase.the-variants as Phase
 use Rattle.questions.specs.declared.Question.the-variants.{Unasked}
-use Rattle.questions.specs.Turns.{RunState, turnWork, withPivots}
+use Rattle.questions.specs.Turns.{RunState, withPivots}
 use Rattle.passes.specs.Pass.{openedReplyOf, jacobianReplyOf, columnReplyOf, furtherReplyOf, restepReplyOf}
 use Rattle.reports.specs.Reports.{firstDerivativeOf, afterFirstReportOf, firstModifiedOf, afterReportOf, modifiedOf}
 
@@ -32,51 +34,37 @@ isAsked Phase.Finished kind len n = false
 
 -- ---- what a reply does
 
--- what a reply is taken with: tolerances, work and pivots
-pub record With : Type 0 where
-  pub rtol : List Float
-  pub atol : List Float
-  pub work : List Float
-  pub ipiv : List ℕ
-
 -- nothing has changed
-abbrev pub unasked : Session → With → RunState
-unasked x w =
-    withPivots (w .ipiv) (turnWork (record { question = Unasked; phase = x .phase; common = x .common }) (w .work))
+abbrev pub unasked : Phase → State → RunState
+unasked phase x = record { question = Unasked; phase = phase; st = x }
 
 -- the answer to the first report, and to a step's
-abbrev pub firstAnsweredOf : Session → Kind → List Float → Float → With → RunState
-firstAnsweredOf x (Report a) y time w =
-    withPivots (w .ipiv) (afterFirstReportOf (x .settings) (x .common) a y time (w .work))
-firstAnsweredOf x Derivative y time w = unasked x w
-firstAnsweredOf x Jacobian y time w = unasked x w
+abbrev pub firstAnsweredOf : Given → State → Kind → List Float → Float → RunState
+firstAnsweredOf g x (Report a) y time = withPivots (x .p) (afterFirstReportOf (g .s) (x .c) a y time (x .w))
+firstAnsweredOf g x Derivative y time = unasked Phase.FirstReport x
+firstAnsweredOf g x Jacobian y time = unasked Phase.FirstReport x
 
-abbrev pub answeredOf : Session → Kind → List Float → Float → With → RunState
-answeredOf x (Report a) y time w =
-    withPivots (w .ipiv) (afterReportOf (x .settings) (x .common) a y time (w .work))
-answeredOf x Derivative y time w = unasked x w
-answeredOf x Jacobian y time w = unasked x w
+abbrev pub answeredOf : Given → State → Kind → List Float → Float → RunState
+answeredOf g x (Report a) y time = withPivots (x .p) (afterReportOf (g .s) (x .c) a y time (x .w))
+answeredOf g x Derivative y time = unasked Phase.Report x
+answeredOf g x Jacobian y time = unasked Phase.Report x
 
-unfoldable pub dealtOf : Session → Phase → Kind → List Float → Float → With → RunState
-dealtOf x Phase.FirstDerivative kind f time w =
-    withPivots (w .ipiv) (firstDerivativeOf (x .settings) (x .common) (w .rtol) (w .atol) f (w .work))
-dealtOf x Phase.FirstReport kind f time w = firstAnsweredOf x kind f time w
-dealtOf x Phase.FirstModified kind f time w =
-    withPivots (w .ipiv) (firstModifiedOf (x .settings) (x .common) f (w .work))
-dealtOf x Phase.Opened kind f time w =
-    withPivots (w .ipiv) (openedReplyOf (x .settings) (x .common) (w .rtol) (w .atol) f (w .ipiv) (w .work))
-dealtOf x Phase.JacobianAsked kind f time w =
-    jacobianReplyOf (x .settings) (x .common) (w .rtol) (w .atol) f (w .ipiv) (w .work)
-dealtOf x Phase.DifferenceColumn kind f time w =
-    columnReplyOf (x .settings) (x .common) (w .rtol) (w .atol) f (w .ipiv) (w .work)
-dealtOf x Phase.FurtherDerivative kind f time w =
-    withPivots (w .ipiv) (furtherReplyOf (x .settings) (x .common) (w .rtol) (w .atol) f (w .ipiv) (w .work))
-dealtOf x Phase.Restep kind f time w = withPivots (w .ipiv) (restepReplyOf (x .settings) (x .common) f (w .work))
-dealtOf x Phase.Report kind f time w = answeredOf x kind f time w
-dealtOf x Phase.Modified kind f time w = withPivots (w .ipiv) (modifiedOf (x .settings) (x .common) f (w .work))
-dealtOf x Phase.Finished kind f time w = unasked x w
+unfoldable pub dealtOf : Given → Phase → State → Kind → List Float → Float → RunState
+dealtOf g Phase.FirstDerivative x kind f time =
+    withPivots (x .p) (firstDerivativeOf (g .s) (x .c) (g .rtol) (g .atol) f (x .w))
+dealtOf g Phase.FirstReport x kind f time = firstAnsweredOf g x kind f time
+dealtOf g Phase.FirstModified x kind f time = withPivots (x .p) (firstModifiedOf (g .s) (x .c) f (x .w))
+dealtOf g Phase.Opened x kind f time =
+    withPivots (x .p) (openedReplyOf (g .s) (x .c) (g .rtol) (g .atol) f (x .p) (x .w))
+dealtOf g Phase.JacobianAsked x kind f time = jacobianReplyOf (g .s) (x .c) (g .rtol) (g .atol) f (x .p) (x .w)
+dealtOf g Phase.DifferenceColumn x kind f time = columnReplyOf (g .s) (x .c) (g .rtol) (g .atol) f (x .p) (x .w)
+dealtOf g Phase.FurtherDerivative x kind f time =
+    withPivots (x .p) (furtherReplyOf (g .s) (x .c) (g .rtol) (g .atol) f (x .p) (x .w))
+dealtOf g Phase.Restep x kind f time = withPivots (x .p) (restepReplyOf (g .s) (x .c) f (x .w))
+dealtOf g Phase.Report x kind f time = answeredOf g x kind f time
+dealtOf g Phase.Modified x kind f time = withPivots (x .p) (modifiedOf (g .s) (x .c) f (x .w))
+dealtOf g Phase.Finished x kind f time = unasked Phase.Finished x
 
-unfoldable pub resumeOf : Session → Kind → List Float → Float → With → RunState
-resumeOf x kind reply time w =
-    cond (isAsked (x .phase) kind (length reply) (x .settings .n)) (dealtOf x (x .phase) kind reply time w)
-    (unasked x w)
+unfoldable pub resumeOf : Given → Phase → State → Kind → List Float → Float → RunState
+resumeOf g phase x kind reply time =
+    cond (isAsked phase kind (length reply) (g .s .n)) (dealtOf g phase x kind reply time) (unasked phase x)

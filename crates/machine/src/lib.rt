@@ -4,10 +4,10 @@ ghost use mathlib.Core.Bool.{Bool};
 ghost use mathlib.Core.Path.{_≡_};
 ghost use Prim.Native.Nat.{_≤_};
 ghost use Rattle.common.specs.Limits.{maxStates};
+ghost use Rattle.common.specs.State.{given, state};
 ghost use Rattle.questions.specs.Requires.{Resumes, UnlessFinished};
-ghost use Rattle.questions.specs.Turns.{turnWork, withPivots};
-ghost use Rattle.common.specs.Initial.{initialOf};
-ghost use Rattle.machine.specs.Resume.{With, isAsked, resumeOf};
+ghost use Rattle.questions.specs.Turns.{runState};
+ghost use Rattle.machine.specs.Resume.{isAsked, resumeOf};
 
 use between_steps::Kind;
 use questions::Phase;
@@ -56,13 +56,9 @@ pub fn resume(
 ) -> Turn
     requires { ⌜ x .settings .n ≤ maxStates ⌝ }
     requires { ⌜ UnlessFinished (x .phase) (Resumes x (now rtol) (now atol) (now work) (now ipiv)) ⌝ }
-    ensures { λ r. ⌜ withPivots (now (ipiv .exit)) (turnWork r (now (work .exit)))
-        ≡ resumeOf x kind (now (reply .entry)) time (record {
-            rtol = now (rtol .entry);
-            atol = now (atol .entry);
-            work = now (work .entry);
-            ipiv = now (ipiv .entry);
-        }) ⌝ }
+    ensures { λ r. ⌜ runState r (now (work .exit)) (now (ipiv .exit))
+        ≡ resumeOf (given (x .settings) (now (rtol .entry)) (now (atol .entry))) (x .phase)
+            (state (x .common) (now (work .entry)) (now (ipiv .entry))) kind (now (reply .entry)) time ⌝ }
 {
     let s = x.settings;
     let c = x.common;

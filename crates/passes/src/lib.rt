@@ -7,7 +7,7 @@ ghost use Rattle.common.specs.Layout.{matrixAt};
 ghost use Rattle.common.specs.Limits.{maxStates};
 ghost use Rattle.history.specs.Steps.{StepInRange};
 ghost use Rattle.between_steps.specs.Ranges.{Inside, Lent};
-ghost use Rattle.questions.specs.Turns.{turnWork, withPivots};
+ghost use Rattle.questions.specs.Turns.{turnWork, runState};
 ghost use Rattle.passes.specs.Pass.{attemptedAt, reportedOf, endStepOf, acceptedOf, errorTestOf, passFailedOf};
 ghost use Rattle.passes.specs.Pass.{iterateOf, iterationsOf, matrixDoneOf, askColumnOf, askJacobianOf};
 ghost use Rattle.passes.specs.Pass.{openedReplyOf, jacobianReplyOf, columnReplyOf, furtherReplyOf, restepReplyOf};
@@ -166,7 +166,7 @@ fn matrix_done(s: Settings, c: Common, rtol: &[f64], atol: &[f64], work: &mut [f
     requires { ⌜ List1OrN (now rtol) (s .n - 1) ⌝ }
     requires { ⌜ List1OrN (now atol) (s .n - 1) ⌝ }
     requires { ⌜ Lent (s .n) (now work) (now ipiv) ⌝ }
-    ensures { λ r. ⌜ withPivots (now (ipiv .exit)) (turnWork r (now (work .exit)))
+    ensures { λ r. ⌜ runState r (now (work .exit)) (now (ipiv .exit))
         ≡ matrixDoneOf s c (now (rtol .entry)) (now (atol .entry)) (now (ipiv .entry)) (now (work .entry)) ⌝ }
 {
     let f = jacobian::finish_jacobian(s, c, work, ipiv);
@@ -257,7 +257,7 @@ pub fn jacobian_reply(
     requires { ⌜ List1OrN (now atol) (s .n - 1) ⌝ }
     requires { ⌜ length (now f) ≡ s .n * s .n ⌝ }
     requires { ⌜ Lent (s .n) (now work) (now ipiv) ⌝ }
-    ensures { λ r. ⌜ withPivots (now (ipiv .exit)) (turnWork r (now (work .exit)))
+    ensures { λ r. ⌜ runState r (now (work .exit)) (now (ipiv .exit))
         ≡ jacobianReplyOf s c (now (rtol .entry)) (now (atol .entry)) (now (f .entry))
             (now (ipiv .entry)) (now (work .entry)) ⌝ }
 {
@@ -283,7 +283,7 @@ pub fn column_reply(
     requires { ⌜ List1OrN (now atol) (s .n - 1) ⌝ }
     requires { ⌜ length (now f) ≡ s .n ⌝ }
     requires { ⌜ Lent (s .n) (now work) (now ipiv) ⌝ }
-    ensures { λ r. ⌜ withPivots (now (ipiv .exit)) (turnWork r (now (work .exit)))
+    ensures { λ r. ⌜ runState r (now (work .exit)) (now (ipiv .exit))
         ≡ columnReplyOf s c (now (rtol .entry)) (now (atol .entry)) (now (f .entry))
             (now (ipiv .entry)) (now (work .entry)) ⌝ }
 {

@@ -1,13 +1,15 @@
 -- What a reply leads to: the next question, the phase that waits for its reply, the record, the work and the pivots.
--- The counts of derivatives rise when the question is asked.
+-- The counts of derivatives rise when the question is asked. What a host is told of it is not here: see answers.
 use mathlib.Core.List.{List}
 use Prim.Native.Nat.{ℕ, _+_}
 use lib.Ieee.{Float}
 use Rattle.common.specs.declared.Common.{Common}
 use Rattle.common.specs.Record.{with-nfe, with-count}
+use Rattle.common.specs.State.{State, state}
 use Rattle.between_steps.specs.declared.Status.{Status}
 use Rattle.questions.specs.declared.Phase.{Phase}
 use Rattle.questions.specs.declared.Phase.the-variants.{Finished}
+use Rattle.questions.specs.declared.Question.{Question}
 use Rattle.questions.specs.declared.Question.the-variants as Question
 use Rattle.questions.specs.declared.Turn.{Turn}
 
@@ -16,18 +18,25 @@ pub record TurnWork : Type 0 where
   pub turn : Turn
   pub work : List Float
 
--- a turn, and the work and the pivots then
+-- the next question, the phase that waits for its reply, and the state of the run then
 pub record RunState : Type 0 where
-  pub turn : Turn
-  pub work : List Float
-  pub ipiv : List ℕ
+  pub question : Question
+  pub phase : Phase
+  pub st : State
+
+-- from what a function of the code answers, and the work and the pivots that it leaves
+abbrev pub runState : Turn → List Float → List ℕ → RunState
+runState t w p = record { question = t .question; phase = t .phase; st = state (t .common) w p }
+
+abbrev pub turnIn : RunState → Turn
+turnIn l = record { question = l .question; phase = l .phase; common = l .st .c }
 
 abbrev pub turnWork : Turn → List Float → TurnWork
 turnWork t work = record { turn = t; work = work }
 
 -- the pivots as they were
 abbrev pub withPivots : List ℕ → TurnWork → RunState
-withPivots ipiv k = record { turn = k .turn; work = k .work; ipiv = ipiv }
+withPivots ipiv k = runState (k .turn) (k .work) ipiv
 
 -- a derivative that belongs to no step
 unfoldable pub askedOf : Common → Phase → Turn

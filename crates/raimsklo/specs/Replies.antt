@@ -13,6 +13,7 @@ use Rattle.common.specs.declared.Common.{Common}
 use Rattle.common.specs.Layout.{yAt, yfdAt, workLength}
 use Rattle.common.specs.Limits.{maxStates}
 use Rattle.common.specs.SessionWords.{sessionLength}
+use Rattle.common.specs.State.{given, state}
 use Rattle.interpolation.specs.Snapshot.{snapshotOf}
 use Rattle.between_steps.specs.declared.Answer.the-variants as Answer
 use Rattle.between_steps.specs.declared.Kind.{Kind}
@@ -22,7 +23,7 @@ use Rattle.questions.specs.declared.Phase.the-variants as Phase
 use Rattle.questions.specs.declared.Question.{Question}
 use Rattle.questions.specs.declared.Question.the-variants as Question
 use Rattle.questions.specs.declared.Turn.{Turn}
-use Rattle.questions.specs.Turns.{RunState}
+use Rattle.questions.specs.Turns.{RunState, turnIn}
 use Rattle.machine.specs.Resume.{resumeOf}
 use Rattle.session.specs.Session.{encodeOf, decodeOf, rtolOf, atolOf, storedN, finishedIn, inRangeOf}
 use Rattle.refusals.specs.declared.Refusal.{Refusal}
@@ -124,16 +125,16 @@ turnWrittenOf s t work bytes q =
 
 abbrev pub turned : Kind → List Float → Float → Buffers → RunState
 turned kind numbers time b =
-    resumeOf (decodeOf (b .session)) kind numbers time (record {
-      rtol = rtolOf (b .session); atol = atolOf (b .session); work = b .work; ipiv = b .pivots;
-    })
+    let x = decodeOf (b .session) in
+    resumeOf (given (x .settings) (rtolOf (b .session)) (atolOf (b .session))) (x .phase)
+    (state (x .common) (b .work) (b .pivots)) kind numbers time
 
 abbrev pub written : Settings → RunState → Buffers → Called
 written s l b =
-    let x = turnWrittenOf s (l .turn) (l .work) (b .session) (b .question) in
+    let x = turnWrittenOf s (turnIn l) (l .st .w) (b .session) (b .question) in
     record {
       reply = x .reply;
-      lent = record { work = l .work; pivots = l .ipiv; session = x .session; question = x .question };
+      lent = record { work = l .st .w; pivots = l .st .p; session = x .session; question = x .question };
     }
 
 unfoldable pub acceptedReplyOf : Kind → List Float → Float → Buffers → Called

@@ -50,8 +50,8 @@ only-finished n Phase.Modified h = unlike n (h (derivative (zeros n) zeroF))
 only-finished n Phase.Finished h = refl
 
 ended : (g : Given) (p : Play) (l : RunState) → HasEnded p → SameState g p (stateAt p) l
-    → l .turn .phase ≡ Phase.Finished
-ended g (ret e) l h q = only-finished (g .s .n) (l .turn .phase) (q .takes)
+    → l .phase ≡ Phase.Finished
+ended g (ret e) l h q = only-finished (g .s .n) (l .phase) (q .takes)
 ended g (ask v x k) l h q = absurd h
 ended g (tell r x k) l h q = absurd h
 ended g (say e p) l h q = absurd h

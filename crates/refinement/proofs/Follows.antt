@@ -22,8 +22,9 @@ use Rattle.rules.specs.Play.{finished, stepRefused, weightRefused, exhausted, P
 use Rattle.rules.specs.Rules.{Start, start}
 use Rattle.rules.specs.Steps.{Step, noted, marked}
 use Rattle.rules.specs.Replies.{Reply, Progress, answerGiven, waits, fed}
+use Rattle.invariants.specs.Next.{sessionFound}
 use Rattle.refinement.specs.Shown.{shownAs, shownBy, shownAt, asks, resumed, isTaken, treeNext}
-use Rattle.refinement.specs.Shown.{sessionFound, withOf, reachedAfter, heard, treeAnswers, notRefused, heardTaken}
+use Rattle.refinement.specs.Shown.{reachedAfter, heard, treeAnswers, notRefused, heardTaken}
 use Rattle.refinement.specs.Shown.{givenTaken}
 use Rattle.refinement.specs.AtNode.{SameState, Arrived, AtNode, startedAt}
 use Rattle.refinement.specs.Follows.{Unchanged, stateAt, Follows}
@@ -47,7 +48,7 @@ module _ (g : Given) where
       let h = f .holds in
       record {
         shows = f .shows;
-        holds = record { common = h .common; work = h .work; ipiv = h .ipiv; takes = h .takes };
+        holds = record { same = h .same; takes = h .takes };
       }
 
   -- a reply by its parts
@@ -78,12 +79,12 @@ module _ (g : Given) where
   pub refuses : (l : RunState) (r : Reply) → isTaken g l r ≡ false → Unchanged l (resumed g l r)
   refuses l r h =
       rw (replies-of.refuses g l r h)
-      (record { question = refl; phase = refl; common = refl; work = refl; ipiv = refl })
+      (record { question = refl; phase = refl; same = refl })
 
   -- ---- a list of replies
 
   abbrev again : RunState → RunState
-  again l = unasked (sessionFound g l) (withOf g l)
+  again l = unasked (l .phase) (l .st)
 
   -- a reply is taken by both or refused by both
   data Turn (p : Play) (l : RunState) (r : Reply) : Type 0 where
@@ -154,7 +155,7 @@ module _ (g : Given) where
   At p l = SameState g p (stateAt p) l
 
   at-again : {p : Play} {l : RunState} → At p l → At p (again l)
-  at-again h = record { common = h .common; work = h .work; ipiv = h .ipiv; takes = h .takes }
+  at-again h = record { same = h .same; takes = h .takes }
 
   -- where p waits for a reply: refused replies are passed over
   module _ (p : Play) (l : RunState) (s : AtNode g p l) (on : Reply → List Reply → Progress) (at : Progress)

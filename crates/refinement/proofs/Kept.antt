@@ -29,7 +29,8 @@ use Rattle.invariants.proofs.Keeps.{Invariant, Held, HoldsIn, each, Keeps}
 use Rattle.invariants.proofs.Walk.{resume-keeps}
 use Rattle.invariants.proofs.Lent.{lent-keeps}
 use Rattle.invariants.proofs.Ranges.{Closing, closing-of, Ranged, ClosingAt, ranges-keep, within-initial}
-use Rattle.refinement.specs.Shown.{sessionFound, withOf, resumed, reachedAfter}
+use Rattle.invariants.specs.Next.{sessionFound}
+use Rattle.refinement.specs.Shown.{resumed, reachedAfter}
 use Rattle.refinement.specs.AtNode.{startedAt}
 use Rattle.refinement.specs.Follows.{stateAt}
 use Rattle.refinement.specs.InRun.{Accepts, SessionKept}
@@ -74,7 +75,7 @@ module _ (g : Given) (a : Start) (ok : Accepts g a) where
   after-keeps k l [] h = h
   after-keeps k l (r ∷ rs) h =
       after-keeps k (resumed g l r) rs
-      (resume-keeps (sessionFound g l) (r .kind) (r .numbers) (r .time) (withOf g l) (k (r .time)) h)
+      (resume-keeps g (l .phase) (l .st) (r .kind) (r .numbers) (r .time) (k (r .time)) h)
 
   -- at most as many steps as may be, so icount is at least 20
   abbrev InRanges : RunState → Type 0
@@ -89,15 +90,15 @@ module _ (g : Given) (a : Start) (ok : Accepts g a) where
       (g .rtol) (g .atol))
       (startedAt g a) rs (within-initial (g .s) (ok .settings) (a .x0) (a .h) (a .hmin) (a .hmxi))
 
-  lent-after : (rs : List Reply) → let l = reachedAfter g (startedAt g a) rs in Lent (g .s .n) (l .work) (l .ipiv)
+  lent-after : (rs : List Reply) → let l = reachedAfter g (startedAt g a) rs in Lent (g .s .n) (l .st .w) (l .st .p)
   lent-after rs =
-      each (reachedAfter g (startedAt g a) rs .turn .phase) (λ h. h) (λ h. h) (λ h. h)
+      each (reachedAfter g (startedAt g a) rs .phase) (λ h. h) (λ h. h) (λ h. h)
       (after-keeps (lent-keeps (g .s) (g .rtol) (g .atol)) (startedAt g a) rs lent-start)
 
-  pub counts-after : (rs : List Reply) → Counts (reachedAfter g (startedAt g a) rs .turn .common) (2 ^ 62 - 1)
+  pub counts-after : (rs : List Reply) → Counts (reachedAfter g (startedAt g a) rs .st .c) (2 ^ 62 - 1)
   counts-after rs =
       let z = fed (g .s .n) (start g a) [] rs in
-      rw (follows g a (ok .settings) .held rs .common)
+      rw (follows g a (ok .settings) .held rs .same)
       (counts-below (g .s) _ (ok .settings)
       (counted (z .play) (z .steps) (counts-kept g a (ok .settings) rs)) .0)
     where
@@ -107,24 +108,24 @@ module _ (g : Given) (a : Start) (ok : Accepts g a) where
       counted (tell r x k) xs h = h
       counted (say e p) xs h = absurd h
 
-  pub closing-after : (rs : List Reply) → Closing (g .s) (coreOf (reachedAfter g (startedAt g a) rs .turn .common))
+  pub closing-after : (rs : List Reply) → Closing (g .s) (coreOf (reachedAfter g (startedAt g a) rs .st .c))
   closing-after rs =
-      each (reachedAfter g (startedAt g a) rs .turn .phase) (λ h. closing-of h) (λ h. closing-of h) (λ h. h)
+      each (reachedAfter g (startedAt g a) rs .phase) (λ h. closing-of h) (λ h. closing-of h) (λ h. h)
         (kept-after rs)
 
   pub session-kept : SessionKept g a
   session-kept rs =
       let l = reachedAfter g (startedAt g a) rs in
-      unless (l .turn .phase) (λ h. resumes 0 h) (λ h. resumes 1 h) (λ h. tt) (kept-after rs)
+      unless (l .phase) (λ h. resumes 0 h) (λ h. resumes 1 h) (λ h. tt) (kept-after rs)
     where
       resumes : (under : ℕ) → let l = reachedAfter g (startedAt g a) rs in
-          Within (g .s) icount20 (g .s .maxsteps) under (coreOf (l .turn .common))
-          → Resumes (sessionFound g l) (g .rtol) (g .atol) (l .work) (l .ipiv)
+          Within (g .s) icount20 (g .s .maxsteps) under (coreOf (l .st .c))
+          → Resumes (sessionFound g l) (g .rtol) (g .atol) (l .st .w) (l .st .p)
       resumes under h = record {
         ranges = record {
           settings = ok .settings;
           counts = counts-after rs;
-          orders = orders-of (ok .settings) (reachedAfter g (startedAt g a) rs .turn .common) h
+          orders = orders-of (ok .settings) (reachedAfter g (startedAt g a) rs .st .c) h
             (omega (arith, ok .settings .maxsteps));
         };
         relative = ok .relative;

@@ -24,33 +24,34 @@ use Rattle.questions.specs.Turns.{RunState}
 use Rattle.machine.specs.Resume.{isAsked, unasked, dealtOf, resumeOf}
 use Rattle.rules.specs.Play.{derivativeAt, jacobianAt, Play, ask}
 use Rattle.rules.specs.Replies.{Reply}
-use Rattle.refinement.specs.Shown.{wantedAt, shownAs, sessionFound, withOf, resumed, isTaken}
+use Rattle.invariants.specs.Next.{sessionFound}
+use Rattle.refinement.specs.Shown.{wantedAt, shownAs, resumed, isTaken}
 use Rattle.refinement.specs.AtNode.{derivative, jacobian, answer, AtNode}
 
 -- what the phase does with a reply
 abbrev pub dealt : Given → RunState → Reply → RunState
-dealt g l r = dealtOf (sessionFound g l) (l .turn .phase) (r .kind) (r .numbers) (r .time) (withOf g l)
+dealt g l r = dealtOf g (l .phase) (l .st) (r .kind) (r .numbers) (r .time)
 
 module _ (g : Given) (l : RunState) where
   pub takes : (r : Reply) → isTaken g l r ≡ true → resumed g l r ≡ dealt g l r
   unfolding resumeOf
   takes r e = rw e
 
-  pub refuses : (r : Reply) → isTaken g l r ≡ false → resumed g l r ≡ unasked (sessionFound g l) (withOf g l)
+  pub refuses : (r : Reply) → isTaken g l r ≡ false → resumed g l r ≡ unasked (l .phase) (l .st)
   unfolding resumeOf
   refuses r e = rw e
 
   module _ (f : List Float) (t : Float) where
-    pub takes-derivative : ((k : ℕ) → isAsked (l .turn .phase) Kind.Derivative k (g .s .n) ≡ eqb k (g .s .n))
+    pub takes-derivative : ((k : ℕ) → isAsked (l .phase) Kind.Derivative k (g .s .n) ≡ eqb k (g .s .n))
         → length f ≡ g .s .n → resumed g l (derivative f t) ≡ dealt g l (derivative f t)
     takes-derivative e h = takes (derivative f t) (rw (e (length f)) (eq-eqb (length f) (g .s .n) h))
 
-    pub takes-jacobian : l .turn .phase ≡ Phase.JacobianAsked → length f ≡ g .s .n * g .s .n
+    pub takes-jacobian : l .phase ≡ Phase.JacobianAsked → length f ≡ g .s .n * g .s .n
         → resumed g l (jacobian f t) ≡ dealt g l (jacobian f t)
     takes-jacobian e h = takes (jacobian f t) (rw e (eq-eqb (length f) (g .s .n * g .s .n) h))
 
     pub takes-answer : (a : Answer)
-        → ((k : ℕ) → isAsked (l .turn .phase) (Kind.Report a) k (g .s .n) ≡ eqb k (g .s .n))
+        → ((k : ℕ) → isAsked (l .phase) (Kind.Report a) k (g .s .n) ≡ eqb k (g .s .n))
         → length f ≡ g .s .n → resumed g l (answer a f t) ≡ dealt g l (answer a f t)
     takes-answer a e h = takes (answer a f t) (rw (e (length f)) (eq-eqb (length f) (g .s .n) h))
 
@@ -58,21 +59,13 @@ module _ (g : Given) (l : RunState) where
 
 -- a derivative or a Jacobian is wanted, in a phase
 abbrev pub waiting : Phase → State → RunState
-waiting phase x = record {
-  turn = record { question = Machine.Derivative (record { time = x .c .tn }); phase = phase; common = x .c };
-  work = x .w;
-  ipiv = x .p;
-}
+waiting phase x = record { question = Machine.Derivative (record { time = x .c .tn }); phase = phase; st = x }
 
 abbrev pub waitingJacobian : State → RunState
 waitingJacobian x = record {
-  turn = record {
-    question = Machine.Jacobian (record { time = x .c .tn });
-    phase = Phase.JacobianAsked;
-    common = x .c;
-  };
-  work = x .w;
-  ipiv = x .p;
+  question = Machine.Jacobian (record { time = x .c .tn });
+  phase = Phase.JacobianAsked;
+  st = x;
 }
 
 module _ (g : Given) (x : State) (k : List Float → Play) where
@@ -83,15 +76,7 @@ module _ (g : Given) (x : State) (k : List Float → Play) where
       → AtNode g (ask (derivativeAt (x .c .tn) (wantedAt (g .s .n) phase (x .w))) x k) (waiting phase x)
   unfolding shownAs
   derivative-stands phase e h = (
-    record {
-      shows = refl;
-      holds = record {
-        common = refl;
-        work = refl;
-        ipiv = refl;
-        takes = λ r. e (r .kind) (length (r .numbers)) (g .s .n);
-      };
-    },
+    record { shows = refl; holds = record { same = refl; takes = λ r. e (r .kind) (length (r .numbers)) (g .s .n) } },
     λ f t q. rw (takes-derivative g (waiting phase x) f t (λ len. e Kind.Derivative len (g .s .n)) q) (h f t q),
   )
 
@@ -101,6 +86,6 @@ module _ (g : Given) (x : State) (k : List Float → Play) where
       → AtNode g (ask (jacobianAt (x .c .tn) (y (g .s .n) (x .w))) x k) (waitingJacobian x)
   unfolding shownAs
   jacobian-stands h = (
-    record { shows = refl; holds = record { common = refl; work = refl; ipiv = refl; takes = λ r. refl } },
+    record { shows = refl; holds = record { same = refl; takes = λ r. refl } },
     λ f t q. rw (takes-jacobian g (waitingJacobian x) f t refl q) (h f t q),
   )

@@ -53,10 +53,10 @@ module _ (g : Given) (some : 1 ≤ g .s .n) where
       → AtNode g (sized g refuses h x) (withPivots (x .p) (sizedAt (g .s) refuses (x .c) h (x .w)))
   unfolding sized sizedAt shownAs dealtOf
   sized-stands true h x a =
-      record { shows = refl; holds = record { common = refl; work = refl; ipiv = refl; takes = λ r. refl } }
+      record { shows = refl; holds = record { same = refl; takes = λ r. refl } }
   sized-stands false h x a =
       let l = withPivots (x .p) (sizedAt (g .s) false (x .c) h (x .w)) in (
-        record { shows = refl; holds = record { common = refl; work = refl; ipiv = refl; takes = λ r. refl } },
+        record { shows = refl; holds = record { same = refl; takes = λ r. refl } },
         λ b f t q. rw (takes-answer g l f t b (λ len. refl) q)
             (first-answered-stands (sizedState g h x) b f t (a b f t q)),
       )
@@ -65,7 +65,7 @@ module _ (g : Given) (some : 1 ≤ g .s .n) where
       → AtNode g (weighted g w x) (withPivots (x .p) (weightedAt (g .s) (x .c) (g .rtol) (g .atol) w (x .w)))
   unfolding weighted weightedAt sizedOf shownAs
   weighted-stands (Refused i) x a =
-      record { shows = refl; holds = record { common = refl; work = refl; ipiv = refl; takes = λ r. refl } }
+      record { shows = refl; holds = record { same = refl; takes = λ r. refl } }
   weighted-stands Inverted x a = sized-stands (refused (firstStep g x) (g .s .direction)) (firstStep g x) x a
 
   started-stands : (f : List Float) (x : State) → Alive (g .s .n) (started g f x)

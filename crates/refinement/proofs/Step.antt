@@ -53,7 +53,7 @@ module _ (g : Given) where
   pub ended-stands : (status : Status) (x : State) → AtNode g (ret (finished status x)) (ended status x)
   unfolding finishedOf shownAs
   ended-stands status x =
-      record { shows = refl; holds = record { common = refl; work = refl; ipiv = refl; takes = λ r. refl } }
+      record { shows = refl; holds = record { same = refl; takes = λ r. refl } }
 
   -- what follows a step
   abbrev pub goes : State → RunState
@@ -82,10 +82,10 @@ module _ (g : Given) where
         → AtNode g (closed g on w x) (withPivots (x .p) (closedAt (g .s .n) (x .c) w (x .w)))
     unfolding closed closedAt reportedOf shownAs dealtOf
     closed-stands (Refused i) x a =
-        record { shows = refl; holds = record { common = refl; work = refl; ipiv = refl; takes = λ r. refl } }
+        record { shows = refl; holds = record { same = refl; takes = λ r. refl } }
     closed-stands Inverted x a =
         let l = withPivots (x .p) (reportedOf (g .s .n) (x .c) (x .w)) in (
-          record { shows = refl; holds = record { common = refl; work = refl; ipiv = refl; takes = λ r. refl } },
+          record { shows = refl; holds = record { same = refl; takes = λ r. refl } },
           λ b f t h. rw (takes-answer g l f t b (λ k. refl) h) (answered-stands (reportedState g x) b f t (a b f t h)),
         )
 

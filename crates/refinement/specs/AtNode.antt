@@ -33,9 +33,7 @@ answer a f t = record { kind = Kind.Report a; numbers = f; time = t }
 
 -- it has the record, the work and the pivots of the node, and takes the replies that the node takes
 pub record SameState (g : Given) (p : Play) (x : State) (l : RunState) : Type 0 where
-  pub common : l .turn .common ≡ x .c
-  pub work : l .work ≡ x .w
-  pub ipiv : l .ipiv ≡ x .p
+  pub same : l .st ≡ x
   pub takes : (r : Reply) → isTaken g l r ≡ asks (g .s .n) p r
 
 -- and has just come to it, so that it shows what the node shows
@@ -64,14 +62,8 @@ AtNode g (say e p) l = AtNode g p l
 
 -- what an accepted start leaves: the first derivative is asked for
 abbrev pub startedAt : Given → Start → RunState
-startedAt g a =
-    let x = beginning g a in
-    record {
-      turn = record {
-        question = Machine.Derivative (record { time = a .x0 });
-        phase = FirstDerivative;
-        common = x .c;
-      };
-      work = x .w;
-      ipiv = x .p;
-    }
+startedAt g a = record {
+  question = Machine.Derivative (record { time = a .x0 });
+  phase = FirstDerivative;
+  st = beginning g a;
+}

@@ -20,11 +20,9 @@ use Rattle.refinement.specs.AtNode.{SameState, AtNode, startedAt}
 
 -- a refused reply is answered 14 and leaves all as it was
 pub record Unchanged (l m : RunState) : Type 0 where
-  pub question : m .turn .question ≡ Unasked
-  pub phase : m .turn .phase ≡ l .turn .phase
-  pub common : m .turn .common ≡ l .turn .common
-  pub work : m .work ≡ l .work
-  pub ipiv : m .ipiv ≡ l .ipiv
+  pub question : m .question ≡ Unasked
+  pub phase : m .phase ≡ l .phase
+  pub same : m .st ≡ l .st
 
 -- the state of a node
 abbrev pub stateAt : Play → State
@@ -52,4 +50,4 @@ pub record Follows (g : Given) (a : Start) : Type 0 where
 abbrev pub Finishes : Given → Start → Type 0
 Finishes g a =
     (rs : List Reply) → AllAsked (g .s .n) (start g a) rs → repliesOf (g .s) ≤ length rs
-    → reachedAfter g (startedAt g a) rs .turn .phase ≡ Finished
+    → reachedAfter g (startedAt g a) rs .phase ≡ Finished

@@ -12,7 +12,8 @@ use Rattle.questions.specs.Requires.{Resumes, UnlessFinished}
 use Rattle.questions.specs.Turns.{RunState}
 use Rattle.rules.specs.Rules.{Start}
 use Rattle.rules.specs.Replies.{Reply}
-use Rattle.refinement.specs.Shown.{sessionFound, reachedAfter}
+use Rattle.invariants.specs.Next.{sessionFound}
+use Rattle.refinement.specs.Shown.{reachedAfter}
 use Rattle.refinement.specs.AtNode.{startedAt}
 
 -- what a start accepts
@@ -25,7 +26,7 @@ pub record Accepts (g : Given) (a : Start) : Type 0 where
 -- what a reply finds
 abbrev pub InRun : Given → RunState → Type 0
 InRun g l =
-    UnlessFinished (l .turn .phase) (Resumes (sessionFound g l) (g .rtol) (g .atol) (l .work) (l .ipiv))
+    UnlessFinished (l .phase) (Resumes (sessionFound g l) (g .rtol) (g .atol) (l .st .w) (l .st .p))
 
 abbrev pub SessionKept : Given → Start → Type 0
 SessionKept g a = (rs : List Reply) → InRun g (reachedAfter g (startedAt g a) rs)

@@ -17,9 +17,8 @@ use Rattle.questions.specs.declared.Phase.{Phase}
 use Rattle.questions.specs.declared.Phase.the-variants as Phase
 use Rattle.questions.specs.declared.Question.{Question as MachineQuestion}
 use Rattle.questions.specs.declared.Question.the-variants as Machine
-use Rattle.questions.specs.declared.Session.{Session}
 use Rattle.questions.specs.Turns.{RunState}
-use Rattle.machine.specs.Resume.{With, isAsked, resumeOf}
+use Rattle.machine.specs.Resume.{isAsked, resumeOf}
 use Rattle.rules.specs.Play.{Question, derivativeAt, jacobianAt, Report}
 use Rattle.rules.specs.Play.{End as RulesEnd, finished, stepRefused, weightRefused, exhausted, Play, ret, ask, tell}
 use Rattle.rules.specs.Play.{say}
@@ -78,17 +77,10 @@ shownAs n (Machine.WeightRefused i) phase c work = refusesWeight i
 shownAs n Machine.Unasked phase c work = refuses
 
 abbrev pub shownBy : ℕ → RunState → Shown
-shownBy n l = shownAs n (l .turn .question) (l .turn .phase) (l .turn .common) (l .work)
-
--- what the next reply finds
-abbrev pub sessionFound : Given → RunState → Session
-sessionFound g l = record { settings = g .s; common = l .turn .common; phase = l .turn .phase }
-
-abbrev pub withOf : Given → RunState → With
-withOf g l = record { rtol = g .rtol; atol = g .atol; work = l .work; ipiv = l .ipiv }
+shownBy n l = shownAs n (l .question) (l .phase) (l .st .c) (l .st .w)
 
 abbrev pub resumed : Given → RunState → Reply → RunState
-resumed g l r = resumeOf (sessionFound g l) (r .kind) (r .numbers) (r .time) (withOf g l)
+resumed g l r = resumeOf g (l .phase) (l .st) (r .kind) (r .numbers) (r .time)
 
 -- where a run stands after a list of replies, refused ones included
 unfoldable pub reachedAfter : Given → RunState → List Reply → RunState
@@ -166,7 +158,7 @@ keepIf true x xs = x ∷ xs
 keepIf false x xs = xs
 
 abbrev pub isTaken : Given → RunState → Reply → Bool
-isTaken g l r = isAsked (l .turn .phase) (r .kind) (length (r .numbers)) (g .s .n)
+isTaken g l r = isAsked (l .phase) (r .kind) (length (r .numbers)) (g .s .n)
 
 -- the replies that the machine does not refuse, and its answers to these
 unfoldable pub notRefused : Given → RunState → List Reply → List Reply

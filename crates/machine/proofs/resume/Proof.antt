@@ -4,11 +4,13 @@ use mathlib.Core.Path.{refl, sym, ap, _∙_}
 use native.Mathlib.Omega.{arith}
 use borrow.Author.Needs.{needs}
 use borrow.Author.Tests.{not-true, not-false}
+use Rattle.common.specs.State.{given, state}
 use Rattle.between_steps.specs.declared.Kind.{Kind}
 use Rattle.between_steps.proofs.Inside.{inside-ranges}
 use Rattle.questions.specs.Turns.{withPivots}
+use Rattle.questions.specs.declared.Phase.{Phase}
 use Rattle.questions.specs.declared.Phase.the-variants as Phase
-use Rattle.machine.specs.Resume.{With, firstAnsweredOf, answeredOf, dealtOf}
+use Rattle.machine.specs.Resume.{unasked, firstAnsweredOf, answeredOf, dealtOf}
 use denote.Ref.{now}
 use Rattle.machine.proofs.Replies.{derivative-length, jacobian-length, answer-length, held, asked-in}
 use Rattle.machine.proofs.Replies.{resume-asked, resume-unasked, first-unasked, report-unasked}
@@ -19,7 +21,7 @@ returns : tie.Need-returns
 returns c =
     let i = c .before in
     let x = i .before .before .before .before .before .before .before .before .args in
-    sym (resume-unasked (x .x) (x .kind) _ (x .time) _ (sym (i .is-asked .ensures) ∙ not-true _ (c .if1 .taken)))
+    sym (resume-unasked _ _ _ _ _ _ (sym (i .is-asked .ensures) ∙ not-true _ (c .if1 .taken)))
 
 enum-told : tie.Need-enum-told
 enum-told c = search needs
@@ -149,10 +151,9 @@ unfolding dealtOf
 returns-2 c =
     let e = c .before .before .before .before in
     let i = e .before .before in
-    let x = e .before .before .before .before .before .before .before .before .before .before .before .args in
     let yes = sym (i .before .is-asked .ensures) ∙ not-false _ (i .if1 .left) in
     ap (withPivots _) (c .before .before .first-derivative .ensures)
-    ∙ sym (resume-asked (x .x) (x .kind) _ (x .time) _ Phase.FirstDerivative (e .enum-told .given .1) yes)
+    ∙ sym (resume-asked _ _ _ _ _ _ Phase.FirstDerivative (e .enum-told .given .1) yes)
 
 returns-3 : tie.Need-returns-3
 unfolding dealtOf
@@ -161,11 +162,12 @@ returns-3 c =
     let i = e .before .before in
     let x = e .before .before .before .before .before .before .before .before .before .before .before .args in
     let yes = sym (i .before .is-asked .ensures) ∙ not-false _ (i .if1 .left) in
-    let w : With = record { rtol = now (x .rtol); atol = now (x .atol); work = now (x .work); ipiv = now (x .ipiv) } in
+    let g = given (x .x .settings) (now (x .rtol)) (now (x .atol)) in
+    let st = state (x .x .common) (now (x .work)) (now (x .ipiv)) in
     ap (withPivots _) (c .before .before .after-first-report .ensures)
-    ∙ sym (ap (λ (k : Kind). firstAnsweredOf (x .x) k (now (x .reply)) (x .time) w)
+    ∙ sym (ap (λ (k : Kind). firstAnsweredOf g st k (now (x .reply)) (x .time))
       (c .before .before .before .before .before .kind .given .1))
-    ∙ sym (resume-asked (x .x) (x .kind) _ (x .time) _ Phase.FirstReport (e .enum-told2 .given .1) yes)
+    ∙ sym (resume-asked _ _ _ _ _ _ Phase.FirstReport (e .enum-told2 .given .1) yes)
 
 returns-4 : tie.Need-returns-4
 unfolding dealtOf
@@ -174,68 +176,65 @@ returns-4 c =
     let i = e .before .before in
     let x = e .before .before .before .before .before .before .before .before .before .before .before .args in
     let yes = sym (i .before .is-asked .ensures) ∙ not-false _ (i .if1 .left) in
-    sym (first-unasked (x .x) _ (x .time) _ (x .kind) (c .match2 .keys2))
-    ∙ sym (resume-asked (x .x) (x .kind) _ (x .time) _ Phase.FirstReport (e .enum-told2 .given .1) yes)
+    let g = given (x .x .settings) (now (x .rtol)) (now (x .atol)) in
+    let st = state (x .x .common) (now (x .work)) (now (x .ipiv)) in
+    ap (λ (p : Phase). unasked p st) (e .enum-told2 .given .1)
+    ∙ sym (first-unasked g st (now (x .reply)) (x .time) (x .kind) (c .match2 .keys2))
+    ∙ sym (resume-asked _ _ _ _ _ _ Phase.FirstReport (e .enum-told2 .given .1) yes)
 
 returns-5 : tie.Need-returns-5
 unfolding dealtOf
 returns-5 c =
     let e = c .before .before .before .before in
     let i = e .before .before in
-    let x = e .before .before .before .before .before .before .before .before .before .before .before .args in
     let yes = sym (i .before .is-asked .ensures) ∙ not-false _ (i .if1 .left) in
     ap (withPivots _) (c .before .before .first-modified .ensures)
-    ∙ sym (resume-asked (x .x) (x .kind) _ (x .time) _ Phase.FirstModified (e .enum-told3 .given .1) yes)
+    ∙ sym (resume-asked _ _ _ _ _ _ Phase.FirstModified (e .enum-told3 .given .1) yes)
 
 returns-6 : tie.Need-returns-6
 unfolding dealtOf
 returns-6 c =
     let e = c .before .before .before .before .before in
     let i = e .before .before in
-    let x = e .before .before .before .before .before .before .before .before .before .before .before .args in
     let yes = sym (i .before .is-asked .ensures) ∙ not-false _ (i .if1 .left) in
     ap (withPivots _) (c .before .before .opened-reply .ensures)
-    ∙ sym (resume-asked (x .x) (x .kind) _ (x .time) _ Phase.Opened (e .enum-told4 .given .1) yes)
+    ∙ sym (resume-asked _ _ _ _ _ _ Phase.Opened (e .enum-told4 .given .1) yes)
 
 returns-7 : tie.Need-returns-7
 unfolding dealtOf
 returns-7 c =
     let e = c .before .before .before .before .before .before .before in
     let i = e .before .before in
-    let x = e .before .before .before .before .before .before .before .before .before .before .before .args in
     let yes = sym (i .before .is-asked .ensures) ∙ not-false _ (i .if1 .left) in
     c .before .before .before .before .jacobian-reply .ensures
-    ∙ sym (resume-asked (x .x) (x .kind) _ (x .time) _ Phase.JacobianAsked (e .enum-told5 .given .1) yes)
+    ∙ sym (resume-asked _ _ _ _ _ _ Phase.JacobianAsked (e .enum-told5 .given .1) yes)
 
 returns-8 : tie.Need-returns-8
 unfolding dealtOf
 returns-8 c =
     let e = c .before .before .before .before .before .before .before in
     let i = e .before .before in
-    let x = e .before .before .before .before .before .before .before .before .before .before .before .args in
     let yes = sym (i .before .is-asked .ensures) ∙ not-false _ (i .if1 .left) in
     c .before .before .before .before .column-reply .ensures
-    ∙ sym (resume-asked (x .x) (x .kind) _ (x .time) _ Phase.DifferenceColumn (e .enum-told6 .given .1) yes)
+    ∙ sym (resume-asked _ _ _ _ _ _ Phase.DifferenceColumn (e .enum-told6 .given .1) yes)
 
 returns-9 : tie.Need-returns-9
 unfolding dealtOf
 returns-9 c =
     let e = c .before .before .before .before .before in
     let i = e .before .before in
-    let x = e .before .before .before .before .before .before .before .before .before .before .before .args in
     let yes = sym (i .before .is-asked .ensures) ∙ not-false _ (i .if1 .left) in
     ap (withPivots _) (c .before .before .further-reply .ensures)
-    ∙ sym (resume-asked (x .x) (x .kind) _ (x .time) _ Phase.FurtherDerivative (e .enum-told7 .given .1) yes)
+    ∙ sym (resume-asked _ _ _ _ _ _ Phase.FurtherDerivative (e .enum-told7 .given .1) yes)
 
 returns-10 : tie.Need-returns-10
 unfolding dealtOf
 returns-10 c =
     let e = c .before .before .before .before in
     let i = e .before .before in
-    let x = e .before .before .before .before .before .before .before .before .before .before .before .args in
     let yes = sym (i .before .is-asked .ensures) ∙ not-false _ (i .if1 .left) in
     ap (withPivots _) (c .before .before .restep-reply .ensures)
-    ∙ sym (resume-asked (x .x) (x .kind) _ (x .time) _ Phase.Restep (e .enum-told8 .given .1) yes)
+    ∙ sym (resume-asked _ _ _ _ _ _ Phase.Restep (e .enum-told8 .given .1) yes)
 
 returns-11 : tie.Need-returns-11
 unfolding dealtOf
@@ -244,11 +243,12 @@ returns-11 c =
     let i = e .before .before in
     let x = e .before .before .before .before .before .before .before .before .before .before .before .args in
     let yes = sym (i .before .is-asked .ensures) ∙ not-false _ (i .if1 .left) in
-    let w : With = record { rtol = now (x .rtol); atol = now (x .atol); work = now (x .work); ipiv = now (x .ipiv) } in
+    let g = given (x .x .settings) (now (x .rtol)) (now (x .atol)) in
+    let st = state (x .x .common) (now (x .work)) (now (x .ipiv)) in
     ap (withPivots _) (c .before .before .after-report .ensures)
-    ∙ sym (ap (λ (k : Kind). answeredOf (x .x) k (now (x .reply)) (x .time) w)
+    ∙ sym (ap (λ (k : Kind). answeredOf g st k (now (x .reply)) (x .time))
       (c .before .before .before .before .before .kind2 .given .1))
-    ∙ sym (resume-asked (x .x) (x .kind) _ (x .time) _ Phase.Report (e .enum-told9 .given .1) yes)
+    ∙ sym (resume-asked _ _ _ _ _ _ Phase.Report (e .enum-told9 .given .1) yes)
 
 returns-12 : tie.Need-returns-12
 unfolding dealtOf
@@ -257,18 +257,20 @@ returns-12 c =
     let i = e .before .before in
     let x = e .before .before .before .before .before .before .before .before .before .before .before .args in
     let yes = sym (i .before .is-asked .ensures) ∙ not-false _ (i .if1 .left) in
-    sym (report-unasked (x .x) _ (x .time) _ (x .kind) (c .match3 .keys2))
-    ∙ sym (resume-asked (x .x) (x .kind) _ (x .time) _ Phase.Report (e .enum-told9 .given .1) yes)
+    let g = given (x .x .settings) (now (x .rtol)) (now (x .atol)) in
+    let st = state (x .x .common) (now (x .work)) (now (x .ipiv)) in
+    ap (λ (p : Phase). unasked p st) (e .enum-told9 .given .1)
+    ∙ sym (report-unasked g st (now (x .reply)) (x .time) (x .kind) (c .match3 .keys2))
+    ∙ sym (resume-asked _ _ _ _ _ _ Phase.Report (e .enum-told9 .given .1) yes)
 
 returns-13 : tie.Need-returns-13
 unfolding dealtOf
 returns-13 c =
     let e = c .before .before .before .before in
     let i = e .before .before in
-    let x = e .before .before .before .before .before .before .before .before .before .before .before .args in
     let yes = sym (i .before .is-asked .ensures) ∙ not-false _ (i .if1 .left) in
     ap (withPivots _) (c .before .before .modified .ensures)
-    ∙ sym (resume-asked (x .x) (x .kind) _ (x .time) _ Phase.Modified (e .enum-told10 .given .1) yes)
+    ∙ sym (resume-asked _ _ _ _ _ _ Phase.Modified (e .enum-told10 .given .1) yes)
 
 returns-14 : tie.Need-returns-14
 unfolding dealtOf
@@ -277,8 +279,9 @@ returns-14 c =
     let i = e .before .before in
     let x = e .before .before .before .before .before .before .before .before .before .before .before .args in
     let yes = sym (i .before .is-asked .ensures) ∙ not-false _ (i .if1 .left) in
-    refl
-    ∙ sym (resume-asked (x .x) (x .kind) _ (x .time) _ Phase.Finished (e .enum-told11 .given .1) yes)
+    let st = state (x .x .common) (now (x .work)) (now (x .ipiv)) in
+    ap (λ (p : Phase). unasked p st) (e .enum-told11 .given .1)
+    ∙ sym (resume-asked _ _ _ _ _ _ Phase.Finished (e .enum-told11 .given .1) yes)
 
 pub resume-spec : {M : Type 1} → statement M
 resume-spec =

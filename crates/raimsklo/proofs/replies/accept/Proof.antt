@@ -11,8 +11,8 @@ use Rattle.numbers.specs.Float.{zeroF}
 use Rattle.questions.specs.declared.Session.{Session}
 use Rattle.questions.specs.Turns.{RunState}
 use Rattle.common.specs.Limits.{maxStates}
+use Rattle.common.specs.State.{given, state}
 use Rattle.common.specs.SessionWords.{rtolAt, atolAt}
-use Rattle.machine.specs.Resume.{With}
 use Rattle.invariants.proofs.Ranges.{order-after}
 use Rattle.invariants.proofs.Lent.{resume-lent}
 use Rattle.session.specs.Session.{decodeOf, rtolOf, atolOf, inRangeOf}
@@ -115,11 +115,12 @@ write-turn-requires c κs =
       over-part b rtolAt (s .nrtol) empty (l .0) maxStates (l .0),
       over-part b atolAt (s .natol) empty (l .1) maxStates (l .1),
     ) at (m .resume .ensures) in
-    let w : With = record { rtol = rtolOf b; atol = atolOf b; work = x .work .now; ipiv = x .pivots .now } in
-    let order = order-after (decodeOf b) (x .kind) (x .numbers .now) (x .time) w (r .ranges) in
-    let room = resume-lent (decodeOf b) (x .numbers .now) (x .time) w (r .lent) (x .kind) .sized in
-    let low = ap (λ (l : RunState). l .turn .common .nq) turned in
-    let long = ap (λ (l : RunState). length (l .work)) turned in
+    let g = given s (rtolOf b) (atolOf b) in
+    let st = state (decodeOf b .common) (x .work .now) (x .pivots .now) in
+    let order = order-after g (decodeOf b .phase) st (x .kind) (x .numbers .now) (x .time) (r .ranges) in
+    let room = resume-lent g (decodeOf b .phase) st (x .numbers .now) (x .time) (r .lent) (x .kind) .sized in
+    let low = ap (λ (l : RunState). l .st .c .nq) turned in
+    let long = ap (λ (l : RunState). length (l .st .w)) turned in
     rw (a .pre .1 .0 .1)
     (
       (z .states .0, z .states .1, omega (arith, low, order)),
