@@ -16,7 +16,7 @@ use borrow.Author.Tests.{eqb-true, eqb-false}
 use Rattle.numbers.specs.Float.{zeroF}
 use Rattle.questions.specs.declared.Phase.{Phase}
 use Rattle.questions.specs.declared.Phase.the-variants as Phase
-use Rattle.questions.specs.Turns.{RunState, turnIn}
+use Rattle.questions.specs.Turns.{RunState}
 use Rattle.session.specs.Session.{encodeOf, decodeOf}
 use Rattle.session.specs.Names.{nWord, phaseWord}
 use Rattle.session.specs.InRange.{InRange}
@@ -130,11 +130,11 @@ module _ (g : Given) (a : Start) (run : Runs g a) (l : RunState) (bytes : List �
           (questionOf (g .s) (m .phase) (m .st .c) (m .st .w) (r .question));
     }
 
-    write : (m : RunState) → Well 0 (turnIn m) → written (g .s) m lent ≡ taken m
+    write : (m : RunState) → Well 0 m → written (g .s) m lent ≡ taken m
     unfolding turnWrittenOf
     write m w = rw (asking (m .question) (m .phase) (m .st .c) (w .agrees))
 
-    pub reply-taken : isOver (l .phase) ≡ false → Asks true → Well 0 (turnIn (resumed g l (fedAs r)))
+    pub reply-taken : isOver (l .phase) ≡ false → Asks true → Well 0 (resumed g l (fedAs r))
         → answer ≡ taken (resumed g l (fedAs r))
     reply-taken e on w =
         gone (r .kind) (r .numbers) (r .time) lent (none e on) ∙ go-is ∙ write (resumed g l (fedAs r)) w

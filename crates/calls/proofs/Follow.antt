@@ -137,11 +137,13 @@ calls-follow p b begins =
       work = λ rs f.
           let z = stays-all g a run rs f (treeOf p b) (startedAt g a) (startOf p b) at in
           z .1 .work
-          ∙ ap (λ (x : State). x .w) (arrived g (standsAt (g .s .n) (treeOf p b) rs) (z .0) (z .1 .stands) .holds .same);
+          ∙ ap (λ (x : State). x .w)
+          (arrived g (standsAt (g .s .n) (treeOf p b) rs) (z .0) (z .1 .stands) .holds .same);
       pivots = λ rs f.
           let z = stays-all g a run rs f (treeOf p b) (startedAt g a) (startOf p b) at in
           z .1 .pivots
-          ∙ ap (λ (x : State). x .p) (arrived g (standsAt (g .s .n) (treeOf p b) rs) (z .0) (z .1 .stands) .holds .same);
+          ∙ ap (λ (x : State). x .p)
+          (arrived g (standsAt (g .s .n) (treeOf p b) rs) (z .0) (z .1 .stands) .holds .same);
       refused = λ rs r f t i.
           let z = stays-all g a run rs f (treeOf p b) (startedAt g a) (startOf p b) at in
           refused-so g a run _ (z .0) _ r (call g a run _ (z .0) _ r t (z .1)) i;

@@ -18,12 +18,13 @@ use Rattle.vectors.specs.declared.Weights.{Weights}
 use Rattle.vectors.specs.declared.Weights.the-variants.{Inverted, Refused}
 use Rattle.vectors.specs.Weights.{invertOf, weightsOutcome}
 use Rattle.vectors.proofs.Laws.{inverted as inverts, stopped}
+use Rattle.common.specs.State.{put-w}
 use Rattle.questions.specs.declared.Phase.the-variants as Phase
 use Rattle.questions.specs.declared.Session.{Session}
 use Rattle.reports.specs.Reports.{sizedAt, sizedOf, weightedAt, firstDerivativeOf}
 use Rattle.between_steps.specs.Start.{inverted}
 use Rattle.machine.specs.Resume.{dealtOf}
-use Rattle.session.specs.Session.{decodeOf, rtolOf, atolOf}
+use Rattle.session.specs.Session.{decodeOf}
 use Rattle.answers.specs.declared.Reply.{Reply}
 use Rattle.answers.specs.Answers.{plainReply, questionReply}
 use Rattle.answers.specs.Called.{Buffers}
@@ -33,6 +34,7 @@ use Rattle.refusals.specs.Rows.{NoneHolds}
 use Rattle.calls.specs.ReplyRefused.{phaseIn, replyRows}
 use Rattle.calls.specs.ReplyFirst.{FirstBad, AllGood, weighed, storedWeights, storedStep, isRefused}
 use Rattle.calls.specs.ReplyFirst.{FirstDerivative}
+use Rattle.calls.proofs.ReplyRefused.{givenIn, stateIn}
 use Rattle.calls.proofs.ReplyMeans.{answer-at}
 
 -- ---- the inversion stops at the first weight that is at most 0
@@ -90,8 +92,8 @@ module _ (kind : ℕ) (numbers : List Float) (time : Float) (b : Buffers) where
 
   abbrev said : Weights → Reply
   said o =
-      questionReply (weightedAt (x .settings) (x .common) (rtolOf (b .session)) (atolOf (b .session)) o
-      (inverted (x .settings .n) (weighed numbers b)) .turn .question)
+      questionReply (weightedAt (givenIn b) (put-w (inverted (x .settings .n) (weighed numbers b)) (stateIn b)) o
+      .question)
 
   -- what is answered, and why
   pub data Says : Type 0 where

@@ -4,12 +4,13 @@
 -- Assumes nothing.
 use mathlib.Core.List.{List}
 use mathlib.Core.Path.{_≡_}
-use Prim.Native.Nat.{_-_, _≤_, _<_}
+use Prim.Native.Nat.{ℕ, _-_, _≤_, _<_}
 use lib.Ieee.{Float}
 use borrow.Author.Tests.{lt-ltb}
 use Rattle.common.specs.declared.MethodFamily.the-variants.{Bdf}
 use Rattle.common.specs.declared.Settings.{Settings}
 use Rattle.common.specs.declared.Common.{Common}
+use Rattle.common.specs.State.{given, state}
 use Rattle.history.specs.Columns.{correctColumnsOf}
 use Rattle.acceptance.specs.Family.{toAdamsOf, changeOf}
 use Rattle.acceptance.specs.declared.Branch.{Branch}
@@ -42,11 +43,11 @@ module _ (s : Settings) (c : Common) (dsm : Float) (work : List Float) where
   unfolding correctedOf
   gap-held e = let m = meets e in rw (gap-leaves m) m
 
-  ends : (rtol atol : List Float) → branch ≡ Branch.CoefficientGap
-      → acceptedOf s c dsm rtol atol work .turn .question
+  ends : (rtol atol : List Float) (pivots : List ℕ) → branch ≡ Branch.CoefficientGap
+      → acceptedOf (given s rtol atol) (state c work pivots) dsm .question
       ≡ finishedOf (correctedOf c) Status.CoefficientGap .question
   unfolding acceptedOf acceptedAt
-  ends rtol atol e = rw (gap-leaves (meets e))
+  ends rtol atol pivots e = rw (gap-leaves (meets e))
 
   pub gap : GapExactly s c dsm work
   unfolding finishedOf correctedOf

@@ -15,6 +15,7 @@ use Rattle.numbers.specs.Float.{_⊕_, zeroF}
 use Rattle.common.specs.declared.Settings.{Settings}
 use Rattle.common.specs.declared.Common.{Common}
 use Rattle.common.specs.Record.{with-tn}
+use Rattle.common.specs.State.{state}
 use Rattle.between_steps.specs.declared.Answer.the-variants.{Continue, Interrupt, Modified}
 use Rattle.between_steps.specs.declared.Kind.{Kind}
 use Rattle.between_steps.specs.declared.Kind.the-variants as Kind
@@ -43,7 +44,8 @@ use Rattle.calls.specs.ReplyRefused.{phaseIn, replyRows}
 use Rattle.calls.specs.ReplyMeans.{Kinds, Numbers, Listed, endedBy, AtReport, HeldAtEnd, Meant, ReplyMeans}
 use Rattle.calls.proofs.Agrees.{status-number, asking}
 use Rattle.calls.proofs.Turns.{resume-means}
-use Rattle.calls.proofs.ReplyRefused.{isRefusing, givenIn, stateIn, stored-phase, gone, is-now, agreed, went, refusing}
+use Rattle.calls.proofs.ReplyRefused.{isRefusing, givenIn, stateIn, stored-phase, gone, is-now, agreed}
+use Rattle.calls.proofs.ReplyRefused.{went, refusing}
 use Rattle.calls.proofs.ReplyRefused.{reply-refused}
 
 pub kinds : Kinds
@@ -125,9 +127,9 @@ kind-four k e = eqb-true k 4 (by (eqb k 1) (eqb k 2) (eqb k 3) (eqb k 4) (ap isI
 
 -- ---- on continue
 
-module _ (s : Settings) (c : Common) (work : List Float) where
+module _ (s : Settings) (c : Common) (work : List Float) (pivots : List ℕ) where
   abbrev next : Reply
-  next = questionReply (goOnOf s c work .turn .question)
+  next = questionReply (goOnOf s (state c work pivots) .question)
 
   on-done : isGoing s c ≡ false → next ≡ endedBy 110 c
   unfolding goOnOf goOnAt finishedOf
@@ -224,7 +226,7 @@ module _ (kind : ℕ) (numbers : List Float) (time : Float) (b : Buffers) where
 
   -- continue goes on, from one work or another
   continued : NoneHolds rows → AtReport (phaseIn b) → kind ≡ 3
-      → (work : List Float) × (reply .reply ≡ next (x .settings) given work)
+      → (work : List Float) × (reply .reply ≡ next (x .settings) given work (b .pivots))
   unfolding dealtOf afterFirstReportOf afterReportOf
   continued h (inl e) f =
       (_, answer-at Phase.FirstReport (Kind.Report Continue) h e (kind-is 3 f ∙ kinds .continues))
@@ -240,9 +242,9 @@ module _ (kind : ℕ) (numbers : List Float) (time : Float) (b : Buffers) where
     interruption = interruption;
     first-modified = first-modified;
     modified = modified;
-    done = λ h p f e. let c = continued h p f in c .1 ∙ on-done (x .settings) given (c .0) e;
-    more = λ h p f e l. let c = continued h p f in c .1 ∙ on-more (x .settings) given (c .0) e l;
+    done = λ h p f e. let c = continued h p f in c .1 ∙ on-done (x .settings) given (c .0) (b .pivots) e;
+    more = λ h p f e l. let c = continued h p f in c .1 ∙ on-more (x .settings) given (c .0) (b .pivots) e l;
     goes-on = λ h p f e l.
         let c = continued h p f in
-        ap (λ (a : Reply). a .number) (c .1) ∙ on-step (x .settings) given (c .0) e l;
+        ap (λ (a : Reply). a .number) (c .1) ∙ on-step (x .settings) given (c .0) (b .pivots) e l;
   }

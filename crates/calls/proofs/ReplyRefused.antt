@@ -253,7 +253,8 @@ module _ (kind : ℕ) (numbers : List Float) (time : Float) (b : Buffers) where
 
   unasked-leaves : isNow ≡ false → go ≡ leaves 14
   unfolding acceptedReplyOf turnWrittenOf
-  unasked-leaves e = rw (resume-same (givenIn b) (decodeOf (b .session) .phase) (stateIn b) (kindOf kind) numbers time e)
+  unasked-leaves e =
+      rw (resume-same (givenIn b) (decodeOf (b .session) .phase) (stateIn b) (kindOf kind) numbers time e)
 
   last : (s t : Bool) → isNow ≡ t → cond (not s) (leaves 14) go ≡ cond (not (s && t)) (leaves 14) go
   last false t e = refl
@@ -338,8 +339,8 @@ module _ (kind : ℕ) (numbers : List Float) (time : Float) (b : Buffers) where
       → let t = turnIn (turned (kindOf kind) numbers time b) in Agrees (t .question) (t .phase) (t .common)
   agreed h =
       let x = decodeOf (b .session) in
-      resume-well (x .common .ialth) (givenIn b) (stateIn b) numbers time (omega arith) (x .phase) (kindOf kind) (is-now h)
-      .agrees
+      resume-well (x .common .ialth) (givenIn b) (stateIn b) numbers time (omega arith) (x .phase) (kindOf kind)
+      (is-now h) .agrees
 
   taken-not : NoneHolds (replyRows kind numbers b) → isRefusal (replyOf kind numbers time b .reply) ≡ false
   taken-not h =

@@ -22,7 +22,7 @@ use Rattle.questions.specs.declared.Phase.{Phase}
 use Rattle.questions.specs.declared.Phase.the-variants as Phase
 use Rattle.questions.specs.declared.Question.{Question}
 use Rattle.questions.specs.declared.Question.the-variants as Question
-use Rattle.questions.specs.Turns.{RunState, turnIn}
+use Rattle.questions.specs.Turns.{RunState}
 use Rattle.rules.specs.Play.{Play}
 use Rattle.common.specs.State.{Given}
 use Rattle.refinement.specs.Shown.{shownAs}
@@ -105,7 +105,7 @@ module _ (s : Settings) (c : Common) (work q : List Float) (history : 19 * s .n 
 -- ---- what the tree says
 
 module _ (g : Given) where
-  pub says-node : (t : Play) (l : RunState) (q : List Float) → AtNode g t l → Well 0 (turnIn l)
+  pub says-node : (t : Play) (l : RunState) (q : List Float) → AtNode g t l → Well 0 l
       → (isOver (l .phase) ≡ false → l .st .c .nq ≤ 12) → 19 * g .s .n ≤ length (l .st .w)
       → length q ≡ 14 * g .s .n + 6
       → says (questionReply (l .question)) (questionOf (g .s) (l .phase) (l .st .c) (l .st .w) q)

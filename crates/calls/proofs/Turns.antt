@@ -23,9 +23,8 @@ use Rattle.vectors.specs.declared.Weights.the-variants.{Inverted, Refused}
 use Rattle.common.specs.declared.Settings.{Settings}
 use Rattle.common.specs.declared.Common.{Common}
 use Rattle.common.specs.Limits.{mxncfOf}
-use Rattle.common.specs.Record.{with-tn, with-column}
 use Rattle.common.specs.Rules.{tinyOf}
-use Rattle.common.specs.State.{Given, State}
+use Rattle.common.specs.State.{Given, State, put-c}
 use Rattle.jacobian.specs.Jacobian.{beginOf, finishJacobianOf as factorsOf}
 use Rattle.corrector.specs.declared.Pass.{Pass}
 use Rattle.corrector.specs.declared.Pass.the-variants as Pass
@@ -43,8 +42,7 @@ use Rattle.between_steps.specs.declared.Kind.the-variants as Kind
 use Rattle.questions.specs.declared.Phase.{Phase}
 use Rattle.questions.specs.declared.Phase.the-variants as Phase
 use Rattle.between_steps.specs.declared.Status.the-variants as Status
-use Rattle.questions.specs.declared.Turn.{Turn}
-use Rattle.questions.specs.Turns.{turnIn, askedOf, askedInStepOf, finishedOf}
+use Rattle.questions.specs.Turns.{RunState, askedOf, askedInStepOf, finishedOf}
 use Rattle.between_steps.specs.Start.{withDerivative, firstStepOf, restartOf}
 use Rattle.questions.specs.Begin.{openPassOf, beganOf, goOnAt, goOnOf}
 use Rattle.between_steps.specs.Begin.{isCut, cutOf, preparedAt, preparedOf, predictedAt, firstPredictionOf, isGoing}
@@ -65,21 +63,21 @@ use Rattle.calls.proofs.ReplyGap.{gap-held}
 
 -- ---- a turn: the bound B is that of ialth, `before` and `kind` are the phase that waited and what the reply was
 
-pub record Well (B : ℕ) (t : Turn) : Type 0 where
-  pub low : Low B (t .common)
-  pub agrees : Agrees (t .question) (t .phase) (t .common)
+pub record Well (B : ℕ) (l : RunState) : Type 0 where
+  pub low : Low B (l .st .c)
+  pub agrees : Agrees (l .question) (l .phase) (l .st .c)
 
 module _ (B : ℕ) (s : Settings) (before : Phase) (kind : Kind) where
-  record Good (t : Turn) : Type 0 where
-    low : Low B (t .common)
-    agrees : Agrees (t .question) (t .phase) (t .common)
-    means : Meant s before kind (t .question) (t .phase) (t .common)
+  record Good (l : RunState) : Type 0 where
+    low : Low B (l .st .c)
+    agrees : Agrees (l .question) (l .phase) (l .st .c)
+    means : Meant s before kind (l .question) (l .phase) (l .st .c)
 
   -- ---- between steps
 
-  open-pass : (n : ℕ) (c : Common) (work : List Float) → Low B c → Good (openPassOf n c work .turn)
+  open-pass : (n : ℕ) (x : State) → Low B (x .c) → Good (openPassOf n x)
   unfolding openPassOf askedInStepOf
-  open-pass n c work f = record { low = f; agrees = refl; means = (refl, refl) }
+  open-pass n x f = record { low = f; agrees = refl; means = (refl, refl) }
 
   prepared-at : (cut due : Bool) (c : Common) (work : List Float) → Low B c
       → Low B (preparedAt s cut due c work .common)
@@ -88,150 +86,138 @@ module _ (B : ℕ) (s : Settings) (before : Phase) (kind : Kind) where
   prepared-at false true c work f = setup-low B s c
   prepared-at false false c work f = f
 
-  began : (c : Common) (work : List Float) → Low B c → Good (beganOf s c work .turn)
+  began : (x : State) → Low B (x .c) → Good (beganOf s x)
   unfolding beganOf firstPredictionOf preparedOf predictedAt
-  began c work f = open-pass (s .n) _ _ (predicted-low B s _ (prepared-at (isCut s c) (c .setup) c work f))
+  began x f =
+      open-pass (s .n) _ (predicted-low B s _ (prepared-at (isCut s (x .c)) (x .c .setup) (x .c) (x .w) f))
 
-  go-on-at : (going enough : Bool) (c : Common) (work : List Float) → isGoing s c ≡ going
-      → leb (s .maxsteps) (c .nst) ≡ enough → Low B c → Good (goOnAt s going enough c work .turn)
+  go-on-at : (going enough : Bool) (x : State) → isGoing s (x .c) ≡ going → leb (s .maxsteps) (x .c .nst) ≡ enough
+      → Low B (x .c) → Good (goOnAt s x going enough)
   unfolding goOnAt finishedOf
-  go-on-at false enough c work e g f = record { low = f; agrees = refl; means = (refl, refl, e) }
-  go-on-at true true c work e g f = record { low = f; agrees = refl; means = (refl, refl, (e, leb-true _ _ g)) }
-  go-on-at true false c work e g f = began c work f
+  go-on-at false enough x e g f = record { low = f; agrees = refl; means = (refl, refl, e) }
+  go-on-at true true x e g f = record { low = f; agrees = refl; means = (refl, refl, (e, leb-true _ _ g)) }
+  go-on-at true false x e g f = began x f
 
-  go-on : (c : Common) (work : List Float) → Low B c → Good (goOnOf s c work .turn)
+  go-on : (x : State) → Low B (x .c) → Good (goOnOf s x)
   unfolding goOnOf
-  go-on c work f = go-on-at (isGoing s c) (leb (s .maxsteps) (c .nst)) c work refl refl f
+  go-on x f = go-on-at (isGoing s (x .c)) (leb (s .maxsteps) (x .c .nst)) x refl refl f
 
   -- ---- a pass that was not accepted
 
-  poor-at : (poor : Bool) (c : Common) (work : List Float) → poorOf s c ≡ poor
-      → Low B (noConvergenceAt s poor c work .common) → Good (attemptedOf (s .n) (noConvergenceAt s poor c work) .turn)
+  poor-at : (poor : Bool) (c : Common) (work : List Float) (x : State) → poorOf s c ≡ poor
+      → Low B (noConvergenceAt s poor c work .common) → Good (attemptedOf (s .n) x (noConvergenceAt s poor c work))
   unfolding noConvergenceAt attemptedAt finishedOf
-  poor-at true c work e f = record { low = f; agrees = refl; means = (refl, refl, why (one-of _ _ e)) }
+  poor-at true c work x e f = record { low = f; agrees = refl; means = (refl, refl, why (one-of _ _ e)) }
     where
       why : (tinyOf c ≡ true) ⊎ (eqb (c .ncf) (mxncfOf s) ≡ true) → (tinyOf c ≡ true) ⊎ (c .ncf ≡ mxncfOf s)
       why (inl t) = inl t
       why (inr t) = inr (eqb-true _ _ t)
-  poor-at false c work e f = open-pass (s .n) _ _ f
+  poor-at false c work x e f = open-pass (s .n) _ f
 
-  unconverged : (c : Common) (work : List Float) → Low B c → Good (passFailedOf s c work .turn)
+  unconverged : (x : State) → Low B (x .c) → Good (passFailedOf s x)
   unfolding passFailedOf noConvergenceOf
-  unconverged c work f =
-      let d = Attempt.unconvergedOf c in
-      poor-at (poorOf s d) d (retractedWork s c work) refl (no-convergence-low B s c work f)
+  unconverged x f =
+      let d = Attempt.unconvergedOf (x .c) in
+      poor-at (poorOf s d) d (retractedWork s (x .c) (x .w)) x refl (no-convergence-low B s (x .c) (x .w) f)
 
-  missed-at : (tiny early last : Bool) (c : Common) (dsm : Float) (work : List Float) → tinyOf c ≡ tiny
+  missed-at : (tiny early last : Bool) (c : Common) (dsm : Float) (work : List Float) (x : State) → tinyOf c ≡ tiny
       → eqb (c .kflag) 10 ≡ last → Low B (missedAt s dsm tiny early last c work .common)
-      → Good (attemptedOf (s .n) (missedAt s dsm tiny early last c work) .turn)
+      → Good (attemptedOf (s .n) x (missedAt s dsm tiny early last c work))
   unfolding missedAt attemptedAt finishedOf askedInStepOf
-  missed-at true early last c dsm work e g f = record { low = f; agrees = refl; means = (refl, refl, inl e) }
-  missed-at false true last c dsm work e g f = open-pass (s .n) _ _ f
-  missed-at false false true c dsm work e g f =
+  missed-at true early last c dsm work x e g f = record { low = f; agrees = refl; means = (refl, refl, inl e) }
+  missed-at false true last c dsm work x e g f = open-pass (s .n) _ f
+  missed-at false false true c dsm work x e g f =
       record { low = f; agrees = refl; means = (refl, refl, inr (eqb-true _ _ g)) }
-  missed-at false false false c dsm work e g f = record { low = f; agrees = refl; means = (refl, refl) }
+  missed-at false false false c dsm work x e g f = record { low = f; agrees = refl; means = (refl, refl) }
 
-  failed : (c : Common) (dsm : Float) (work : List Float) → Low B c
-      → Good (attemptedOf (s .n) (failedOf s c dsm work) .turn)
+  failed : (x : State) (dsm : Float) → Low B (x .c) → Good (attemptedOf (s .n) x (failedOf s (x .c) dsm (x .w)))
   unfolding failedOf missedOf
-  failed c dsm work f =
-      let d = overshotOf c in
-      missed-at (tinyOf d) (ltb (d .kflag) 3) (eqb (d .kflag) 10) d dsm (retractedWork s c work) refl refl
-      (failed-low B s c dsm work f)
+  failed x dsm f =
+      let d = overshotOf (x .c) in
+      missed-at (tinyOf d) (ltb (d .kflag) 3) (eqb (d .kflag) 10) d dsm (retractedWork s (x .c) (x .w)) x refl refl
+      (failed-low B s (x .c) dsm (x .w) f)
 
-  module _ (rtol atol : List Float) where
-    -- ---- acceptance
+-- ---- acceptance
 
-    closed : (n : ℕ) (c : Common) (w : Weights) (work : List Float) → Low B c → Good (closedAt n c w work .turn)
-    unfolding closedAt reportedOf
-    closed n c (Refused i) work f = record { low = f; agrees = refl; means = refl }
-    closed n c Inverted work f = record { low = f; agrees = (refl, refl, refl); means = (refl, refl) }
+module _ (B : ℕ) (g : Given) (before : Phase) (kind : Kind) where
+  abbrev Fine : RunState → Type 0
+  Fine l = Good B (g .s) before kind l
 
-    close : (order : ℕ) (c : Common) (work : List Float) → Low B c → Good (endStepOf s c order rtol atol work .turn)
-    unfolding endStepOf
-    close order c work f = let x = closedOf s c order rtol atol work in closed (s .n) c (x .weights) (x .work) f
+  closed : (x : State) (v : Weights) → Low B (x .c) → Fine (closedAt (g .s .n) x v)
+  unfolding closedAt reportedOf
+  closed x (Refused i) f = record { low = f; agrees = refl; means = refl }
+  closed x Inverted f = record { low = f; agrees = (refl, refl, refl); means = (refl, refl) }
 
-    accepted-at : (order : ℕ) (branch : Branch) (c : Common) (work : List Float)
-        → (branch ≡ Branch.CoefficientGap → HeldAtEnd s before kind Status.CoefficientGap c) → Low B c
-        → Good (acceptedAt s order rtol atol branch c work .turn)
-    unfolding acceptedAt finishedOf
-    accepted-at order Branch.CoefficientGap c work g f =
-        record { low = f; agrees = refl; means = (refl, refl, g refl) }
-    accepted-at order Branch.Unchanged c work g f = close order c work f
-    accepted-at order Branch.SmallGain c work g f = close order c work f
-    accepted-at order Branch.Lowered c work g f = close order c work f
-    accepted-at order Branch.Kept c work g f = close order c work f
-    accepted-at order Branch.Raised c work g f = close order c work f
-    accepted-at order Branch.HeldBySm1 c work g f = close order c work f
-    accepted-at order Branch.FamilyChanged c work g f = close order c work f
+  close : (order : ℕ) (x : State) → Low B (x .c) → Fine (endStepOf g x order)
+  unfolding endStepOf
+  close order x f = closed _ _ f
 
-    converged-at : (dsm : Float) (above : Bool) (c : Common) (work : List Float) → Low B c
-        → Good (errorTestAt s c dsm rtol atol above work .turn)
-    unfolding errorTestAt acceptedOf
-    converged-at dsm true c work f = failed c dsm work f
-    converged-at dsm false c work f =
-        let x = acceptOf s c dsm work in
-        accepted-at (c .nq) (x .branch) (x .common) (x .work) (gap-held s c dsm work) (accept-low B s c dsm work f)
+  accepted-at : (order : ℕ) (branch : Branch) (x : State)
+      → (branch ≡ Branch.CoefficientGap → HeldAtEnd (g .s) before kind Status.CoefficientGap (x .c)) → Low B (x .c)
+      → Fine (acceptedAt g x order branch)
+  unfolding acceptedAt finishedOf
+  accepted-at order Branch.CoefficientGap x h f = record { low = f; agrees = refl; means = (refl, refl, h refl) }
+  accepted-at order Branch.Unchanged x h f = close order x f
+  accepted-at order Branch.SmallGain x h f = close order x f
+  accepted-at order Branch.Lowered x h f = close order x f
+  accepted-at order Branch.Kept x h f = close order x f
+  accepted-at order Branch.Raised x h f = close order x f
+  accepted-at order Branch.HeldBySm1 x h f = close order x f
+  accepted-at order Branch.FamilyChanged x h f = close order x f
 
-    -- ---- iterations and the Jacobian
+  converged-at : (dsm : Float) (above : Bool) (x : State) → Low B (x .c) → Fine (errorTestAt g x dsm above)
+  unfolding errorTestAt acceptedOf
+  converged-at dsm true x f = failed B (g .s) before kind x dsm f
+  converged-at dsm false x f =
+      accepted-at (x .c .nq) _ _ (gap-held (g .s) (x .c) dsm (x .w)) (accept-low B (g .s) (x .c) dsm (x .w) f)
 
-    concluded-at : (pass : Pass) (c : Common) (del : Float) (work : List Float) → Low B c
-        → Good (concludedAt s pass c del rtol atol work .turn)
-    unfolding concludedAt errorTestOf askedInStepOf
-    concluded-at Pass.Converged c del work f =
-        let dsm = errorOf s c del work in
-        converged-at dsm (Ieee.lt oneF dsm) c work f
-    concluded-at Pass.Retry c del work f = open-pass (s .n) c work f
-    concluded-at Pass.NoConvergence c del work f = unconverged c work f
-    concluded-at Pass.Further c del work f = record { low = f; agrees = refl; means = (refl, refl) }
+  -- ---- iterations and the Jacobian
 
-    iterate : (c : Common) (ipiv : List ℕ) (work : List Float) → Low B c
-        → Good (iterateOf s c rtol atol ipiv work .turn)
-    unfolding iterateOf
-    iterate c ipiv work f =
-        let x = correctOf s c ipiv work in
-        let v = verdictOf s c x in
-        concluded-at (v .pass) (v .common) (x .del) (x .work) (judge-low B s c _ _ f)
+  concluded-at : (pass : Pass) (del : Float) (x : State) → Low B (x .c) → Fine (concludedAt g x pass del)
+  unfolding concludedAt errorTestOf askedInStepOf
+  concluded-at Pass.Converged del x f =
+      let dsm = errorOf (g .s) (x .c) del (x .w) in
+      converged-at dsm (Ieee.lt oneF dsm) x f
+  concluded-at Pass.Retry del x f = open-pass B (g .s) before kind (g .s .n) x f
+  concluded-at Pass.NoConvergence del x f = unconverged B (g .s) before kind x f
+  concluded-at Pass.Further del x f = record { low = f; agrees = refl; means = (refl, refl) }
 
-    iterations : (c : Common) (ipiv : List ℕ) (work : List Float) → Low B c
-        → Good (iterationsOf s c rtol atol ipiv work .turn)
-    unfolding iterationsOf openOf
-    iterations c ipiv work f = iterate (openOf c) ipiv _ f
+  iterate : (x : State) → Low B (x .c) → Fine (iterateOf g x)
+  unfolding iterateOf
+  iterate x f = concluded-at _ _ _ (judge-low B (g .s) (x .c) _ _ f)
 
-    factored-at : (done : Bool) (c : Common) (ipiv : List ℕ) (work : List Float) → Low B c
-        → Good (matrixDoneAt s rtol atol done c ipiv work .turn)
-    unfolding matrixDoneAt
-    factored-at true c ipiv work f = iterations c ipiv work f
-    factored-at false c ipiv work f = unconverged c work f
+  iterations : (x : State) → Low B (x .c) → Fine (iterationsOf g x)
+  unfolding iterationsOf openOf
+  iterations x f = iterate _ f
 
-    factored : (c : Common) (ipiv : List ℕ) (work : List Float) → Low B c
-        → Good (turnIn (matrixDoneOf s c rtol atol ipiv work))
-    unfolding matrixDoneOf factorsOf
-    factored c ipiv work f =
-        let x = factorsOf s c work ipiv in
-        factored-at (x .done) (x .common) (x .ipiv) (x .work) f
+  factored-at : (done : Bool) (x : State) → Low B (x .c) → Fine (matrixDoneAt g x done)
+  unfolding matrixDoneAt
+  factored-at true x f = iterations x f
+  factored-at false x f = unconverged B (g .s) before kind x f
 
-    ask-column : (c : Common) (j : ℕ) (work : List Float) → Low B c → Good (askColumnOf s c j work .turn)
-    unfolding askColumnOf askedInStepOf
-    ask-column c j work f = record { low = f; agrees = refl; means = (refl, refl) }
+  factored : (x : State) → Low B (x .c) → Fine (matrixDoneOf g x)
+  unfolding matrixDoneOf factorsOf
+  factored x f = factored-at (factorsOf (g .s) (x .c) (x .w) (x .p) .done) _ f
 
-    begin-at : (supplied : Bool) (c : Common) (work : List Float) → isSupplied s c ≡ supplied → Low B c
-        → Good (askJacobianAt s supplied (beginOf c) work .turn)
-    unfolding askJacobianAt beginOf
-    begin-at true c work e f = record { low = f; agrees = refl; means = (refl, refl, e) }
-    begin-at false c work e f = ask-column _ 0 _ f
+  ask-column : (x : State) (j : ℕ) → Low B (x .c) → Fine (askColumnOf (g .s) x j)
+  unfolding askColumnOf askedInStepOf
+  ask-column x j f = record { low = f; agrees = refl; means = (refl, refl) }
 
-    opened-at : (due : Bool) (c : Common) (ipiv : List ℕ) (work : List Float) → Low B c
-        → Good (openedReplyAt s due c rtol atol ipiv work .turn)
-    unfolding openedReplyAt askJacobianOf
-    opened-at true c ipiv work f = begin-at (isSupplied s c) c work refl f
-    opened-at false c ipiv work f = iterations c ipiv work f
+  begin-at : (supplied : Bool) (x : State) → isSupplied (g .s) (x .c) ≡ supplied → Low B (x .c)
+      → Fine (askJacobianAt (g .s) (put-c (beginOf (x .c)) x) supplied)
+  unfolding askJacobianAt beginOf
+  begin-at true x e f = record { low = f; agrees = refl; means = (refl, refl, e) }
+  begin-at false x e f = ask-column _ 0 f
 
-    column-at : (another : Bool) (c : Common) (ipiv : List ℕ) (work : List Float) → Low B c
-        → Good (turnIn (columnReplyAt s another c rtol atol ipiv work))
-    unfolding columnReplyAt
-    column-at true c ipiv work f = ask-column c (c .column + 1) work f
-    column-at false c ipiv work f = factored (with-column 0 c) ipiv work f
+  opened-at : (due : Bool) (x : State) → Low B (x .c) → Fine (openedReplyAt g x due)
+  unfolding openedReplyAt askJacobianOf
+  opened-at true x f = begin-at (isSupplied (g .s) (x .c)) x refl f
+  opened-at false x f = iterations x f
+
+  column-at : (another : Bool) (x : State) → Low B (x .c) → Fine (columnReplyAt g x another)
+  unfolding columnReplyAt
+  column-at true x f = ask-column x (x .c .column + 1) f
+  column-at false x f = factored _ f
 
 -- ---- any reply
 
@@ -239,73 +225,67 @@ module _ (B : ℕ) (g : Given) (x : State) (reply : List Float) (time : Float) (
   abbrev s : Settings
   s = g .s
 
-  abbrev c : Common
-  c = x .c
-
   abbrev Taken : Phase → Kind → Type 0
-  Taken phase kind = Good B s phase kind (turnIn (dealtOf g phase x kind reply time))
+  Taken phase kind = Good B s phase kind (dealtOf g phase x kind reply time)
 
   abbrev Asked : Phase → Kind → Type 0
   Asked phase kind = isAsked phase kind (length reply) (s .n) ≡ true
 
-  low : Low B c
-  low = small B (c .nq) (c .ialth) h
+  low : Low B (x .c)
+  low = small B (x .c .nq) (x .c .ialth) h
 
-  sized-at : (kind : Kind) (no : Bool) (h : Float) (work : List Float) → refused h (s .direction) ≡ no
-      → Good B s Phase.FirstDerivative kind (sizedAt s no c h work .turn)
+  sized-at : (kind : Kind) (no : Bool) (z : State) → z .c ≡ x .c → (h : Float) → refused h (s .direction) ≡ no
+      → Good B s Phase.FirstDerivative kind (sizedAt s z h no)
   unfolding sizedAt
-  sized-at kind true h work e = record { low = low; agrees = refl; means = (refl, refl, e) }
-  sized-at kind false h work e = record { low = low; agrees = (refl, refl); means = (refl, refl, refl) }
+  sized-at kind true z q h e = record { low = rw q low; agrees = refl; means = (refl, refl, e) }
+  sized-at kind false z q h e = record { low = rw q low; agrees = (refl, refl); means = (refl, refl, refl) }
 
-  weighted-at : (kind : Kind) (v : Weights) (work : List Float)
-      → Good B s Phase.FirstDerivative kind (weightedAt s c (g .rtol) (g .atol) v work .turn)
+  weighted-at : (kind : Kind) (v : Weights) (z : State) → z .c ≡ x .c
+      → Good B s Phase.FirstDerivative kind (weightedAt g z v)
   unfolding weightedAt sizedOf
-  weighted-at kind (Refused i) work = record { low = low; agrees = refl; means = refl }
-  weighted-at kind Inverted work =
-      let h = firstStepOf s c (g .rtol) (g .atol) work in
-      sized-at kind (refused h (s .direction)) h work refl
+  weighted-at kind (Refused i) z q = record { low = rw q low; agrees = refl; means = refl }
+  weighted-at kind Inverted z q =
+      let h = firstStepOf s (z .c) (g .rtol) (g .atol) (z .w) in
+      sized-at kind (refused h (s .direction)) z q h refl
 
   first-report : (a : Answer) → Taken Phase.FirstReport (Kind.Report a)
   unfolding dealtOf afterFirstReportOf askedOf finishedOf
-  first-report Continue = go-on B s Phase.FirstReport (Kind.Report Continue) (with-tn time c) _ low
+  first-report Continue = go-on B s Phase.FirstReport (Kind.Report Continue) _ low
   first-report Interrupt = record { low = low; agrees = refl; means = (refl, refl, (inl refl, refl)) }
   first-report Modified = record { low = low; agrees = refl; means = (refl, refl) }
 
   after-report : (a : Answer) → Taken Phase.Report (Kind.Report a)
   unfolding dealtOf afterReportOf askedOf finishedOf
-  after-report Continue = go-on B s Phase.Report (Kind.Report Continue) (with-tn time c) _ low
+  after-report Continue = go-on B s Phase.Report (Kind.Report Continue) _ low
   after-report Interrupt = record { low = low; agrees = refl; means = (refl, refl, (inr refl, refl)) }
   after-report Modified = record { low = low; agrees = refl; means = (refl, refl) }
 
   taken : (phase : Phase) (kind : Kind) → Asked phase kind → Taken phase kind
   unfolding dealtOf firstDerivativeOf firstModifiedOf openedReplyOf jacobianReplyOf columnReplyOf furtherReplyOf
       restepReplyOf modifiedOf
-  taken Phase.FirstDerivative kind e = weighted-at kind _ _
+  taken Phase.FirstDerivative kind e = weighted-at kind _ _ refl
   taken Phase.FirstReport (Kind.Report a) e = first-report a
   taken Phase.FirstReport Kind.Derivative e = differs e
   taken Phase.FirstReport Kind.Jacobian e = differs e
-  taken Phase.FirstModified kind e = go-on B s Phase.FirstModified kind c _ low
-  taken Phase.Opened kind e = opened-at B s Phase.Opened kind (g .rtol) (g .atol) (c .due) c (x .p) _ low
-  taken Phase.JacobianAsked kind e = factored B s Phase.JacobianAsked kind (g .rtol) (g .atol) c (x .p) _ low
+  taken Phase.FirstModified kind e = go-on B s Phase.FirstModified kind _ low
+  taken Phase.Opened kind e = opened-at B g Phase.Opened kind (x .c .due) _ low
+  taken Phase.JacobianAsked kind e = factored B g Phase.JacobianAsked kind _ low
   taken Phase.DifferenceColumn kind e =
-      column-at B s Phase.DifferenceColumn kind (g .rtol) (g .atol) (ltb (c .column + 1) (s .n)) c (x .p) _ low
-  taken Phase.FurtherDerivative kind e =
-      iterate B s Phase.FurtherDerivative kind (g .rtol) (g .atol) c (x .p) _ low
+      column-at B g Phase.DifferenceColumn kind (ltb (x .c .column + 1) (s .n)) _ low
+  taken Phase.FurtherDerivative kind e = iterate B g Phase.FurtherDerivative kind _ low
   taken Phase.Restep kind e =
-      open-pass B s Phase.Restep kind (s .n) _ _ (restep-low B s c (withDerivative (s .n) reply (x .w)))
+      open-pass B s Phase.Restep kind (s .n) _ (restep-low B s (x .c) (withDerivative (s .n) reply (x .w)))
   taken Phase.Report (Kind.Report a) e = after-report a
   taken Phase.Report Kind.Derivative e = differs e
   taken Phase.Report Kind.Jacobian e = differs e
-  taken Phase.Modified kind e = go-on B s Phase.Modified kind (restartOf c) _ (inl h)
+  taken Phase.Modified kind e = go-on B s Phase.Modified kind _ (inl h)
   taken Phase.Finished kind e = differs e
 
-  resumed : (phase : Phase) (kind : Kind) → Asked phase kind
-      → Good B s phase kind (turnIn (resumeOf g phase x kind reply time))
+  resumed : (phase : Phase) (kind : Kind) → Asked phase kind → Good B s phase kind (resumeOf g phase x kind reply time)
   unfolding resumeOf
   resumed phase kind e = rw e (taken phase kind e)
 
-  pub resume-well : (phase : Phase) (kind : Kind) → Asked phase kind
-      → Well B (turnIn (resumeOf g phase x kind reply time))
+  pub resume-well : (phase : Phase) (kind : Kind) → Asked phase kind → Well B (resumeOf g phase x kind reply time)
   resume-well phase kind e = let t = resumed phase kind e in record { low = t .low; agrees = t .agrees }
 
 module _ (g : Given) (phase : Phase) (x : State) (kind : Kind) (reply : List Float) (time : Float) where

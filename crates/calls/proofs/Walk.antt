@@ -19,7 +19,7 @@ use Rattle.numbers.specs.Float.{zeroF}
 use Rattle.between_steps.specs.declared.Kind.{Kind}
 use Rattle.questions.specs.declared.Phase.{Phase}
 use Rattle.questions.specs.declared.Phase.the-variants as Phase
-use Rattle.questions.specs.Turns.{RunState, turnIn}
+use Rattle.questions.specs.Turns.{RunState}
 use Rattle.common.specs.Initial.{initialOf}
 use Rattle.machine.specs.Resume.{isAsked}
 use Rattle.refusals.specs.Start.{acceptedSettings}
@@ -114,7 +114,7 @@ module _ (g : Given) (a : Start) (run : Runs g a) where
   pub record Went (t : Play) (l : RunState) (x : Called) (r : ReplyCall) : Type 0 where
     pub at : At (treeNext t (fedAs r)) (resumed g l (fedAs r)) (replied x r)
     pub answer : replied x r .reply ≡ questionReply (resumed g l (fedAs r) .question)
-    pub agrees : let u = turnIn (resumed g l (fedAs r)) in Agrees (u .question) (u .phase) (u .common)
+    pub agrees : let u = resumed g l (fedAs r) in Agrees (u .question) (u .phase) (u .st .c)
     pub said : saidBy (replied x r) ≡ saidAt n (treeNext t (fedAs r)) (r .question)
 
   pub data Outcome (t : Play) (l : RunState) (x : Called) (r : ReplyCall) : Type 0 where
@@ -146,7 +146,7 @@ module _ (g : Given) (a : Start) (run : Runs g a) where
       running : isOver (l .phase) ≡ false
       running = not-over (l .phase) (kindOf (r .kind)) (length (r .numbers)) (g .s .n) is-taken
 
-      well : Well 0 (turnIn m)
+      well : Well 0 m
       well =
           resume-well 0 g (l .st) (r .numbers) (r .time) (at .keeps .found running .ialth) (l .phase) (kindOf (r .kind))
           is-taken
@@ -220,8 +220,8 @@ module _ (g : Given) (a : Start) (run : Runs g a) where
       → isRefusal (replied x r .reply) ≡ not (isFitting t r)
   is-refusal t l x r (refused e q) = rw (q, e) (refused-refusal (isSized n r))
   is-refusal t l x r (taken e w) =
-      let u = turnIn (resumed g l (fedAs r)) in
-      rw e (ap isRefusal (w .answer) ∙ not-refusal (u .question) (u .phase) (u .common) (w .agrees))
+      let u = resumed g l (fedAs r) in
+      rw e (ap isRefusal (w .answer) ∙ not-refusal (u .question) (u .phase) (u .st .c) (w .agrees))
 
   -- the run stands at the node that follows, which is the same where the reply is refused, and says what the tree says
   pub record Moves (t : Play) (x : Called) (r : ReplyCall) : Type 0 where

@@ -14,8 +14,7 @@ use Rattle.vectors.specs.Tolerance.{toleranceOf}
 use Rattle.between_steps.specs.Start.{inverted}
 use Rattle.refusals.specs.FirstStep.{StepRefused}
 use Rattle.refusals.specs.Rows.{Row, ExactlyFirst}
-use Rattle.common.specs.State.{State}
-use Rattle.rules.specs.Pass.{put-w}
+use Rattle.common.specs.State.{State, put-w}
 use Rattle.rules.specs.Rules.{beginning, firstStep, firstWeights}
 use Rattle.answers.specs.Answers.{refusalReply}
 use Rattle.answers.specs.Called.{Buffers}

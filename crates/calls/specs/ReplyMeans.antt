@@ -17,6 +17,7 @@ use Rattle.common.specs.declared.Common.{Common}
 use Rattle.common.specs.Limits.{mxncfOf}
 use Rattle.common.specs.Record.{with-tn}
 use Rattle.common.specs.Rules.{tinyOf}
+use Rattle.common.specs.State.{given, state}
 use Rattle.acceptance.specs.declared.Branch.the-variants.{CoefficientGap}
 use Rattle.acceptance.specs.Accept.{acceptOf}
 use Rattle.questions.specs.declared.At.{At}
@@ -185,8 +186,8 @@ pub record ReplyMeans (kind : ℕ) (numbers : List Float) (time : Float) (b : Bu
 pub record GapExactly (s : Settings) (c : Common) (dsm : Float) (work : List Float) : Type 0 where
   pub exactly : (acceptOf s c dsm work .branch ≡ CoefficientGap)
       ↔ ((c .meth ≡ Bdf) × (6 ≤ c .nq) × (c .icount - 1 < 1000000))
-  pub ends : (rtol atol : List Float) → acceptOf s c dsm work .branch ≡ CoefficientGap
-      → acceptedOf s c dsm rtol atol work .turn .question
+  pub ends : (rtol atol : List Float) (pivots : List ℕ) → acceptOf s c dsm work .branch ≡ CoefficientGap
+      → acceptedOf (given s rtol atol) (state c work pivots) dsm .question
       ≡ Question.Finished (record {
         h = c .h;
         status = Status.CoefficientGap;

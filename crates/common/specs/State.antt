@@ -1,5 +1,5 @@
--- What a run is: what its start fixes, and what its steps change.
--- Any lists and numbers make a state: what holds of those of a run is in crates between_steps and invariants.
+-- What a run is: what its start fixes, and what its steps change. Which of these belong together in a run is not said
+-- here: see between_steps and invariants.
 use mathlib.Core.List.{List}
 use Prim.Native.Nat.{ℕ}
 use lib.Ieee.{Float}
@@ -29,3 +29,16 @@ given s rtol atol = record { s = s; rtol = rtol; atol = atol }
 
 abbrev pub state : Common → List Float → List ℕ → State
 state c w p = record { c = c; w = w; p = p }
+
+-- another record and work, beside the same pivots
+abbrev pub made : State → Common → List Float → State
+made x c w = state c w (x .p)
+
+abbrev pub put-c : Common → State → State
+put-c c x = made x c (x .w)
+
+abbrev pub put-w : List Float → State → State
+put-w w x = made x (x .c) w
+
+abbrev pub movedTo : State → Moved → State
+movedTo x m = made x (m .common) (m .work)

@@ -81,34 +81,34 @@ module _ (s : Settings) where
       → Fit (stepOf s c rtol atol work)
   first-step rtol atol c work f = either Fit (s .given) (c .h) _ (f .h) (initial-step _ _ _ _ _ _ _)
 
-  floats-keep : (rtol atol : List Float) (time : Float) → Fit time → Keeps s rtol atol time Fitting Fitting Fitting
-  floats-keep rtol atol time t = record {
-    between-work = λ x f w e. f;
-    step-work = λ x f w e. f;
-    over = λ x f. f;
-    asked = λ x f k. f;
-    timed = λ x f. put-tn t f;
-    retimed = λ x f. put-tn (sum _ _) f;
-    first-step = λ x f w. put-h (first-step rtol atol (x .c) w f) f;
-    first-size = λ x f w. put-h (first-size s (x .c) _ (first-step rtol atol (x .c) w f)) f;
-    restarted = λ x f. f;
-    totalled = λ x f k. f;
-    begun = λ x f e. first-fits (x .c) (x .w) f;
-    accepted = λ x f dsm w. accept-fits s (x .c) dsm w f;
-    asked-in-step = λ x f k j. f;
-    opened = λ x f. open-fits (x .c) f;
-    judged = λ x f. judge-fits s (x .c) _ _ (size-fits s (x .c) (x .p) (x .w)) f;
-    jacobian-begun = λ x f. begin-fits (x .c) f;
-    column = λ x f j e. f;
-    factored = λ x f. finished-fits s (x .c) (x .w) (x .p) f;
-    unconverged = λ x f w.
-      let g = no-convergence-fits s (x .c) w f in
-      after-pass (noConvergenceOf s (x .c) w .next) (λ e. g) (λ e. g) g;
-    failed = λ x f dsm w.
-      let g = failed-fits s (x .c) dsm w f in
-      after-pass (failedOf s (x .c) dsm w .next) (λ e. g) (λ e. g) g;
-    restepped = λ x f w. restep-fits s (x .c) w f;
-  }
+floats-keep : (g : Given) (time : Float) → Fit time → Keeps g time Fitting Fitting Fitting
+floats-keep g time t = record {
+  between-work = λ x f w e. f;
+  step-work = λ x f w e. f;
+  over = λ x f. f;
+  asked = λ x f k. f;
+  timed = λ x f. put-tn t f;
+  retimed = λ x f. put-tn (sum _ _) f;
+  first-step = λ x f w. put-h (first-step (g .s) (g .rtol) (g .atol) (x .c) w f) f;
+  first-size = λ x f w. put-h (first-size (g .s) (x .c) _ (first-step (g .s) (g .rtol) (g .atol) (x .c) w f)) f;
+  restarted = λ x f. f;
+  totalled = λ x f k. f;
+  begun = λ x f e. first-fits (g .s) (x .c) (x .w) f;
+  accepted = λ x f dsm w. accept-fits (g .s) (x .c) dsm w f;
+  asked-in-step = λ x f k j. f;
+  opened = λ x f. open-fits (x .c) f;
+  judged = λ x f. judge-fits (g .s) (x .c) _ _ (size-fits (g .s) (x .c) (x .p) (x .w)) f;
+  jacobian-begun = λ x f. begin-fits (x .c) f;
+  column = λ x f j e. f;
+  factored = λ x f. finished-fits (g .s) (x .c) (x .w) (x .p) f;
+  unconverged = λ x f w.
+    let q = no-convergence-fits (g .s) (x .c) w f in
+    after-pass (noConvergenceOf (g .s) (x .c) w .next) (λ e. q) (λ e. q) q;
+  failed = λ x f dsm w.
+    let q = failed-fits (g .s) (x .c) dsm w f in
+    after-pass (failedOf (g .s) (x .c) dsm w .next) (λ e. q) (λ e. q) q;
+  restepped = λ x f w. restep-fits (g .s) (x .c) w f;
+}
 
 pub floats-kept : (g : Given) (l : RunState) (kind : Kind) (reply : List Float) (time : Float)
     → FloatsFit (sessionFound g l) → Fit time
@@ -118,7 +118,7 @@ floats-kept g l kind reply time f t =
     let m = resumeOf g (l .phase) (l .st) kind reply time in
     floats (sessionFound g m) (f .xend) (f .direction)
     (each (m .phase) (λ h. h) (λ h. h) (λ h. h)
-    (resume-keeps g (l .phase) (l .st) kind reply time (floats-keep (g .s) (g .rtol) (g .atol) time t)
+    (resume-keeps g (l .phase) (l .st) kind reply time (floats-keep g time t)
     (any (l .phase) c c c)))
 
 -- ---- a start

@@ -13,9 +13,7 @@ use lib.Dec.{leb}
 use lib.ListN.{length}
 use lib.Ieee.{Float}
 use Rattle.numbers.specs.Float.{_⊕_}
-use Rattle.common.specs.declared.Settings.{Settings}
-use Rattle.common.specs.declared.Common.{Common}
-use Rattle.common.specs.State.{State, state}
+use Rattle.common.specs.State.{Given, State, state, put-c, put-w}
 use Rattle.common.specs.Layout.{matrixAt}
 use Rattle.common.specs.Record.{with-tn, with-h, with-nfe, with-count, with-total, with-column}
 use Rattle.jacobian.specs.Jacobian.{beginOf, finishJacobianOf}
@@ -100,46 +98,39 @@ after-pass Next.Poor p r o = o
 
 -- ---- the laws
 
--- another record, or another work
-abbrev with-c : Common → State → State
-with-c c x = state c (x .w) (x .p)
-
-abbrev with-w : List Float → State → State
-with-w w x = state (x .c) w (x .p)
-
 -- between-work, step-work: a part of the work is written; over: the run ends between steps
-pub record Keeps (s : Settings) (rtol atol : List Float) (time : Float) (B S O : Invariant) : Type 0 where
+pub record Keeps (g : Given) (time : Float) (B S O : Invariant) : Type 0 where
   pub between-work : (x : State) → B x → (w : List Float)
-      → (matrixAt (s .n) ≤ length (x .w) → length w ≡ length (x .w)) → B (with-w w x)
+      → (matrixAt (g .s .n) ≤ length (x .w) → length w ≡ length (x .w)) → B (put-w w x)
   pub step-work : (x : State) → S x → (w : List Float)
-      → (matrixAt (s .n) ≤ length (x .w) → length w ≡ length (x .w)) → S (with-w w x)
+      → (matrixAt (g .s .n) ≤ length (x .w) → length w ≡ length (x .w)) → S (put-w w x)
   pub over : (x : State) → B x → O x
   -- between steps: a derivative asked for, a time, the first step, a restart, the total
-  pub asked : (x : State) → B x → (k : ℕ) → B (with-c (with-nfe k (x .c)) x)
-  pub timed : (x : State) → B x → B (with-c (with-tn time (x .c)) x)
-  pub retimed : (x : State) → B x → B (with-c (with-tn (x .c .told ⊕ x .c .hu) (x .c)) x)
+  pub asked : (x : State) → B x → (k : ℕ) → B (put-c (with-nfe k (x .c)) x)
+  pub timed : (x : State) → B x → B (put-c (with-tn time (x .c)) x)
+  pub retimed : (x : State) → B x → B (put-c (with-tn (x .c .told ⊕ x .c .hu) (x .c)) x)
   pub first-step : (x : State) → B x → (w : List Float)
-      → B (with-c (with-h (firstStepOf s (x .c) rtol atol w) (x .c)) x)
+      → B (put-c (with-h (firstStepOf (g .s) (x .c) (g .rtol) (g .atol) w) (x .c)) x)
   pub first-size : (x : State) → B x → (w : List Float)
-      → B (with-c (with-h (firstSizeOf s (x .c) (firstStepOf s (x .c) rtol atol w)) (x .c)) x)
-  pub restarted : (x : State) → B x → B (with-c (restartOf (x .c)) x)
-  pub totalled : (x : State) → B x → (k : ℕ) → B (with-c (with-total k (x .c)) x)
+      → B (put-c (with-h (firstSizeOf (g .s) (x .c) (firstStepOf (g .s) (x .c) (g .rtol) (g .atol) w)) (x .c)) x)
+  pub restarted : (x : State) → B x → B (put-c (restartOf (x .c)) x)
+  pub totalled : (x : State) → B x → (k : ℕ) → B (put-c (with-total k (x .c)) x)
   -- a step begins, and is accepted
-  pub begun : (x : State) → B x → leb (s .maxsteps) (x .c .nst) ≡ false
-      → S (with-c (firstPredictionOf s (x .c) (x .w) .common) x)
+  pub begun : (x : State) → B x → leb (g .s .maxsteps) (x .c .nst) ≡ false
+      → S (put-c (firstPredictionOf (g .s) (x .c) (x .w) .common) x)
   pub accepted : (x : State) → S x → (dsm : Float) (w : List Float)
-      → B (with-c (acceptOf s (x .c) dsm w .common) x)
+      → B (put-c (acceptOf (g .s) (x .c) dsm w .common) x)
   -- in a step: a derivative asked for, the iterations and their verdict, the Jacobian
-  pub asked-in-step : (x : State) → S x → (k j : ℕ) → S (with-c (with-nfe k (with-count j (x .c))) x)
-  pub opened : (x : State) → S x → S (with-c (openOf (x .c)) x)
-  pub judged : (x : State) → S x → S (with-c (verdictOf s (x .c) (correctOf s (x .c) (x .p) (x .w)) .common) x)
-  pub jacobian-begun : (x : State) → S x → S (with-c (beginOf (x .c)) x)
-  pub column : (x : State) → S x → (j : ℕ) → (1 ≤ s .n → j < s .n) → S (with-c (with-column j (x .c)) x)
+  pub asked-in-step : (x : State) → S x → (k j : ℕ) → S (put-c (with-nfe k (with-count j (x .c))) x)
+  pub opened : (x : State) → S x → S (put-c (openOf (x .c)) x)
+  pub judged : (x : State) → S x → S (put-c (verdictOf (g .s) (x .c) (correctOf (g .s) (x .c) (x .p) (x .w)) .common) x)
+  pub jacobian-begun : (x : State) → S x → S (put-c (beginOf (x .c)) x)
+  pub column : (x : State) → S x → (j : ℕ) → (1 ≤ g .s .n → j < g .s .n) → S (put-c (with-column j (x .c)) x)
   pub factored : (x : State) → S x
-      → let f = finishJacobianOf s (x .c) (x .w) (x .p) in S (state (f .common) (f .work) (f .ipiv))
+      → let f = finishJacobianOf (g .s) (x .c) (x .w) (x .p) in S (state (f .common) (f .work) (f .ipiv))
   -- after a pass that was not accepted
   pub unconverged : (x : State) → S x → (w : List Float)
-      → let a = noConvergenceOf s (x .c) w in After (a .next) (S (with-c (a .common) x)) (O (with-c (a .common) x))
+      → let a = noConvergenceOf (g .s) (x .c) w in After (a .next) (S (put-c (a .common) x)) (O (put-c (a .common) x))
   pub failed : (x : State) → S x → (dsm : Float) (w : List Float)
-      → let a = failedOf s (x .c) dsm w in After (a .next) (S (with-c (a .common) x)) (O (with-c (a .common) x))
-  pub restepped : (x : State) → S x → (w : List Float) → S (with-c (restepOf s (x .c) w .common) x)
+      → let a = failedOf (g .s) (x .c) dsm w in After (a .next) (S (put-c (a .common) x)) (O (put-c (a .common) x))
+  pub restepped : (x : State) → S x → (w : List Float) → S (put-c (restepOf (g .s) (x .c) w .common) x)

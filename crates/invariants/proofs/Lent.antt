@@ -7,7 +7,6 @@ use native.Mathlib.Omega.{arith}
 use lib.Ieee.{Float}
 use lib.ListN.{length}
 use Rattle.common.specs.State.{Given, State}
-use Rattle.common.specs.declared.Settings.{Settings}
 use Rattle.common.specs.Layout.{matrixAt}
 use Rattle.attempt.specs.Attempt.{noConvergenceOf, failedOf}
 use Rattle.between_steps.specs.declared.Kind.{Kind}
@@ -18,15 +17,15 @@ use Rattle.machine.specs.Resume.{resumeOf}
 use Rattle.invariants.proofs.Keeps.{Invariant, each, any, after-pass, Keeps}
 use Rattle.invariants.proofs.Walk.{resume-keeps}
 
-module _ (s : Settings) where
+module _ (g : Given) where
   abbrev pub Long : Invariant
-  Long x = Lent (s .n) (x .w) (x .p)
+  Long x = Lent (g .s .n) (x .w) (x .p)
 
-  room : (x : State) → Long x → matrixAt (s .n) ≤ length (x .w)
+  room : (x : State) → Long x → matrixAt (g .s .n) ≤ length (x .w)
   room x h = omega (arith, h .sized)
 
-  pub lent-keeps : (rtol atol : List Float) (time : Float) → Keeps s rtol atol time Long Long Long
-  lent-keeps rtol atol time = record {
+  pub lent-keeps : (time : Float) → Keeps g time Long Long Long
+  lent-keeps time = record {
     between-work = λ x h w e. lent-length w (e (room x h)) h;
     step-work = λ x h w e. lent-length w (e (room x h)) h;
     over = λ x h. h;
@@ -44,9 +43,9 @@ module _ (s : Settings) where
     judged = λ x h. h;
     jacobian-begun = λ x h. h;
     column = λ x h j e. h;
-    factored = λ x h. lent-factored s (x .c) (x .w) (x .p) h;
-    unconverged = λ x h w. after-pass (noConvergenceOf s (x .c) w .next) (λ e. h) (λ e. h) h;
-    failed = λ x h dsm w. after-pass (failedOf s (x .c) dsm w .next) (λ e. h) (λ e. h) h;
+    factored = λ x h. lent-factored (g .s) (x .c) (x .w) (x .p) h;
+    unconverged = λ x h w. after-pass (noConvergenceOf (g .s) (x .c) w .next) (λ e. h) (λ e. h) h;
+    failed = λ x h dsm w. after-pass (failedOf (g .s) (x .c) dsm w .next) (λ e. h) (λ e. h) h;
     restepped = λ x h w. h;
   }
 
@@ -56,4 +55,4 @@ pub resume-lent : (g : Given) (phase : Phase) (x : State) (reply : List Float) (
     → let l = resumeOf g phase x kind reply time in Lent (g .s .n) (l .st .w) (l .st .p)
 resume-lent g phase x reply time p kind =
     each (resumeOf g phase x kind reply time .phase) (λ h. h) (λ h. h) (λ h. h)
-    (resume-keeps g phase x kind reply time (lent-keeps (g .s) (g .rtol) (g .atol) time) (any phase p p p))
+    (resume-keeps g phase x kind reply time (lent-keeps g time) (any phase p p p))

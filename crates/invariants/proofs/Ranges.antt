@@ -16,7 +16,7 @@ use borrow.Author.Tests.{leb-false}
 use Rattle.common.specs.declared.Settings.{Settings}
 use Rattle.common.specs.declared.Common.{Common}
 use Rattle.common.specs.Limits.{mxncfOf}
-use Rattle.common.specs.State.{Given, State}
+use Rattle.common.specs.State.{Given, State, given}
 use Rattle.common.specs.Rules.{icount20}
 use Rattle.history.specs.Steps.{StepInRange}
 use Rattle.jacobian.specs.Jacobian.{beginOf}
@@ -104,7 +104,8 @@ module _ (s : Settings) (base most : ℕ) where
   ClosingAt x = Closing s (coreOf (x .c))
 
   module _ (acc : Accepted s) (enough : s .maxsteps ≤ most) (few : most ≤ 2 ^ 62) where
-    pub ranges-keep : (rtol atol : List Float) (time : Float) → Keeps s rtol atol time (Ranged 0) (Ranged 1) ClosingAt
+    pub ranges-keep : (rtol atol : List Float) (time : Float)
+        → Keeps (given s rtol atol) time (Ranged 0) (Ranged 1) ClosingAt
     unfolding beginOf
     ranges-keep rtol atol time = record {
       between-work = λ x h w e. h;

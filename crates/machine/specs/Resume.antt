@@ -13,7 +13,7 @@ use Rattle.between_steps.specs.Replies.{isDerivative, isJacobian, isAnswer}
 use Rattle.questions.specs.declared.Phase.{Phase}
 use Rattle.questions.specs.declared.Phase.the-variants as Phase
 use Rattle.questions.specs.declared.Question.the-variants.{Unasked}
-use Rattle.questions.specs.Turns.{RunState, withPivots}
+use Rattle.questions.specs.Turns.{RunState}
 use Rattle.passes.specs.Pass.{openedReplyOf, jacobianReplyOf, columnReplyOf, furtherReplyOf, restepReplyOf}
 use Rattle.reports.specs.Reports.{firstDerivativeOf, afterFirstReportOf, firstModifiedOf, afterReportOf, modifiedOf}
 
@@ -40,29 +40,26 @@ unasked phase x = record { question = Unasked; phase = phase; st = x }
 
 -- the answer to the first report, and to a step's
 abbrev pub firstAnsweredOf : Given → State → Kind → List Float → Float → RunState
-firstAnsweredOf g x (Report a) y time = withPivots (x .p) (afterFirstReportOf (g .s) (x .c) a y time (x .w))
+firstAnsweredOf g x (Report a) y time = afterFirstReportOf (g .s) x a y time
 firstAnsweredOf g x Derivative y time = unasked Phase.FirstReport x
 firstAnsweredOf g x Jacobian y time = unasked Phase.FirstReport x
 
 abbrev pub answeredOf : Given → State → Kind → List Float → Float → RunState
-answeredOf g x (Report a) y time = withPivots (x .p) (afterReportOf (g .s) (x .c) a y time (x .w))
+answeredOf g x (Report a) y time = afterReportOf (g .s) x a y time
 answeredOf g x Derivative y time = unasked Phase.Report x
 answeredOf g x Jacobian y time = unasked Phase.Report x
 
 unfoldable pub dealtOf : Given → Phase → State → Kind → List Float → Float → RunState
-dealtOf g Phase.FirstDerivative x kind f time =
-    withPivots (x .p) (firstDerivativeOf (g .s) (x .c) (g .rtol) (g .atol) f (x .w))
+dealtOf g Phase.FirstDerivative x kind f time = firstDerivativeOf g x f
 dealtOf g Phase.FirstReport x kind f time = firstAnsweredOf g x kind f time
-dealtOf g Phase.FirstModified x kind f time = withPivots (x .p) (firstModifiedOf (g .s) (x .c) f (x .w))
-dealtOf g Phase.Opened x kind f time =
-    withPivots (x .p) (openedReplyOf (g .s) (x .c) (g .rtol) (g .atol) f (x .p) (x .w))
-dealtOf g Phase.JacobianAsked x kind f time = jacobianReplyOf (g .s) (x .c) (g .rtol) (g .atol) f (x .p) (x .w)
-dealtOf g Phase.DifferenceColumn x kind f time = columnReplyOf (g .s) (x .c) (g .rtol) (g .atol) f (x .p) (x .w)
-dealtOf g Phase.FurtherDerivative x kind f time =
-    withPivots (x .p) (furtherReplyOf (g .s) (x .c) (g .rtol) (g .atol) f (x .p) (x .w))
-dealtOf g Phase.Restep x kind f time = withPivots (x .p) (restepReplyOf (g .s) (x .c) f (x .w))
+dealtOf g Phase.FirstModified x kind f time = firstModifiedOf (g .s) x f
+dealtOf g Phase.Opened x kind f time = openedReplyOf g x f
+dealtOf g Phase.JacobianAsked x kind f time = jacobianReplyOf g x f
+dealtOf g Phase.DifferenceColumn x kind f time = columnReplyOf g x f
+dealtOf g Phase.FurtherDerivative x kind f time = furtherReplyOf g x f
+dealtOf g Phase.Restep x kind f time = restepReplyOf (g .s) x f
 dealtOf g Phase.Report x kind f time = answeredOf g x kind f time
-dealtOf g Phase.Modified x kind f time = withPivots (x .p) (modifiedOf (g .s) (x .c) f (x .w))
+dealtOf g Phase.Modified x kind f time = modifiedOf (g .s) x f
 dealtOf g Phase.Finished x kind f time = unasked Phase.Finished x
 
 unfoldable pub resumeOf : Given → Phase → State → Kind → List Float → Float → RunState

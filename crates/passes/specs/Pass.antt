@@ -1,5 +1,5 @@
 -- The replies inside a step, and what they lead to: the Jacobian, the iterations, the verdict, the error test,
--- acceptance, the report.
+-- acceptance, the report. That this is `stoda` of the Rust is not claimed here: refinement has it of the tree in rules.
 use mathlib.Core.Bool.{Bool, true, false}
 use mathlib.Core.List.{List}
 use Prim.Native.Nat.{ℕ, _+_}
@@ -13,6 +13,7 @@ use Rattle.common.specs.declared.Settings.{Settings}
 use Rattle.common.specs.declared.Common.{Common}
 use Rattle.common.specs.Layout.{ftemAt, acorAt, yAt, yfdAt}
 use Rattle.common.specs.Record.{with-total, with-column}
+use Rattle.common.specs.State.{Given, State, state, made, put-c, put-w, movedTo}
 use Rattle.history.specs.Columns.{copyOf, fillOf}
 use Rattle.history.specs.Parts.{storedOf}
 use Rattle.jacobian.specs.Jacobian.{beginOf, perturbOf, restoreOf, finishJacobianOf as factorsOf}
@@ -36,147 +37,145 @@ use Rattle.questions.specs.declared.Phase.the-variants.{JacobianAsked, Differen
 use Rattle.questions.specs.declared.Phase.the-variants.{Restep, Report}
 use Rattle.questions.specs.declared.Question.the-variants as Question
 use Rattle.questions.specs.declared.Turn.{Turn}
-use Rattle.questions.specs.Turns.{TurnWork, RunState, turnWork, withPivots, askedInStepOf, finishedOf, weightRefused}
+use Rattle.questions.specs.Turns.{RunState, runState, turnAt, askedInStepOf, finishedOf, weightRefused}
 use Rattle.questions.specs.Begin.{openPassOf}
 
 -- ---- after a pass that was not accepted
 
-unfoldable pub attemptedAt : ℕ → Next → Common → List Float → TurnWork
-attemptedAt n Next.Pass c work = openPassOf n c work
-attemptedAt n Next.Restep c work = turnWork (askedInStepOf c Restep) work
-attemptedAt n Next.TooSmall c work = turnWork (finishedOf c StepTooSmall) work
-attemptedAt n Next.Poor c work = turnWork (finishedOf c PoorConvergence) work
+unfoldable pub attemptedAt : ℕ → State → Next → RunState
+attemptedAt n x Next.Pass = openPassOf n x
+attemptedAt n x Next.Restep = turnAt (askedInStepOf (x .c) Restep) x
+attemptedAt n x Next.TooSmall = turnAt (finishedOf (x .c) StepTooSmall) x
+attemptedAt n x Next.Poor = turnAt (finishedOf (x .c) PoorConvergence) x
 
-abbrev pub attemptedOf : ℕ → Attempt → TurnWork
-attemptedOf n a = attemptedAt n (a .next) (a .common) (a .work)
+abbrev pub attemptedOf : ℕ → State → Attempt → RunState
+attemptedOf n x a = attemptedAt n (made x (a .common) (a .work)) (a .next)
 
 -- ---- acceptance
 
 -- y is the new state; the total is refreshed here alone
-unfoldable pub reportedOf : ℕ → Common → List Float → TurnWork
-reportedOf n c work =
-    turnWork (record {
+unfoldable pub reportedOf : ℕ → State → RunState
+reportedOf n x =
+    let c = x .c in
+    runState (record {
       question = Question.Report (record { previous = c .told; time = c .tn; count = c .count; order = c .nq });
       phase = Report;
       common = with-total (c .nst + c .rejected) c;
     })
-    (copyOf n (yAt n) 0 work)
+    (copyOf n (yAt n) 0 (x .w)) (x .p)
 
-unfoldable pub closedAt : ℕ → Common → Weights → List Float → TurnWork
-closedAt n c (Refused i) work = turnWork (weightRefused c i) work
-closedAt n c Inverted work = reportedOf n c work
+unfoldable pub closedAt : ℕ → State → Weights → RunState
+closedAt n x (Refused i) = turnAt (weightRefused (x .c) i) x
+closedAt n x Inverted = reportedOf n x
 
-unfoldable pub endStepOf : Settings → Common → ℕ → List Float → List Float → List Float → TurnWork
-endStepOf s c order rtol atol work =
-    let x = closedOf s c order rtol atol work in
-    closedAt (s .n) c (x .weights) (x .work)
+unfoldable pub endStepOf : Given → State → ℕ → RunState
+endStepOf g x order =
+    let e = closedOf (g .s) (x .c) order (g .rtol) (g .atol) (x .w) in
+    closedAt (g .s .n) (put-w (e .work) x) (e .weights)
 
-unfoldable pub acceptedAt : Settings → ℕ → List Float → List Float → Branch → Common → List Float → TurnWork
-acceptedAt s order rtol atol CoefficientGap c work = turnWork (finishedOf c Status.CoefficientGap) work
-acceptedAt s order rtol atol Unchanged c work = endStepOf s c order rtol atol work
-acceptedAt s order rtol atol SmallGain c work = endStepOf s c order rtol atol work
-acceptedAt s order rtol atol Lowered c work = endStepOf s c order rtol atol work
-acceptedAt s order rtol atol KeptOrder c work = endStepOf s c order rtol atol work
-acceptedAt s order rtol atol Raised c work = endStepOf s c order rtol atol work
-acceptedAt s order rtol atol HeldBySm1 c work = endStepOf s c order rtol atol work
-acceptedAt s order rtol atol FamilyChanged c work = endStepOf s c order rtol atol work
+unfoldable pub acceptedAt : Given → State → ℕ → Branch → RunState
+acceptedAt g x order CoefficientGap = turnAt (finishedOf (x .c) Status.CoefficientGap) x
+acceptedAt g x order Unchanged = endStepOf g x order
+acceptedAt g x order SmallGain = endStepOf g x order
+acceptedAt g x order Lowered = endStepOf g x order
+acceptedAt g x order KeptOrder = endStepOf g x order
+acceptedAt g x order Raised = endStepOf g x order
+acceptedAt g x order HeldBySm1 = endStepOf g x order
+acceptedAt g x order FamilyChanged = endStepOf g x order
 
 -- the weights are scaled by the order that the step used
-unfoldable pub acceptedOf : Settings → Common → Float → List Float → List Float → List Float → TurnWork
-acceptedOf s c dsm rtol atol work =
-    let x = acceptOf s c dsm work in
-    acceptedAt s (c .nq) rtol atol (x .branch) (x .common) (x .work)
+unfoldable pub acceptedOf : Given → State → Float → RunState
+acceptedOf g x dsm =
+    let a = acceptOf (g .s) (x .c) dsm (x .w) in
+    acceptedAt g (made x (a .common) (a .work)) (x .c .nq) (a .branch)
 
 -- the error is above 1
-unfoldable pub errorTestAt : Settings → Common → Float → List Float → List Float → Bool → List Float → TurnWork
-errorTestAt s c dsm rtol atol true work = attemptedOf (s .n) (failedOf s c dsm work)
-errorTestAt s c dsm rtol atol false work = acceptedOf s c dsm rtol atol work
+unfoldable pub errorTestAt : Given → State → Float → Bool → RunState
+errorTestAt g x dsm true = attemptedOf (g .s .n) x (failedOf (g .s) (x .c) dsm (x .w))
+errorTestAt g x dsm false = acceptedOf g x dsm
 
-unfoldable pub errorTestOf : Settings → Common → Float → List Float → List Float → List Float → TurnWork
-errorTestOf s c del rtol atol work =
-    let dsm = errorOf s c del work in
-    errorTestAt s c dsm rtol atol (Ieee.lt oneF dsm) work
+unfoldable pub errorTestOf : Given → State → Float → RunState
+errorTestOf g x del =
+    let dsm = errorOf (g .s) (x .c) del (x .w) in
+    errorTestAt g x dsm (Ieee.lt oneF dsm)
 
-unfoldable pub passFailedOf : Settings → Common → List Float → TurnWork
-passFailedOf s c work = attemptedOf (s .n) (noConvergenceOf s c work)
+unfoldable pub passFailedOf : Settings → State → RunState
+passFailedOf s x = attemptedOf (s .n) x (noConvergenceOf s (x .c) (x .w))
 
 -- ---- iterations
 
-unfoldable pub concludedAt : Settings → Pass → Common → Float → List Float → List Float → List Float → TurnWork
-concludedAt s Pass.Converged c del rtol atol work = errorTestOf s c del rtol atol work
-concludedAt s Pass.Retry c del rtol atol work = openPassOf (s .n) c work
-concludedAt s Pass.NoConvergence c del rtol atol work = passFailedOf s c work
-concludedAt s Pass.Further c del rtol atol work = turnWork (askedInStepOf c FurtherDerivative) work
+unfoldable pub concludedAt : Given → State → Pass → Float → RunState
+concludedAt g x Pass.Converged del = errorTestOf g x del
+concludedAt g x Pass.Retry del = openPassOf (g .s .n) x
+concludedAt g x Pass.NoConvergence del = passFailedOf (g .s) x
+concludedAt g x Pass.Further del = turnAt (askedInStepOf (x .c) FurtherDerivative) x
 
-unfoldable pub iterateOf : Settings → Common → List Float → List Float → List ℕ → List Float → TurnWork
-iterateOf s c rtol atol ipiv work =
-    let x = correctOf s c ipiv work in
-    let v = verdictOf s c x in
-    concludedAt s (v .pass) (v .common) (x .del) rtol atol (x .work)
+unfoldable pub iterateOf : Given → State → RunState
+iterateOf g x =
+    let r = correctOf (g .s) (x .c) (x .p) (x .w) in
+    let v = verdictOf (g .s) (x .c) r in
+    concludedAt g (made x (v .common) (r .work)) (v .pass) (r .del)
 
-unfoldable pub iterationsOf : Settings → Common → List Float → List Float → List ℕ → List Float → TurnWork
-iterationsOf s c rtol atol ipiv work = iterateOf s (openOf c) rtol atol ipiv (fillOf (s .n) (acorAt (s .n)) zeroF work)
+unfoldable pub iterationsOf : Given → State → RunState
+iterationsOf g x = iterateOf g (made x (openOf (x .c)) (fillOf (g .s .n) (acorAt (g .s .n)) zeroF (x .w)))
 
 -- ---- the Jacobian
 
 -- a singular matrix gives no convergence
-unfoldable pub matrixDoneAt : Settings → List Float → List Float → Bool → Common → List ℕ → List Float → TurnWork
-matrixDoneAt s rtol atol true c ipiv work = iterationsOf s c rtol atol ipiv work
-matrixDoneAt s rtol atol false c ipiv work = passFailedOf s c work
+unfoldable pub matrixDoneAt : Given → State → Bool → RunState
+matrixDoneAt g x true = iterationsOf g x
+matrixDoneAt g x false = passFailedOf (g .s) x
 
-unfoldable pub matrixDoneOf : Settings → Common → List Float → List Float → List ℕ → List Float → RunState
-matrixDoneOf s c rtol atol ipiv work =
-    let f = factorsOf s c work ipiv in
-    withPivots (f .ipiv) (matrixDoneAt s rtol atol (f .done) (f .common) (f .ipiv) (f .work))
+unfoldable pub matrixDoneOf : Given → State → RunState
+matrixDoneOf g x =
+    let f = factorsOf (g .s) (x .c) (x .w) (x .p) in
+    matrixDoneAt g (state (f .common) (f .work) (f .ipiv)) (f .done)
 
 -- difference column j is asked for
-unfoldable pub askColumnOf : Settings → Common → ℕ → List Float → TurnWork
-askColumnOf s c j work = turnWork (askedInStepOf (with-column j c) DifferenceColumn) (perturbOf s c j work)
+unfoldable pub askColumnOf : Settings → State → ℕ → RunState
+askColumnOf s x j =
+    runState (askedInStepOf (with-column j (x .c)) DifferenceColumn) (perturbOf s (x .c) j (x .w)) (x .p)
 
 abbrev pub jacobianAsked : Common → Turn
 jacobianAsked c = record { question = Question.Jacobian (record { time = c .tn }); phase = JacobianAsked; common = c }
 
-unfoldable pub askJacobianAt : Settings → Bool → Common → List Float → TurnWork
-askJacobianAt s true c work = turnWork (jacobianAsked c) work
-askJacobianAt s false c work = askColumnOf s c 0 (copyOf (s .n) (yfdAt (s .n)) (yAt (s .n)) work)
+unfoldable pub askJacobianAt : Settings → State → Bool → RunState
+askJacobianAt s x true = turnAt (jacobianAsked (x .c)) x
+askJacobianAt s x false = askColumnOf s (put-w (copyOf (s .n) (yfdAt (s .n)) (yAt (s .n)) (x .w)) x) 0
 
-unfoldable pub askJacobianOf : Settings → Common → List Float → TurnWork
-askJacobianOf s c work = askJacobianAt s (isSupplied s c) (beginOf c) work
+unfoldable pub askJacobianOf : Settings → State → RunState
+askJacobianOf s x = askJacobianAt s (put-c (beginOf (x .c)) x) (isSupplied s (x .c))
 
 -- ---- replies
 
 -- a Jacobian is due
-unfoldable pub openedReplyAt : Settings → Bool → Common → List Float → List Float → List ℕ → List Float → TurnWork
-openedReplyAt s true c rtol atol ipiv work = askJacobianOf s c work
-openedReplyAt s false c rtol atol ipiv work = iterationsOf s c rtol atol ipiv work
+unfoldable pub openedReplyAt : Given → State → Bool → RunState
+openedReplyAt g x true = askJacobianOf (g .s) x
+openedReplyAt g x false = iterationsOf g x
 
 -- the derivative at the prediction
-unfoldable pub openedReplyOf : Settings → Common → List Float → List Float → List Float → List ℕ → List Float → TurnWork
-openedReplyOf s c rtol atol f ipiv work = openedReplyAt s (c .due) c rtol atol ipiv (withDerivative (s .n) f work)
+unfoldable pub openedReplyOf : Given → State → List Float → RunState
+openedReplyOf g x f = openedReplyAt g (put-w (withDerivative (g .s .n) f (x .w)) x) (x .c .due)
 
 -- the host's Jacobian
-unfoldable pub jacobianReplyOf : Settings → Common → List Float → List Float → List Float → List ℕ → List Float
-    → RunState
-jacobianReplyOf s c rtol atol f ipiv work = matrixDoneOf s c rtol atol ipiv (Jacobian.suppliedOf s c f work)
+unfoldable pub jacobianReplyOf : Given → State → List Float → RunState
+jacobianReplyOf g x f = matrixDoneOf g (put-w (Jacobian.suppliedOf (g .s) (x .c) f (x .w)) x)
 
 -- another column follows
-unfoldable pub columnReplyAt : Settings → Bool → Common → List Float → List Float → List ℕ → List Float → RunState
-columnReplyAt s true c rtol atol ipiv work = withPivots ipiv (askColumnOf s c (c .column + 1) work)
-columnReplyAt s false c rtol atol ipiv work = matrixDoneOf s (with-column 0 c) rtol atol ipiv work
+unfoldable pub columnReplyAt : Given → State → Bool → RunState
+columnReplyAt g x true = askColumnOf (g .s) x (x .c .column + 1)
+columnReplyAt g x false = matrixDoneOf g (put-c (with-column 0 (x .c)) x)
 
 -- the derivative of a difference column
-unfoldable pub columnReplyOf : Settings → Common → List Float → List Float → List Float → List ℕ → List Float → RunState
-columnReplyOf s c rtol atol f ipiv work =
-    columnReplyAt s (ltb (c .column + 1) (s .n)) c rtol atol ipiv
-    (restoreOf s c (c .column) (storedOf (ftemAt (s .n)) f work))
+unfoldable pub columnReplyOf : Given → State → List Float → RunState
+columnReplyOf g x f =
+    columnReplyAt g (put-w (restoreOf (g .s) (x .c) (x .c .column) (storedOf (ftemAt (g .s .n)) f (x .w))) x)
+    (ltb (x .c .column + 1) (g .s .n))
 
 -- a further derivative
-unfoldable pub furtherReplyOf : Settings → Common → List Float → List Float → List Float → List ℕ → List Float
-    → TurnWork
-furtherReplyOf s c rtol atol f ipiv work = iterateOf s c rtol atol ipiv (withDerivative (s .n) f work)
+unfoldable pub furtherReplyOf : Given → State → List Float → RunState
+furtherReplyOf g x f = iterateOf g (put-w (withDerivative (g .s .n) f (x .w)) x)
 
 -- the derivative after the third to ninth error failure
-unfoldable pub restepReplyOf : Settings → Common → List Float → List Float → TurnWork
-restepReplyOf s c f work =
-    let m = Attempt.restepOf s c (withDerivative (s .n) f work) in
-    openPassOf (s .n) (m .common) (m .work)
+unfoldable pub restepReplyOf : Settings → State → List Float → RunState
+restepReplyOf s x f = openPassOf (s .n) (movedTo x (Attempt.restepOf s (x .c) (withDerivative (s .n) f (x .w))))

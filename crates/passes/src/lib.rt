@@ -1,13 +1,15 @@
 // The replies in a pass, and how it ends: the Jacobian, the iterations, the error test, acceptance, the report.
+ghost use mathlib.Core.List.{List};
 ghost use mathlib.Core.Path.{_≡_};
-ghost use Prim.Native.Nat.{_-_, _*_, _^_, _≤_, _<_};
+ghost use Prim.Native.Nat.{ℕ, _-_, _*_, _^_, _≤_, _<_};
 ghost use lib.ListN.{length};
 ghost use Rattle.vectors.specs.Tolerance.{List1OrN};
 ghost use Rattle.common.specs.Layout.{matrixAt};
 ghost use Rattle.common.specs.Limits.{maxStates};
+ghost use Rattle.common.specs.State.{given, state};
 ghost use Rattle.history.specs.Steps.{StepInRange};
 ghost use Rattle.between_steps.specs.Ranges.{Inside, Lent};
-ghost use Rattle.questions.specs.Turns.{turnWork, runState};
+ghost use Rattle.questions.specs.Turns.{runState};
 ghost use Rattle.passes.specs.Pass.{attemptedAt, reportedOf, endStepOf, acceptedOf, errorTestOf, passFailedOf};
 ghost use Rattle.passes.specs.Pass.{iterateOf, iterationsOf, matrixDoneOf, askColumnOf, askJacobianOf};
 ghost use Rattle.passes.specs.Pass.{openedReplyOf, jacobianReplyOf, columnReplyOf, furtherReplyOf, restepReplyOf};
@@ -29,7 +31,8 @@ use corrector::Pass;
 // After a pass that was not accepted.
 fn attempted(a: attempt::Attempted, n: usize, work: &mut [f64]) -> Turn
     requires { ⌜ (a .common .nfe < 2 ^ 63) × (a .common .count < 2 ^ 63) × (matrixAt n ≤ length (now work)) ⌝ }
-    ensures { λ r. ⌜ turnWork r (now (work .exit)) ≡ attemptedAt n (a .next) (a .common) (now (work .entry)) ⌝ }
+    ensures { λ r. ⌜ ((p : List ℕ) → runState r (now (work .exit)) p
+        ≡ attemptedAt n (state (a .common) (now (work .entry)) p) (a .next)) ⌝ }
 {
     let next = a.next;
     let c = a.common;
@@ -44,7 +47,8 @@ fn attempted(a: attempt::Attempted, n: usize, work: &mut [f64]) -> Turn
 // The weights of the new state stand: the report.
 fn report(c: Common, n: usize, work: &mut [f64]) -> Turn
     requires { ⌜ (c .nst < 2 ^ 63) × (c .rejected < 2 ^ 63) × (matrixAt n ≤ length (now work)) ⌝ }
-    ensures { λ r. ⌜ turnWork r (now (work .exit)) ≡ reportedOf n c (now (work .entry)) ⌝ }
+    ensures { λ r. ⌜ ((p : List ℕ) → runState r (now (work .exit)) p
+        ≡ reportedOf n (state c (now (work .entry)) p)) ⌝ }
 {
     history::copy_part(work, n, common::Y * n, 0);
     let mut d = c;
@@ -61,8 +65,8 @@ fn end_step(s: Settings, c: Common, order: usize, rtol: &[f64], atol: &[f64], wo
     requires { ⌜ List1OrN (now rtol) (s .n - 1) ⌝ }
     requires { ⌜ List1OrN (now atol) (s .n - 1) ⌝ }
     requires { ⌜ matrixAt (s .n) ≤ length (now work) ⌝ }
-    ensures { λ r. ⌜ turnWork r (now (work .exit))
-        ≡ endStepOf s c order (now (rtol .entry)) (now (atol .entry)) (now (work .entry)) ⌝ }
+    ensures { λ r. ⌜ ((p : List ℕ) → runState r (now (work .exit)) p
+        ≡ endStepOf (given s (now (rtol .entry)) (now (atol .entry))) (state c (now (work .entry)) p) order) ⌝ }
 {
     match acceptance::close(s, c, order, rtol, atol, work) {
         vectors::Weights::Refused(i) => {
@@ -78,8 +82,8 @@ fn accepted(s: Settings, c: Common, dsm: f64, rtol: &[f64], atol: &[f64], work: 
     requires { ⌜ List1OrN (now rtol) (s .n - 1) ⌝ }
     requires { ⌜ List1OrN (now atol) (s .n - 1) ⌝ }
     requires { ⌜ matrixAt (s .n) ≤ length (now work) ⌝ }
-    ensures { λ r. ⌜ turnWork r (now (work .exit))
-        ≡ acceptedOf s c dsm (now (rtol .entry)) (now (atol .entry)) (now (work .entry)) ⌝ }
+    ensures { λ r. ⌜ ((p : List ℕ) → runState r (now (work .exit)) p
+        ≡ acceptedOf (given s (now (rtol .entry)) (now (atol .entry))) (state c (now (work .entry)) p) dsm) ⌝ }
 {
     let order = c.nq;
     let chosen = acceptance::accept(s, c, dsm, work);
@@ -103,8 +107,8 @@ fn error_test(s: Settings, c: Common, del: f64, rtol: &[f64], atol: &[f64], work
     requires { ⌜ List1OrN (now rtol) (s .n - 1) ⌝ }
     requires { ⌜ List1OrN (now atol) (s .n - 1) ⌝ }
     requires { ⌜ matrixAt (s .n) ≤ length (now work) ⌝ }
-    ensures { λ r. ⌜ turnWork r (now (work .exit))
-        ≡ errorTestOf s c del (now (rtol .entry)) (now (atol .entry)) (now (work .entry)) ⌝ }
+    ensures { λ r. ⌜ ((p : List ℕ) → runState r (now (work .exit)) p
+        ≡ errorTestOf (given s (now (rtol .entry)) (now (atol .entry))) (state c (now (work .entry)) p) del) ⌝ }
 {
     let dsm = attempt::error(s, c, del, work);
     if dsm > 1.0 {
@@ -116,7 +120,8 @@ fn error_test(s: Settings, c: Common, del: f64, rtol: &[f64], atol: &[f64], work
 fn pass_failed(s: Settings, c: Common, work: &mut [f64]) -> Turn
     requires { ⌜ Inside s c ⌝ }
     requires { ⌜ matrixAt (s .n) ≤ length (now work) ⌝ }
-    ensures { λ r. ⌜ turnWork r (now (work .exit)) ≡ passFailedOf s c (now (work .entry)) ⌝ }
+    ensures { λ r. ⌜ ((p : List ℕ) → runState r (now (work .exit)) p
+        ≡ passFailedOf s (state c (now (work .entry)) p)) ⌝ }
 {
     attempted(attempt::no_convergence(s, c, work), s.n, work)
 }
@@ -127,8 +132,9 @@ fn iterate(s: Settings, c: Common, rtol: &[f64], atol: &[f64], work: &mut [f64],
     requires { ⌜ List1OrN (now rtol) (s .n - 1) ⌝ }
     requires { ⌜ List1OrN (now atol) (s .n - 1) ⌝ }
     requires { ⌜ Lent (s .n) (now work) (now ipiv) ⌝ }
-    ensures { λ r. ⌜ turnWork r (now (work .exit))
-        ≡ iterateOf s c (now (rtol .entry)) (now (atol .entry)) (now (ipiv .entry)) (now (work .entry)) ⌝ }
+    ensures { λ r. ⌜ runState r (now (work .exit)) (now (ipiv .entry))
+        ≡ iterateOf (given s (now (rtol .entry)) (now (atol .entry)))
+            (state c (now (work .entry)) (now (ipiv .entry))) ⌝ }
 {
     let n = s.n;
     let x = corrector::correct(s, c, work, ipiv);
@@ -149,8 +155,9 @@ fn iterations(s: Settings, c: Common, rtol: &[f64], atol: &[f64], work: &mut [f6
     requires { ⌜ List1OrN (now rtol) (s .n - 1) ⌝ }
     requires { ⌜ List1OrN (now atol) (s .n - 1) ⌝ }
     requires { ⌜ Lent (s .n) (now work) (now ipiv) ⌝ }
-    ensures { λ r. ⌜ turnWork r (now (work .exit))
-        ≡ iterationsOf s c (now (rtol .entry)) (now (atol .entry)) (now (ipiv .entry)) (now (work .entry)) ⌝ }
+    ensures { λ r. ⌜ runState r (now (work .exit)) (now (ipiv .entry))
+        ≡ iterationsOf (given s (now (rtol .entry)) (now (atol .entry)))
+            (state c (now (work .entry)) (now (ipiv .entry))) ⌝ }
 {
     let n = s.n;
     let a = common::ACOR * n;
@@ -167,7 +174,8 @@ fn matrix_done(s: Settings, c: Common, rtol: &[f64], atol: &[f64], work: &mut [f
     requires { ⌜ List1OrN (now atol) (s .n - 1) ⌝ }
     requires { ⌜ Lent (s .n) (now work) (now ipiv) ⌝ }
     ensures { λ r. ⌜ runState r (now (work .exit)) (now (ipiv .exit))
-        ≡ matrixDoneOf s c (now (rtol .entry)) (now (atol .entry)) (now (ipiv .entry)) (now (work .entry)) ⌝ }
+        ≡ matrixDoneOf (given s (now (rtol .entry)) (now (atol .entry)))
+            (state c (now (work .entry)) (now (ipiv .entry))) ⌝ }
 {
     let f = jacobian::finish_jacobian(s, c, work, ipiv);
     let done = f.done;
@@ -185,7 +193,8 @@ fn ask_column(s: Settings, c: Common, j: usize, work: &mut [f64]) -> Turn
     requires { ⌜ (s .n ≤ maxStates) × (j < s .n) ⌝ }
     requires { ⌜ (c .nfe < 2 ^ 63) × (c .count < 2 ^ 63) ⌝ }
     requires { ⌜ matrixAt (s .n) ≤ length (now work) ⌝ }
-    ensures { λ r. ⌜ turnWork r (now (work .exit)) ≡ askColumnOf s c j (now (work .entry)) ⌝ }
+    ensures { λ r. ⌜ ((p : List ℕ) → runState r (now (work .exit)) p
+        ≡ askColumnOf s (state c (now (work .entry)) p) j) ⌝ }
 {
     jacobian::perturb(s, c, work, j);
     let mut d = c;
@@ -198,7 +207,8 @@ fn ask_jacobian(s: Settings, c: Common, work: &mut [f64]) -> Turn
     requires { ⌜ Inside s c ⌝ }
     requires { ⌜ c .nje < 2 ^ 63 ⌝ }
     requires { ⌜ matrixAt (s .n) ≤ length (now work) ⌝ }
-    ensures { λ r. ⌜ turnWork r (now (work .exit)) ≡ askJacobianOf s c (now (work .entry)) ⌝ }
+    ensures { λ r. ⌜ ((p : List ℕ) → runState r (now (work .exit)) p
+        ≡ askJacobianOf s (state c (now (work .entry)) p)) ⌝ }
 {
     let d = jacobian::begin_jacobian(c);
     let meth = c.meth;
@@ -229,9 +239,9 @@ pub fn opened_reply(
     requires { ⌜ List1OrN (now atol) (s .n - 1) ⌝ }
     requires { ⌜ length (now f) ≡ s .n ⌝ }
     requires { ⌜ Lent (s .n) (now work) (now ipiv) ⌝ }
-    ensures { λ r. ⌜ turnWork r (now (work .exit))
-        ≡ openedReplyOf s c (now (rtol .entry)) (now (atol .entry)) (now (f .entry))
-            (now (ipiv .entry)) (now (work .entry)) ⌝ }
+    ensures { λ r. ⌜ runState r (now (work .exit)) (now (ipiv .entry))
+        ≡ openedReplyOf (given s (now (rtol .entry)) (now (atol .entry)))
+            (state c (now (work .entry)) (now (ipiv .entry))) (now (f .entry)) ⌝ }
 {
     history::store(work, common::SAVF * s.n, f);
     let due = c.due;
@@ -258,8 +268,8 @@ pub fn jacobian_reply(
     requires { ⌜ length (now f) ≡ s .n * s .n ⌝ }
     requires { ⌜ Lent (s .n) (now work) (now ipiv) ⌝ }
     ensures { λ r. ⌜ runState r (now (work .exit)) (now (ipiv .exit))
-        ≡ jacobianReplyOf s c (now (rtol .entry)) (now (atol .entry)) (now (f .entry))
-            (now (ipiv .entry)) (now (work .entry)) ⌝ }
+        ≡ jacobianReplyOf (given s (now (rtol .entry)) (now (atol .entry)))
+            (state c (now (work .entry)) (now (ipiv .entry))) (now (f .entry)) ⌝ }
 {
     let a = common::MATRIX * s.n;
     let e = a + f.len();
@@ -284,8 +294,8 @@ pub fn column_reply(
     requires { ⌜ length (now f) ≡ s .n ⌝ }
     requires { ⌜ Lent (s .n) (now work) (now ipiv) ⌝ }
     ensures { λ r. ⌜ runState r (now (work .exit)) (now (ipiv .exit))
-        ≡ columnReplyOf s c (now (rtol .entry)) (now (atol .entry)) (now (f .entry))
-            (now (ipiv .entry)) (now (work .entry)) ⌝ }
+        ≡ columnReplyOf (given s (now (rtol .entry)) (now (atol .entry)))
+            (state c (now (work .entry)) (now (ipiv .entry))) (now (f .entry)) ⌝ }
 {
     history::store(work, common::FTEM * s.n, f);
     let j = c.column;
@@ -313,9 +323,9 @@ pub fn further_reply(
     requires { ⌜ List1OrN (now atol) (s .n - 1) ⌝ }
     requires { ⌜ length (now f) ≡ s .n ⌝ }
     requires { ⌜ Lent (s .n) (now work) (now ipiv) ⌝ }
-    ensures { λ r. ⌜ turnWork r (now (work .exit))
-        ≡ furtherReplyOf s c (now (rtol .entry)) (now (atol .entry)) (now (f .entry))
-            (now (ipiv .entry)) (now (work .entry)) ⌝ }
+    ensures { λ r. ⌜ runState r (now (work .exit)) (now (ipiv .entry))
+        ≡ furtherReplyOf (given s (now (rtol .entry)) (now (atol .entry)))
+            (state c (now (work .entry)) (now (ipiv .entry))) (now (f .entry)) ⌝ }
 {
     history::store(work, common::SAVF * s.n, f);
     iterate(s, c, rtol, atol, work, ipiv)
@@ -326,7 +336,8 @@ pub fn restep_reply(s: Settings, c: Common, f: &[f64], work: &mut [f64]) -> Turn
     requires { ⌜ Inside s c ⌝ }
     requires { ⌜ length (now f) ≡ s .n ⌝ }
     requires { ⌜ matrixAt (s .n) ≤ length (now work) ⌝ }
-    ensures { λ r. ⌜ turnWork r (now (work .exit)) ≡ restepReplyOf s c (now (f .entry)) (now (work .entry)) ⌝ }
+    ensures { λ r. ⌜ ((p : List ℕ) → runState r (now (work .exit)) p
+        ≡ restepReplyOf s (state c (now (work .entry)) p) (now (f .entry))) ⌝ }
 {
     history::store(work, common::SAVF * s.n, f);
     let d = attempt::restep(s, c, work);

@@ -13,11 +13,6 @@ use Rattle.questions.specs.declared.Question.{Question}
 use Rattle.questions.specs.declared.Question.the-variants as Question
 use Rattle.questions.specs.declared.Turn.{Turn}
 
--- a turn, and the work then
-pub record TurnWork : Type 0 where
-  pub turn : Turn
-  pub work : List Float
-
 -- the next question, the phase that waits for its reply, and the state of the run then
 pub record RunState : Type 0 where
   pub question : Question
@@ -28,15 +23,12 @@ pub record RunState : Type 0 where
 abbrev pub runState : Turn → List Float → List ℕ → RunState
 runState t w p = record { question = t .question; phase = t .phase; st = state (t .common) w p }
 
+-- the work and the pivots stay
+abbrev pub turnAt : Turn → State → RunState
+turnAt t x = runState t (x .w) (x .p)
+
 abbrev pub turnIn : RunState → Turn
 turnIn l = record { question = l .question; phase = l .phase; common = l .st .c }
-
-abbrev pub turnWork : Turn → List Float → TurnWork
-turnWork t work = record { turn = t; work = work }
-
--- the pivots as they were
-abbrev pub withPivots : List ℕ → TurnWork → RunState
-withPivots ipiv k = runState (k .turn) (k .work) ipiv
 
 -- a derivative that belongs to no step
 unfoldable pub askedOf : Common → Phase → Turn

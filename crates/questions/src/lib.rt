@@ -1,10 +1,12 @@
 // What a run asks, what it then waits for and keeps until the reply; and the way from one step to the next.
+ghost use mathlib.Core.List.{List};
 ghost use mathlib.Core.Path.{_≡_};
-ghost use Prim.Native.Nat.{_^_, _≤_, _<_};
+ghost use Prim.Native.Nat.{ℕ, _^_, _≤_, _<_};
 ghost use lib.ListN.{length};
 ghost use Rattle.common.specs.Layout.{matrixAt};
+ghost use Rattle.common.specs.State.{state};
 ghost use Rattle.between_steps.specs.Ranges.{Inside};
-ghost use Rattle.questions.specs.Turns.{turnWork, askedOf, askedInStepOf, finishedOf};
+ghost use Rattle.questions.specs.Turns.{runState, askedOf, askedInStepOf, finishedOf};
 ghost use Rattle.questions.specs.Begin.{openPassOf, beganOf, goOnOf};
 
 use between_steps::Status;
@@ -114,12 +116,13 @@ pub fn finish(c: Common, status: Status) -> Turn
     Turn { question: Question::Finished(end), phase: Phase::Finished, common: c }
 }
 
-// ---- between steps
+// ---- between steps: the pivots are not lent, so a contract says of any that they stay
 
 // A pass opens: the derivative at the prediction is wanted.
 pub fn open_pass(c: Common, n: usize, work: &mut [f64]) -> Turn
     requires { ⌜ (c .nfe < 2 ^ 63) × (c .count < 2 ^ 63) × (matrixAt n ≤ length (now work)) ⌝ }
-    ensures { λ r. ⌜ turnWork r (now (work .exit)) ≡ openPassOf n c (now (work .entry)) ⌝ }
+    ensures { λ r. ⌜ ((p : List ℕ)
+        → runState r (now (work .exit)) p ≡ openPassOf n (state c (now (work .entry)) p)) ⌝ }
 {
     history::copy_part(work, n, common::Y * n, 0);
     ask_in_step(c, Phase::Opened)
@@ -129,7 +132,7 @@ pub fn open_pass(c: Common, n: usize, work: &mut [f64]) -> Turn
 fn begin_step(s: Settings, c: Common, work: &mut [f64]) -> Turn
     requires { ⌜ Inside s c ⌝ }
     requires { ⌜ matrixAt (s .n) ≤ length (now work) ⌝ }
-    ensures { λ r. ⌜ turnWork r (now (work .exit)) ≡ beganOf s c (now (work .entry)) ⌝ }
+    ensures { λ r. ⌜ ((p : List ℕ) → runState r (now (work .exit)) p ≡ beganOf s (state c (now (work .entry)) p)) ⌝ }
 {
     open_pass(between_steps::first_prediction(s, c, work), s.n, work)
 }
@@ -138,7 +141,7 @@ fn begin_step(s: Settings, c: Common, work: &mut [f64]) -> Turn
 pub fn go_on(s: Settings, c: Common, work: &mut [f64]) -> Turn
     requires { ⌜ Inside s c ⌝ }
     requires { ⌜ matrixAt (s .n) ≤ length (now work) ⌝ }
-    ensures { λ r. ⌜ turnWork r (now (work .exit)) ≡ goOnOf s c (now (work .entry)) ⌝ }
+    ensures { λ r. ⌜ ((p : List ℕ) → runState r (now (work .exit)) p ≡ goOnOf s (state c (now (work .entry)) p)) ⌝ }
 {
     if (s.xend - c.tn) * s.direction > 0.0 {
         if s.maxsteps <= c.nst {

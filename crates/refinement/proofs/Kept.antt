@@ -69,7 +69,7 @@ module _ (g : Given) (a : Start) (ok : Accepts g a) where
   -- ---- the replies
 
   -- what a reply keeps a list of replies keeps
-  after-keeps : {B S O : Invariant} → ((time : Float) → Keeps (g .s) (g .rtol) (g .atol) time B S O) → (l : RunState)
+  after-keeps : {B S O : Invariant} → ((time : Float) → Keeps g time B S O) → (l : RunState)
       (rs : List Reply) → HoldsIn B S O l → HoldsIn B S O (reachedAfter g l rs)
   unfolding reachedAfter
   after-keeps k l [] h = h
@@ -93,7 +93,7 @@ module _ (g : Given) (a : Start) (ok : Accepts g a) where
   lent-after : (rs : List Reply) → let l = reachedAfter g (startedAt g a) rs in Lent (g .s .n) (l .st .w) (l .st .p)
   lent-after rs =
       each (reachedAfter g (startedAt g a) rs .phase) (λ h. h) (λ h. h) (λ h. h)
-      (after-keeps (lent-keeps (g .s) (g .rtol) (g .atol)) (startedAt g a) rs lent-start)
+      (after-keeps (lent-keeps g) (startedAt g a) rs lent-start)
 
   pub counts-after : (rs : List Reply) → Counts (reachedAfter g (startedAt g a) rs .st .c) (2 ^ 62 - 1)
   counts-after rs =

@@ -14,7 +14,7 @@ use Rattle.corrector.specs.declared.Pass.{Pass}
 use Rattle.corrector.specs.declared.Pass.the-variants.{Converged, Retry, NoConvergence, Further}
 use Rattle.between_steps.specs.Pass.{isSupplied}
 use Rattle.questions.specs.declared.Phase.the-variants as Phase
-use Rattle.questions.specs.Turns.{RunState, withPivots, askedInStepOf}
+use Rattle.questions.specs.Turns.{RunState, askedInStepOf}
 use Rattle.questions.specs.Begin.{openPassOf}
 use Rattle.passes.specs.Pass.{concludedAt, iterateOf, iterationsOf, errorTestOf, passFailedOf, furtherReplyOf}
 use Rattle.passes.specs.Pass.{matrixDoneOf, askColumnOf, askJacobianAt, askJacobianOf}
@@ -32,17 +32,16 @@ use Rattle.refinement.proofs.Replies.{derivative-stands, jacobian-stand
 module _ (g : Given) where
   -- what the machine does at the end of a pass
   abbrev pub concluded : Outcome → RunState
-  concluded (converged del x) = withPivots (x .p) (errorTestOf (g .s) (x .c) del (g .rtol) (g .atol) (x .w))
-  concluded (toRetry x) = withPivots (x .p) (openPassOf (g .s .n) (x .c) (x .w))
-  concluded (unconverged x) = withPivots (x .p) (passFailedOf (g .s) (x .c) (x .w))
+  concluded (converged del x) = errorTestOf g x del
+  concluded (toRetry x) = openPassOf (g .s .n) x
+  concluded (unconverged x) = passFailedOf (g .s) x
 
   abbrev pub Outcomes : (Outcome → Play) → Type 0
   Outcomes on = (o : Outcome) → Alive (g .s .n) (on o) → AtNode g (on o) (concluded o)
 
   module _ (on : Outcome → Play) (after : Outcomes on) where
     pub turns-stand : (k : ℕ) (v : Pass) (del : Float) (x : State) → Alive (g .s .n) (turns k g on v del x)
-        → AtNode g (turns k g on v del x)
-        (withPivots (x .p) (concludedAt (g .s) v (x .c) del (g .rtol) (g .atol) (x .w)))
+        → AtNode g (turns k g on v del x) (concludedAt g x v del)
     unfolding turns concludedAt askedInStepOf dealtOf furtherReplyOf iterateOf iterated
     turns-stand zero Converged del x a = after (converged del x) a
     turns-stand zero Retry del x a = after (toRetry x) a
@@ -56,28 +55,26 @@ module _ (g : Given) where
         (λ f t h. turns-stand k _ _ _ (a f h))
 
     pub iterations-stand : (x : State) → Alive (g .s .n) (iterations g on x)
-        → AtNode g (iterations g on x)
-        (withPivots (x .p) (iterationsOf (g .s) (x .c) (g .rtol) (g .atol) (x .p) (x .w)))
+        → AtNode g (iterations g on x) (iterationsOf g x)
     unfolding iterations iterationsOf iterateOf iterated
     iterations-stand x a = turns-stand (g .s .maxcor - 1) _ _ _ a
 
     -- ---- the Jacobian
 
     factored-stands : (done : Bool) (x : State) → Alive (g .s .n) (factoredIn g on done x)
-        → AtNode g (factoredIn g on done x)
-        (withPivots (x .p) (Machine.matrixDoneAt (g .s) (g .rtol) (g .atol) done (x .c) (x .p) (x .w)))
+        → AtNode g (factoredIn g on done x) (Machine.matrixDoneAt g x done)
     unfolding factoredIn Machine.matrixDoneAt
     factored-stands true x a = iterations-stand x a
     factored-stands false x a = after (unconverged x) a
 
     after-matrix-stands : (x : State) → Alive (g .s .n) (afterMatrix g on x)
-        → AtNode g (afterMatrix g on x) (matrixDoneOf (g .s) (x .c) (g .rtol) (g .atol) (x .p) (x .w))
+        → AtNode g (afterMatrix g on x) (matrixDoneOf g x)
     unfolding afterMatrix matrixDoneOf
     after-matrix-stands x a = factored-stands (factored g x .done) (factoredState (factored g x)) a
 
     -- column j, and k more
     columns-stand : (k j : ℕ) (x : State) → k + j + 1 ≡ g .s .n → Alive (g .s .n) (askColumns (suc k) j g on x)
-        → AtNode g (askColumns (suc k) j g on x) (withPivots (x .p) (askColumnOf (g .s) (x .c) j (x .w)))
+        → AtNode g (askColumns (suc k) j g on x) (askColumnOf (g .s) x j)
     unfolding askColumns askColumnOf askedInStepOf dealtOf columnReplyOf columnReplyAt
     columns-stand zero j x e a =
         derivative-stands g (columnAsked g j x) _ Phase.DifferenceColumn (λ kind len n. refl)
@@ -90,12 +87,12 @@ module _ (g : Given) where
 
     module _ (some : 1 ≤ g .s .n) where
       all-columns-stand : (k : ℕ) (x : State) → k ≡ g .s .n → Alive (g .s .n) (askColumns k 0 g on x)
-          → AtNode g (askColumns k 0 g on x) (withPivots (x .p) (askColumnOf (g .s) (x .c) 0 (x .w)))
+          → AtNode g (askColumns k 0 g on x) (askColumnOf (g .s) x 0)
       all-columns-stand zero x e a = absurd (omega arith)
       all-columns-stand (suc k) x e a = columns-stand k 0 x (omega arith) a
 
       matrix-stands : (supplied : Bool) (x : State) → Alive (g .s .n) (askMatrix g on supplied x)
-          → AtNode g (askMatrix g on supplied x) (withPivots (x .p) (askJacobianAt (g .s) supplied (x .c) (x .w)))
+          → AtNode g (askMatrix g on supplied x) (askJacobianAt (g .s) x supplied)
       unfolding askMatrix askJacobianAt dealtOf jacobianReplyOf
       matrix-stands true x a = jacobian-stands g x _ (λ f t h. after-matrix-stands (matrixGiven g f x) (a f h))
       matrix-stands false x a = all-columns-stand (g .s .n) (unperturbed g x) refl a
@@ -103,14 +100,13 @@ module _ (g : Given) where
       -- ---- a pass
 
       reply-stands : (due : Bool) (x : State) → Alive (g .s .n) (passAt g on due x)
-          → AtNode g (passAt g on due x)
-          (withPivots (x .p) (openedReplyAt (g .s) due (x .c) (g .rtol) (g .atol) (x .p) (x .w)))
+          → AtNode g (passAt g on due x) (openedReplyAt g x due)
       unfolding passAt openedReplyAt askJacobianOf
       reply-stands true x a = matrix-stands (isSupplied (g .s) (x .c)) (begun x) a
       reply-stands false x a = iterations-stand x a
 
       pub pass-stands : (x : State) → Alive (g .s .n) (pass g on x)
-          → AtNode g (pass g on x) (withPivots (x .p) (openPassOf (g .s .n) (x .c) (x .w)))
+          → AtNode g (pass g on x) (openPassOf (g .s .n) x)
       unfolding pass openPassOf askedInStepOf dealtOf openedReplyOf
       pass-stands x a =
           derivative-stands g (opened g x) _ Phase.Opened (λ kind len n. refl)

@@ -12,20 +12,19 @@ use Rattle.vectors.specs.declared.Weights.{Weights}
 use Rattle.vectors.specs.declared.Weights.the-variants.{Inverted, Refused}
 use Rattle.vectors.specs.Weights.{invertOf, weightsOutcome}
 use Rattle.common.specs.Layout.{ewt}
-use Rattle.common.specs.State.{Given, State}
+use Rattle.common.specs.State.{Given, State, put-w}
 use Rattle.between_steps.specs.declared.Answer.{Answer}
 use Rattle.between_steps.specs.declared.Answer.the-variants.{Continue, Interrupt, Modified}
 use Rattle.between_steps.specs.declared.Status.the-variants as Status
 use Rattle.between_steps.specs.Begin.{isGoing}
 use Rattle.between_steps.specs.Start.{inverted}
 use Rattle.questions.specs.declared.Phase.the-variants as Phase
-use Rattle.questions.specs.Turns.{withPivots, askedOf}
+use Rattle.questions.specs.Turns.{askedOf}
 use Rattle.questions.specs.Begin.{goOnOf}
 use Rattle.common.specs.Initial.{initialOf}
 use Rattle.reports.specs.Reports.{sizedAt, sizedOf, weightedAt, firstDerivativeOf}
 use Rattle.reports.specs.Reports as Machine
 use Rattle.machine.specs.Resume.{dealtOf}
-use Rattle.rules.specs.Pass.{put-w}
 use Rattle.rules.specs.Rules.{Start, beginning, sizedState, firstModified, firstRestarted, firstAnswered, sized}
 use Rattle.rules.specs.Rules.{firstStep, weighted, firstWeights, started, start, timed, solve}
 use Rattle.refinement.specs.Shown.{shownAs}
@@ -41,7 +40,7 @@ module _ (g : Given) (some : 1 ≤ g .s .n) where
 
   first-answered-stands : (x : State) (a : Answer) (f : List Float) (t : Float)
       → Alive (g .s .n) (firstAnswered g x a f t)
-      → AtNode g (firstAnswered g x a f t) (withPivots (x .p) (Machine.afterFirstReportOf (g .s) (x .c) a f t (x .w)))
+      → AtNode g (firstAnswered g x a f t) (Machine.afterFirstReportOf (g .s) x a f t)
   unfolding firstAnswered Machine.afterFirstReportOf askedOf dealtOf Machine.firstModifiedOf
   first-answered-stands x Continue f t a = solved-stands (g .s .maxsteps) (timed t x) a
   first-answered-stands x Interrupt f t a = ended-stands g Status.Interrupted (timed t x)
@@ -50,27 +49,26 @@ module _ (g : Given) (some : 1 ≤ g .s .n) where
       (λ d u h. solved-stands (g .s .maxsteps) (firstRestarted g d (firstModified g f t x)) (a d h))
 
   sized-stands : (refuses : Bool) (h : Float) (x : State) → Alive (g .s .n) (sized g refuses h x)
-      → AtNode g (sized g refuses h x) (withPivots (x .p) (sizedAt (g .s) refuses (x .c) h (x .w)))
+      → AtNode g (sized g refuses h x) (sizedAt (g .s) x h refuses)
   unfolding sized sizedAt shownAs dealtOf
   sized-stands true h x a =
       record { shows = refl; holds = record { same = refl; takes = λ r. refl } }
   sized-stands false h x a =
-      let l = withPivots (x .p) (sizedAt (g .s) false (x .c) h (x .w)) in (
+      let l = sizedAt (g .s) x h false in (
         record { shows = refl; holds = record { same = refl; takes = λ r. refl } },
         λ b f t q. rw (takes-answer g l f t b (λ len. refl) q)
             (first-answered-stands (sizedState g h x) b f t (a b f t q)),
       )
 
   weighted-stands : (w : Weights) (x : State) → Alive (g .s .n) (weighted g w x)
-      → AtNode g (weighted g w x) (withPivots (x .p) (weightedAt (g .s) (x .c) (g .rtol) (g .atol) w (x .w)))
+      → AtNode g (weighted g w x) (weightedAt g x w)
   unfolding weighted weightedAt sizedOf shownAs
   weighted-stands (Refused i) x a =
       record { shows = refl; holds = record { same = refl; takes = λ r. refl } }
   weighted-stands Inverted x a = sized-stands (refused (firstStep g x) (g .s .direction)) (firstStep g x) x a
 
   started-stands : (f : List Float) (x : State) → Alive (g .s .n) (started g f x)
-      → AtNode g (started g f x)
-      (withPivots (x .p) (firstDerivativeOf (g .s) (x .c) (g .rtol) (g .atol) f (x .w)))
+      → AtNode g (started g f x) (firstDerivativeOf g x f)
   unfolding started firstDerivativeOf
   started-stands f x a =
       let w = firstWeights g f x in

@@ -13,7 +13,7 @@ use Rattle.numbers.specs.Float.{oneF}
 use Rattle.vectors.specs.declared.Weights.{Weights}
 use Rattle.vectors.specs.declared.Weights.the-variants.{Inverted, Refused}
 use Rattle.common.specs.Limits.{mxncfOf}
-use Rattle.common.specs.State.{Given, State}
+use Rattle.common.specs.State.{Given, State, put-w}
 use Rattle.attempt.specs.declared.Next.{Next}
 use Rattle.attempt.specs.declared.Next.the-variants as Next
 use Rattle.acceptance.specs.declared.Branch.{Branch}
@@ -24,7 +24,7 @@ use Rattle.between_steps.specs.declared.Status.{Status}
 use Rattle.between_steps.specs.declared.Status.the-variants as Status
 use Rattle.between_steps.specs.Begin.{firstPredictionOf as openedOf, isGoing}
 use Rattle.questions.specs.declared.Phase.the-variants as Phase
-use Rattle.questions.specs.Turns.{RunState, turnWork, withPivots, askedOf, askedInStepOf, finishedOf}
+use Rattle.questions.specs.Turns.{RunState, turnAt, askedOf, askedInStepOf, finishedOf}
 use Rattle.questions.specs.Begin.{openPassOf, beganOf, goOnAt, goOnOf}
 use Rattle.passes.specs.Pass.{attemptedAt, reportedOf, closedAt, endStepOf, acceptedAt, acceptedOf, errorTestAt}
 use Rattle.passes.specs.Pass.{errorTestOf}
@@ -33,7 +33,7 @@ use Rattle.passes.specs.Pass as Machine
 use Rattle.reports.specs.Reports.{afterReportOf, modifiedOf}
 use Rattle.machine.specs.Resume.{dealtOf}
 use Rattle.rules.specs.Play.{Play, ret, finished}
-use Rattle.rules.specs.Pass.{converged, toRetry, unconverged, put-w}
+use Rattle.rules.specs.Pass.{converged, toRetry, unconverged}
 use Rattle.rules.specs.Rules.{endedAccepted, single, restepped, follow, attempted, tested}
 use Rattle.rules.specs.Rules.{errorAt, decide, attempts, reportedState, modified, restarted, afterReport, taken, timed}
 use Rattle.rules.specs.Rules.{closed, closing, isGap, afterAcceptance, acceptance, settledState, stepped, predicted}
@@ -48,7 +48,7 @@ use Rattle.refinement.proofs.Pass.{Outcomes, pass-stands}
 module _ (g : Given) where
   -- the end of a run
   abbrev pub ended : Status → State → RunState
-  ended status x = withPivots (x .p) (turnWork (finishedOf (x .c) status) (x .w))
+  ended status x = turnAt (finishedOf (x .c) status) x
 
   pub ended-stands : (status : Status) (x : State) → AtNode g (ret (finished status x)) (ended status x)
   unfolding finishedOf shownAs
@@ -57,20 +57,20 @@ module _ (g : Given) where
 
   -- what follows a step
   abbrev pub goes : State → RunState
-  goes x = withPivots (x .p) (goOnOf (g .s) (x .c) (x .w))
+  goes x = goOnOf (g .s) x
 
   abbrev pub GoesOn : (State → Play) → Type 0
   GoesOn on = (x : State) → Alive (g .s .n) (on x) → AtNode g (on x) (goes x)
 
   -- what follows an attempt
   abbrev pub opens : State → RunState
-  opens x = withPivots (x .p) (openPassOf (g .s .n) (x .c) (x .w))
+  opens x = openPassOf (g .s .n) x
 
   module _ (on : State → Play) (onward : GoesOn on) where
     -- ---- the end of a step
 
     answered-stands : (x : State) (a : Answer) (f : List Float) (t : Float) → Alive (g .s .n) (afterReport g on x a f t)
-        → AtNode g (afterReport g on x a f t) (withPivots (x .p) (afterReportOf (g .s) (x .c) a f t (x .w)))
+        → AtNode g (afterReport g on x a f t) (afterReportOf (g .s) x a f t)
     unfolding afterReport afterReportOf askedOf dealtOf modifiedOf
     answered-stands x Continue f t a = onward (timed t (taken g f x)) a
     answered-stands x Interrupt f t a = ended-stands Status.Interrupted (timed t (taken g f x))
@@ -79,12 +79,12 @@ module _ (g : Given) where
         (λ d u h. onward (restarted g d (modified g f x)) (a d h))
 
     closed-stands : (w : Weights) (x : State) → Alive (g .s .n) (closed g on w x)
-        → AtNode g (closed g on w x) (withPivots (x .p) (closedAt (g .s .n) (x .c) w (x .w)))
+        → AtNode g (closed g on w x) (closedAt (g .s .n) x w)
     unfolding closed closedAt reportedOf shownAs dealtOf
     closed-stands (Refused i) x a =
         record { shows = refl; holds = record { same = refl; takes = λ r. refl } }
     closed-stands Inverted x a =
-        let l = withPivots (x .p) (reportedOf (g .s .n) (x .c) (x .w)) in (
+        let l = reportedOf (g .s .n) x in (
           record { shows = refl; holds = record { same = refl; takes = λ r. refl } },
           λ b f t h. rw (takes-answer g l f t b (λ k. refl) h) (answered-stands (reportedState g x) b f t (a b f t h)),
         )
@@ -92,13 +92,12 @@ module _ (g : Given) where
     close-stands : (order : ℕ) (x : State)
         → Alive (g .s .n) (closed g on (closing g order x .weights) (put-w (closing g order x .work) x))
         → AtNode g (closed g on (closing g order x .weights) (put-w (closing g order x .work) x))
-        (withPivots (x .p) (endStepOf (g .s) (x .c) order (g .rtol) (g .atol) (x .w)))
+        (endStepOf g x order)
     unfolding endStepOf
     close-stands order x a = closed-stands (closing g order x .weights) (put-w (closing g order x .work) x) a
 
     settled-stands : (order : ℕ) (b : Branch) (x : State) → Alive (g .s .n) (afterAcceptance g on order (isGap b) x)
-        → AtNode g (afterAcceptance g on order (isGap b) x)
-        (withPivots (x .p) (acceptedAt (g .s) order (g .rtol) (g .atol) b (x .c) (x .w)))
+        → AtNode g (afterAcceptance g on order (isGap b) x) (acceptedAt g x order b)
     unfolding afterAcceptance acceptedAt
     settled-stands order Branch.CoefficientGap x a = ended-stands Status.CoefficientGap x
     settled-stands order Branch.Unchanged x a = close-stands order x a
@@ -110,8 +109,7 @@ module _ (g : Given) where
     settled-stands order Branch.FamilyChanged x a = close-stands order x a
 
     accepted-stands : (dsm : Float) (x : State) → Alive (g .s .n) (stepped g on (endedAccepted dsm x))
-        → AtNode g (stepped g on (endedAccepted dsm x))
-        (withPivots (x .p) (acceptedOf (g .s) (x .c) dsm (g .rtol) (g .atol) (x .w)))
+        → AtNode g (stepped g on (endedAccepted dsm x)) (acceptedOf g x dsm)
     unfolding stepped acceptedOf
     accepted-stands dsm x a =
         settled-stands (x .c .nq) (acceptance g dsm x .branch) (settledState x (acceptance g dsm x)) a
@@ -121,7 +119,7 @@ module _ (g : Given) where
     module _ (again : State → Play)
         (repeats : (x : State) → Alive (g .s .n) (again x) → AtNode g (again x) (opens x)) where
       follow-stands : (v : Next) (x : State) → Alive (g .s .n) (follow g again (stepped g on) v x)
-          → AtNode g (follow g again (stepped g on) v x) (withPivots (x .p) (attemptedAt (g .s .n) v (x .c) (x .w)))
+          → AtNode g (follow g again (stepped g on) v x) (attemptedAt (g .s .n) x v)
       unfolding follow stepped attemptedAt askedInStepOf dealtOf Machine.restepReplyOf
       follow-stands Next.Pass x a = repeats x a
       follow-stands Next.Restep x a =
@@ -132,8 +130,7 @@ module _ (g : Given) where
 
       tested-stands : (above : Bool) (dsm : Float) (x : State)
           → Alive (g .s .n) (tested g again (stepped g on) above dsm x)
-          → AtNode g (tested g again (stepped g on) above dsm x)
-          (withPivots (x .p) (errorTestAt (g .s) (x .c) dsm (g .rtol) (g .atol) above (x .w)))
+          → AtNode g (tested g again (stepped g on) above dsm x) (errorTestAt g x dsm above)
       unfolding tested attempted errorTestAt
       tested-stands true dsm x a = follow-stands _ _ a
       tested-stands false dsm x a = accepted-stands dsm x a
@@ -154,7 +151,7 @@ module _ (g : Given) where
           (decide-stands (attempts k g (stepped g on)) (attempts-stand k)) some x a
 
       pub step-stands : (x : State) → Alive (g .s .n) (step g on x)
-          → AtNode g (step g on x) (withPivots (x .p) (beganOf (g .s) (x .c) (x .w)))
+          → AtNode g (step g on x) (beganOf (g .s) x)
       unfolding step beganOf openedOf
       step-stands x a = attempts-stand (mxncfOf (g .s) + 12) (predicted g x) a
 
@@ -162,7 +159,7 @@ module _ (g : Given) where
 
   pub solve-stands : 1 ≤ g .s .n → (k : ℕ) (going enough : Bool) (x : State)
       → Alive (g .s .n) (solveAt k g going enough x)
-      → AtNode g (solveAt k g going enough x) (withPivots (x .p) (goOnAt (g .s) going enough (x .c) (x .w)))
+      → AtNode g (solveAt k g going enough x) (goOnAt (g .s) x going enough)
   unfolding solveAt goOnAt goOnOf
   solve-stands some zero false enough x a = ended-stands Status.Success x
   solve-stands some zero true true x a = ended-stands Status.NeedsMoreSteps x

@@ -1,12 +1,14 @@
 // The start and the reports: the first step, and what the host's answers and a state that it has modified lead to.
+ghost use mathlib.Core.List.{List};
 ghost use mathlib.Core.Path.{_≡_};
-ghost use Prim.Native.Nat.{_-_, _≤_};
+ghost use Prim.Native.Nat.{ℕ, _-_, _≤_};
 ghost use lib.ListN.{length};
 ghost use Rattle.vectors.specs.Tolerance.{List1OrN};
 ghost use Rattle.common.specs.Layout.{matrixAt};
+ghost use Rattle.common.specs.State.{given, state};
 ghost use Rattle.between_steps.specs.Ranges.{Inside};
 ghost use Rattle.between_steps.specs.Start.{firstStepOf};
-ghost use Rattle.questions.specs.Turns.{turnWork};
+ghost use Rattle.questions.specs.Turns.{runState};
 ghost use Rattle.reports.specs.Reports.{sizedOf, firstDerivativeOf, afterFirstReportOf, firstModifiedOf};
 ghost use Rattle.reports.specs.Reports.{afterReportOf, modifiedOf};
 
@@ -22,7 +24,7 @@ use questions::Turn;
 // The first step is known: refused (11), or the first report.
 fn sized(s: Settings, c: Common, h: f64, work: &mut [f64]) -> Turn
     requires { ⌜ matrixAt (s .n) ≤ length (now work) ⌝ }
-    ensures { λ r. ⌜ turnWork r (now (work .exit)) ≡ sizedOf s c h (now (work .entry)) ⌝ }
+    ensures { λ r. ⌜ ((p : List ℕ) → runState r (now (work .exit)) p ≡ sizedOf s (state c (now (work .entry)) p) h) ⌝ }
 {
     let mut d = c;
     d.h = h;
@@ -40,9 +42,9 @@ fn weighted(s: Settings, c: Common, rtol: &[f64], atol: &[f64], work: &mut [f64]
     requires { ⌜ List1OrN (now rtol) (s .n - 1) ⌝ }
     requires { ⌜ List1OrN (now atol) (s .n - 1) ⌝ }
     requires { ⌜ matrixAt (s .n) ≤ length (now work) ⌝ }
-    ensures { λ r. ⌜ turnWork r (now (work .exit))
-        ≡ sizedOf s c (firstStepOf s c (now (rtol .entry)) (now (atol .entry)) (now (work .entry)))
-            (now (work .entry)) ⌝ }
+    ensures { λ r. ⌜ ((p : List ℕ) → runState r (now (work .exit)) p
+        ≡ sizedOf s (state c (now (work .entry)) p)
+            (firstStepOf s c (now (rtol .entry)) (now (atol .entry)) (now (work .entry)))) ⌝ }
 {
     let given = s.given;
     if given {
@@ -63,8 +65,9 @@ pub fn first_derivative(s: Settings, c: Common, rtol: &[f64], atol: &[f64], f: &
     requires { ⌜ List1OrN (now atol) (s .n - 1) ⌝ }
     requires { ⌜ length (now f) ≡ s .n ⌝ }
     requires { ⌜ matrixAt (s .n) ≤ length (now work) ⌝ }
-    ensures { λ r. ⌜ turnWork r (now (work .exit))
-        ≡ firstDerivativeOf s c (now (rtol .entry)) (now (atol .entry)) (now (f .entry)) (now (work .entry)) ⌝ }
+    ensures { λ r. ⌜ ((p : List ℕ) → runState r (now (work .exit)) p
+        ≡ firstDerivativeOf (given s (now (rtol .entry)) (now (atol .entry)))
+            (state c (now (work .entry)) p) (now (f .entry))) ⌝ }
 {
     let n = s.n;
     between_steps::take_first(n, f, work);
@@ -83,8 +86,8 @@ pub fn after_first_report(s: Settings, c: Common, answer: Answer, y: &[f64], tim
     requires { ⌜ Inside s c ⌝ }
     requires { ⌜ length (now y) ≡ s .n ⌝ }
     requires { ⌜ matrixAt (s .n) ≤ length (now work) ⌝ }
-    ensures { λ r. ⌜ turnWork r (now (work .exit))
-        ≡ afterFirstReportOf s c answer (now (y .entry)) time (now (work .entry)) ⌝ }
+    ensures { λ r. ⌜ ((p : List ℕ) → runState r (now (work .exit)) p
+        ≡ afterFirstReportOf s (state c (now (work .entry)) p) answer (now (y .entry)) time) ⌝ }
 {
     let mut d = c;
     d.tn = time;
@@ -103,7 +106,8 @@ pub fn first_modified(s: Settings, c: Common, f: &[f64], work: &mut [f64]) -> Tu
     requires { ⌜ Inside s c ⌝ }
     requires { ⌜ length (now f) ≡ s .n ⌝ }
     requires { ⌜ matrixAt (s .n) ≤ length (now work) ⌝ }
-    ensures { λ r. ⌜ turnWork r (now (work .exit)) ≡ firstModifiedOf s c (now (f .entry)) (now (work .entry)) ⌝ }
+    ensures { λ r. ⌜ ((p : List ℕ) → runState r (now (work .exit)) p
+        ≡ firstModifiedOf s (state c (now (work .entry)) p) (now (f .entry))) ⌝ }
 {
     let n = s.n;
     history::store(work, common::SAVF * n, f);
@@ -115,8 +119,8 @@ pub fn after_report(s: Settings, c: Common, answer: Answer, y: &[f64], time: f64
     requires { ⌜ Inside s c ⌝ }
     requires { ⌜ length (now y) ≡ s .n ⌝ }
     requires { ⌜ matrixAt (s .n) ≤ length (now work) ⌝ }
-    ensures { λ r. ⌜ turnWork r (now (work .exit))
-        ≡ afterReportOf s c answer (now (y .entry)) time (now (work .entry)) ⌝ }
+    ensures { λ r. ⌜ ((p : List ℕ) → runState r (now (work .exit)) p
+        ≡ afterReportOf s (state c (now (work .entry)) p) answer (now (y .entry)) time) ⌝ }
 {
     between_steps::take_state(s.n, y, work);
     let mut d = c;
@@ -136,7 +140,8 @@ pub fn modified(s: Settings, c: Common, f: &[f64], work: &mut [f64]) -> Turn
     requires { ⌜ Inside s c ⌝ }
     requires { ⌜ length (now f) ≡ s .n ⌝ }
     requires { ⌜ matrixAt (s .n) ≤ length (now work) ⌝ }
-    ensures { λ r. ⌜ turnWork r (now (work .exit)) ≡ modifiedOf s c (now (f .entry)) (now (work .entry)) ⌝ }
+    ensures { λ r. ⌜ ((p : List ℕ) → runState r (now (work .exit)) p
+        ≡ modifiedOf s (state c (now (work .entry)) p) (now (f .entry))) ⌝ }
 {
     let n = s.n;
     history::store(work, common::SAVF * n, f);

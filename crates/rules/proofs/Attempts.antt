@@ -12,13 +12,13 @@ use Rattle.common.specs.declared.Settings.{Settings}
 use Rattle.common.specs.declared.Common.{Common}
 use Rattle.common.specs.Limits.{mxncfOf}
 use Rattle.common.specs.Record.{isBdf}
-use Rattle.common.specs.State.{Given, State}
+use Rattle.common.specs.State.{Given, State, made}
 use Rattle.attempt.specs.declared.Next.{Next}
 use Rattle.attempt.specs.declared.Next.the-variants as Next
 use Rattle.attempt.specs.Attempt.{restepOf}
 use Rattle.attempt.proofs.Laws.{unconverged as law-unconverged, failed as law-failed, restepped as law-restepped}
 use Rattle.rules.specs.Play.{Play}
-use Rattle.rules.specs.Pass.{made, askedInStep, stored}
+use Rattle.rules.specs.Pass.{askedInStep, stored}
 use Rattle.rules.specs.Rules.{Ended, single, restepped, follow, attempted}
 use Rattle.rules.specs.Rules.{afterError, afterNoConvergence, tested, errorAt, decide, attempts}
 use Rattle.rules.specs.Steps.{Tally, Step, oneDerivative, oneRetry}

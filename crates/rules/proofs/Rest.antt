@@ -18,14 +18,14 @@ use Rattle.common.specs.declared.MethodFamily.the-variants.{Bdf}
 use Rattle.common.specs.declared.Settings.{Settings}
 use Rattle.common.specs.declared.Common.{Common}
 use Rattle.common.specs.Rules.{icount20}
-use Rattle.common.specs.State.{Given, State}
+use Rattle.common.specs.State.{Given, State, put-w}
 use Rattle.acceptance.specs.Accept.{acceptOf}
 use Rattle.acceptance.proofs.Laws.{accept-keeps}
 use Rattle.between_steps.specs.declared.Answer.{Answer}
 use Rattle.between_steps.specs.declared.Answer.the-variants.{Continue, Interrupt, Modified}
 use Rattle.between_steps.specs.Ranges.{Accepted}
 use Rattle.rules.specs.Play.{Question, Play, Ending, accepted, gap, tooSmall, poor}
-use Rattle.rules.specs.Pass.{put-w, asked}
+use Rattle.rules.specs.Pass.{asked}
 use Rattle.rules.specs.Rules.{reportedState, taken, timed, modified, restarted, afterReport, closed, closing}
 use Rattle.rules.specs.Rules.{afterAcceptance, acceptance, settledState, stepped, limitsOf}
 use Rattle.rules.specs.Steps.{Tally, Step, requested, noted, isEnded, isEndedKeeping, number}

@@ -11,14 +11,13 @@ use Rattle.common.specs.declared.Settings.{Settings}
 use Rattle.common.specs.declared.Common.{Common}
 use Rattle.common.specs.Layout.{ftemAt, acorAt, yAt, yfdAt, y, yfd}
 use Rattle.common.specs.Record.{with-nfe, with-count, with-column}
-use Rattle.common.specs.State.{Given, State}
+use Rattle.common.specs.State.{Given, State, made, put-c, put-w}
 use Rattle.history.specs.Columns.{copyOf, fillOf}
 use Rattle.history.specs.Parts.{storedOf}
 use Rattle.jacobian.specs.Jacobian.{beginOf, perturbOf, restoreOf, suppliedOf, Factored, finishJacobianOf as factorsOf}
 use Rattle.corrector.specs.declared.Pass.{Pass}
 use Rattle.corrector.specs.declared.Pass.the-variants.{Converged, Retry, NoConvergence, Further}
 use Rattle.corrector.specs.Iterate.{openOf, correctOf}
-use Rattle.common.specs.State.{Moved}
 use Rattle.between_steps.specs.Start.{withDerivative}
 use Rattle.between_steps.specs.Pass.{verdictOf, isSupplied}
 use Rattle.rules.specs.Play.{Question, derivativeAt, jacobianAt}
@@ -26,18 +25,6 @@ use Rattle.rules.specs.Play.{Source, byDifferences, supplied, opens, jac
 use Rattle.rules.specs.Play.{exhausted, Play, ret, ask, say}
 
 -- ---- states
-
-abbrev pub made : State → Common → List Float → State
-made x c w = record { c = c; w = w; p = x .p }
-
-abbrev pub put-c : Common → State → State
-put-c c x = made x c (x .w)
-
-abbrev pub put-w : List Float → State → State
-put-w w x = made x (x .c) w
-
-abbrev pub movedTo : State → Moved → State
-movedTo x m = made x (m .common) (m .work)
 
 -- a derivative is asked for, in no step and in the step under way: the counts rise with the question
 abbrev pub asked : Common → Common

@@ -20,7 +20,7 @@ use Rattle.common.specs.declared.Settings.{Settings}
 use Rattle.common.specs.Layout.{ewtAt, yAt, workLength, y, ewt}
 use Rattle.common.specs.Limits.{mxncfOf}
 use Rattle.common.specs.Record.{with-total, with-tn, with-h}
-use Rattle.common.specs.State.{Given, State}
+use Rattle.common.specs.State.{Given, State, made, put-c, put-w, movedTo}
 use Rattle.history.specs.Columns.{copyOf, slopeOf}
 use Rattle.attempt.specs.declared.Next.{Next}
 use Rattle.attempt.specs.declared.Next.the-variants as Next
@@ -37,7 +37,7 @@ use Rattle.between_steps.specs.Start.{firstSizeOf, firstStepOf, inverted, taken
 use Rattle.common.specs.Initial.{initialOf}
 use Rattle.rules.specs.Play.{Report, Limits, accepted, gap, tooSmall, poor, begins, ends, finished, stepRefused}
 use Rattle.rules.specs.Play.{weightRefused, exhausted, Play, ret, ask, tell, say}
-use Rattle.rules.specs.Pass.{made, put-c, put-w, movedTo, asked, askedInStep, wanted, stored, columnsOf}
+use Rattle.rules.specs.Pass.{asked, askedInStep, wanted, stored, columnsOf}
 use Rattle.rules.specs.Pass.{Outcome, converged, toRetry, unconverged, pass}
 
 -- ---- the attempts of a step

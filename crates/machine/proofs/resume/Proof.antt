@@ -7,7 +7,6 @@ use borrow.Author.Tests.{not-true, not-false}
 use Rattle.common.specs.State.{given, state}
 use Rattle.between_steps.specs.declared.Kind.{Kind}
 use Rattle.between_steps.proofs.Inside.{inside-ranges}
-use Rattle.questions.specs.Turns.{withPivots}
 use Rattle.questions.specs.declared.Phase.{Phase}
 use Rattle.questions.specs.declared.Phase.the-variants as Phase
 use Rattle.machine.specs.Resume.{unasked, firstAnsweredOf, answeredOf, dealtOf}
@@ -152,7 +151,7 @@ returns-2 c =
     let e = c .before .before .before .before in
     let i = e .before .before in
     let yes = sym (i .before .is-asked .ensures) ∙ not-false _ (i .if1 .left) in
-    ap (withPivots _) (c .before .before .first-derivative .ensures)
+    c .before .before .first-derivative .ensures _
     ∙ sym (resume-asked _ _ _ _ _ _ Phase.FirstDerivative (e .enum-told .given .1) yes)
 
 returns-3 : tie.Need-returns-3
@@ -164,7 +163,7 @@ returns-3 c =
     let yes = sym (i .before .is-asked .ensures) ∙ not-false _ (i .if1 .left) in
     let g = given (x .x .settings) (now (x .rtol)) (now (x .atol)) in
     let st = state (x .x .common) (now (x .work)) (now (x .ipiv)) in
-    ap (withPivots _) (c .before .before .after-first-report .ensures)
+    c .before .before .after-first-report .ensures _
     ∙ sym (ap (λ (k : Kind). firstAnsweredOf g st k (now (x .reply)) (x .time))
       (c .before .before .before .before .before .kind .given .1))
     ∙ sym (resume-asked _ _ _ _ _ _ Phase.FirstReport (e .enum-told2 .given .1) yes)
@@ -188,7 +187,7 @@ returns-5 c =
     let e = c .before .before .before .before in
     let i = e .before .before in
     let yes = sym (i .before .is-asked .ensures) ∙ not-false _ (i .if1 .left) in
-    ap (withPivots _) (c .before .before .first-modified .ensures)
+    c .before .before .first-modified .ensures _
     ∙ sym (resume-asked _ _ _ _ _ _ Phase.FirstModified (e .enum-told3 .given .1) yes)
 
 returns-6 : tie.Need-returns-6
@@ -197,7 +196,7 @@ returns-6 c =
     let e = c .before .before .before .before .before in
     let i = e .before .before in
     let yes = sym (i .before .is-asked .ensures) ∙ not-false _ (i .if1 .left) in
-    ap (withPivots _) (c .before .before .opened-reply .ensures)
+    c .before .before .opened-reply .ensures
     ∙ sym (resume-asked _ _ _ _ _ _ Phase.Opened (e .enum-told4 .given .1) yes)
 
 returns-7 : tie.Need-returns-7
@@ -224,7 +223,7 @@ returns-9 c =
     let e = c .before .before .before .before .before in
     let i = e .before .before in
     let yes = sym (i .before .is-asked .ensures) ∙ not-false _ (i .if1 .left) in
-    ap (withPivots _) (c .before .before .further-reply .ensures)
+    c .before .before .further-reply .ensures
     ∙ sym (resume-asked _ _ _ _ _ _ Phase.FurtherDerivative (e .enum-told7 .given .1) yes)
 
 returns-10 : tie.Need-returns-10
@@ -233,7 +232,7 @@ returns-10 c =
     let e = c .before .before .before .before in
     let i = e .before .before in
     let yes = sym (i .before .is-asked .ensures) ∙ not-false _ (i .if1 .left) in
-    ap (withPivots _) (c .before .before .restep-reply .ensures)
+    c .before .before .restep-reply .ensures _
     ∙ sym (resume-asked _ _ _ _ _ _ Phase.Restep (e .enum-told8 .given .1) yes)
 
 returns-11 : tie.Need-returns-11
@@ -245,7 +244,7 @@ returns-11 c =
     let yes = sym (i .before .is-asked .ensures) ∙ not-false _ (i .if1 .left) in
     let g = given (x .x .settings) (now (x .rtol)) (now (x .atol)) in
     let st = state (x .x .common) (now (x .work)) (now (x .ipiv)) in
-    ap (withPivots _) (c .before .before .after-report .ensures)
+    c .before .before .after-report .ensures _
     ∙ sym (ap (λ (k : Kind). answeredOf g st k (now (x .reply)) (x .time))
       (c .before .before .before .before .before .kind2 .given .1))
     ∙ sym (resume-asked _ _ _ _ _ _ Phase.Report (e .enum-told9 .given .1) yes)
@@ -269,7 +268,7 @@ returns-13 c =
     let e = c .before .before .before .before in
     let i = e .before .before in
     let yes = sym (i .before .is-asked .ensures) ∙ not-false _ (i .if1 .left) in
-    ap (withPivots _) (c .before .before .modified .ensures)
+    c .before .before .modified .ensures _
     ∙ sym (resume-asked _ _ _ _ _ _ Phase.Modified (e .enum-told10 .given .1) yes)
 
 returns-14 : tie.Need-returns-14

@@ -8,8 +8,7 @@ use lib.Ieee.{Float}
 use denote.Enum.Declared.{tagOf}
 use types.Run.{OneOf, miss}
 use borrow.Author.Needs.{needs}
-use Rattle.common.specs.declared.Settings.{Settings}
-use Rattle.common.specs.declared.Common.{Common}
+use Rattle.common.specs.State.{Given, State}
 use Rattle.acceptance.specs.declared.Branch.{Branch}
 use Rattle.acceptance.specs.declared.Branch.the-variants.{Unchanged, SmallGain, Lowered, Kept as KeptOrder, Raised}
 use Rattle.acceptance.specs.declared.Branch.the-variants.{HeldBySm1, FamilyChanged, CoefficientGap}
@@ -21,18 +20,17 @@ use Rattle.passes.proofs.accepted.Statement.{statement}
 use Rattle.passes.proofs.accepted.Tie as tie
 
 -- every branch but the gap
-closes : (s : Settings) (order : ℕ) (rtol atol : List Float) (b : Branch) (c : Common) (work : List Float)
-    → OneOf (0 ∷ 1 ∷ 2 ∷ 3 ∷ 4 ∷ 5 ∷ 6 ∷ []) (tagOf the-type b)
-    → acceptedAt s order rtol atol b c work ≡ endStepOf s c order rtol atol work
+closes : (g : Given) (x : State) (order : ℕ) (b : Branch) → OneOf (0 ∷ 1 ∷ 2 ∷ 3 ∷ 4 ∷ 5 ∷ 6 ∷ []) (tagOf the-type b)
+    → acceptedAt g x order b ≡ endStepOf g x order
 unfolding acceptedAt
-closes s order rtol atol Unchanged c work h = refl
-closes s order rtol atol SmallGain c work h = refl
-closes s order rtol atol Lowered c work h = refl
-closes s order rtol atol KeptOrder c work h = refl
-closes s order rtol atol Raised c work h = refl
-closes s order rtol atol HeldBySm1 c work h = refl
-closes s order rtol atol FamilyChanged c work h = refl
-closes s order rtol atol CoefficientGap c work h = absurd (miss (0 ∷ 1 ∷ 2 ∷ 3 ∷ 4 ∷ 5 ∷ 6 ∷ []) 7 tt h)
+closes g x order Unchanged h = refl
+closes g x order SmallGain h = refl
+closes g x order Lowered h = refl
+closes g x order KeptOrder h = refl
+closes g x order Raised h = refl
+closes g x order HeldBySm1 h = refl
+closes g x order FamilyChanged h = refl
+closes g x order CoefficientGap h = absurd (miss (0 ∷ 1 ∷ 2 ∷ 3 ∷ 4 ∷ 5 ∷ 6 ∷ []) 7 tt h)
 
 enum-told : tie.Need-enum-told
 enum-told c = search needs
@@ -57,15 +55,16 @@ end-step-requires c κs =
 
 returns : tie.Need-returns
 unfolding acceptedOf acceptedAt
-returns c =
+returns c p =
     rw (← c .before .before .before .before .before .before .accept .ensures, c .before .enum-told .given .1,
       c .finish .ensures)
 
 returns-2 : tie.Need-returns-2
 unfolding acceptedOf
-returns-2 c =     rw (← c .before .before .before .before .before .before .before .before .accept .ensures)
-    (c .before .before .end-step .ensures
-      ∙ sym (closes _ _ _ _ _ _ _ (c .before .before .before .before .match .keys2)))
+returns-2 c p =
+    rw (← c .before .before .before .before .before .before .before .before .accept .ensures)
+    (c .before .before .end-step .ensures p
+      ∙ sym (closes _ _ _ _ (c .before .before .before .before .match .keys2)))
 
 pub accepted-spec : {M : Type 1} → statement M
 accepted-spec =

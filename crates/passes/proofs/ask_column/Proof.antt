@@ -6,7 +6,7 @@ use Rattle.passes.proofs.ask_column.Tie as tie
 
 returns : tie.Need-returns
 unfolding askColumnOf
-returns c = rw (c .ask-in-step .ensures, c .before .before .before .perturb .ensures)
+returns c p = rw (c .ask-in-step .ensures, c .before .before .before .perturb .ensures)
 
 pub ask-column-spec : {M : Type 1} → statement M
 ask-column-spec = tie.close (tie.spec (λ c κs. search needs) (λ c κs. search needs) (λ c. search needs) returns)

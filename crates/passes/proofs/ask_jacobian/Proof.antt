@@ -13,7 +13,7 @@ use Rattle.passes.proofs.ask_jacobian.Tie as tie
 
 returns : tie.Need-returns
 unfolding askJacobianOf askJacobianAt beginOf
-returns c =
+returns c p =
     let b = c .before .before in
     rw (← b .is-bdf .ensures, c .before .if1 .taken, c .if2 .taken, b .before .begin-jacobian .ensures)
 
@@ -29,7 +29,7 @@ ask-column-requires c κs =
 
 returns-2 : tie.Need-returns-2
 unfolding askJacobianOf askJacobianAt
-returns-2 c =
+returns-2 c p =
     let i = c .before .before .before .before .before .before .before .before in
     let a = i .before .before .before .before .args in
     let b = i .before .is-bdf .ensures in
@@ -37,7 +37,8 @@ returns-2 c =
     ⊎-elim (λ w. rw (← b, w .0 .taken, w .1 .left)) (λ w. rw (← b, w .left)) (i .if1 .came)
     in
     rw (none, ← i .before .before .begin-jacobian .ensures,
-      ← c .before .before .before .before .before .before .copy-part .ensures) (c .before .before .ask-column .ensures)
+      ← c .before .before .before .before .before .before .copy-part .ensures)
+    (c .before .before .ask-column .ensures p)
 
 pub ask-jacobian-spec : {M : Type 1} → statement M
 ask-jacobian-spec =

@@ -9,19 +9,19 @@ enum-told c = search needs
 
 returns : tie.Need-returns
 unfolding attemptedAt
-returns c = rw (c .before .before .before .before .enum-told .given .1) (c .before .before .open-pass .ensures)
+returns c p = rw (c .before .before .before .before .enum-told .given .1) (c .before .before .open-pass .ensures p)
 
 returns-2 : tie.Need-returns-2
 unfolding attemptedAt
-returns-2 c = rw (c .before .enum-told2 .given .1, c .ask-in-step .ensures)
+returns-2 c p = rw (c .before .enum-told2 .given .1, c .ask-in-step .ensures)
 
 returns-3 : tie.Need-returns-3
 unfolding attemptedAt
-returns-3 c = rw (c .before .enum-told3 .given .1, c .finish .ensures)
+returns-3 c p = rw (c .before .enum-told3 .given .1, c .finish .ensures)
 
 returns-4 : tie.Need-returns-4
 unfolding attemptedAt
-returns-4 c = rw (c .before .enum-told4 .given .1, c .finish2 .ensures)
+returns-4 c p = rw (c .before .enum-told4 .given .1, c .finish2 .ensures)
 
 pub attempted-spec : {M : Type 1} → statement M
 attempted-spec =

@@ -1,11 +1,9 @@
 -- `column_reply` meets its contract: the column is stored, and the next is asked for or the matrix is factored.
 -- Assumes nothing.
-use mathlib.Core.Path.{ap}
 use native.Mathlib.Omega.{arith}
 use borrow.Author.Needs.{needs}
 use borrow.Author.Tests.{lt-ltb, le-ltb}
 use Rattle.between_steps.proofs.Inside.{inside-column, lent-length}
-use Rattle.questions.specs.Turns.{withPivots}
 use Rattle.passes.specs.Pass.{columnReplyOf, columnReplyAt}
 use Rattle.passes.proofs.column_reply.Statement.{statement}
 use Rattle.passes.proofs.column_reply.Tie as tie
@@ -41,7 +39,7 @@ returns c =
       ← c .before .before .before .before .before .before .before .before .before .before .before .before .store
       .ensures,
       ← c .before .before .before .before .before .before .before .before .store-column .ensures)
-    (ap (withPivots _) (c .before .before .ask-column .ensures))
+    (c .before .before .ask-column .ensures _)
 
 matrix-done-requires : tie.Need-matrix-done-requires
 matrix-done-requires c κs =

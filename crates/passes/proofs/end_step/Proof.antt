@@ -10,13 +10,13 @@ enum-told c = search needs
 
 returns : tie.Need-returns
 unfolding endStepOf closedAt
-returns c = rw (← c .before .before .before .before .before .close .ensures, c .before .i .given .1)
+returns c p = rw (← c .before .before .before .before .before .close .ensures, c .before .i .given .1)
 
 returns-2 : tie.Need-returns-2
 unfolding endStepOf closedAt
-returns-2 c =
+returns-2 c p =
     rw (← c .before .before .before .before .before .before .before .before .close .ensures,
-      c .before .before .before .before .enum-told .given .1) (c .before .before .report .ensures)
+      c .before .before .before .before .enum-told .given .1) (c .before .before .report .ensures p)
 
 pub end-step-spec : {M : Type 1} → statement M
 end-step-spec =

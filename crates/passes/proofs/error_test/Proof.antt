@@ -19,16 +19,16 @@ attempted-requires c κs =
 
 returns : tie.Need-returns
 unfolding errorTestOf errorTestAt
-returns c =
+returns c p =
     let e = c .before .before .before .before .before .before in
     rw (← e .before .before .before .error .ensures, e .before .before .if1 .taken, ← e .error-failure .ensures)
-      (c .before .before .attempted .ensures)
+      (c .before .before .attempted .ensures p)
 
 returns-2 : tie.Need-returns-2
 unfolding errorTestOf errorTestAt
-returns-2 c =
+returns-2 c p =
     let i = c .before .before .before .before in
-    rw (← i .before .error .ensures, i .if1 .left) (c .before .before .accepted .ensures)
+    rw (← i .before .error .ensures, i .if1 .left) (c .before .before .accepted .ensures p)
 
 pub error-test-spec : {M : Type 1} → statement M
 error-test-spec =

@@ -68,7 +68,7 @@ returns c =
     rw (← j .before .before .before .before .before .correct .ensures, ← j .before .norm-at .ensures,
       ← j .judge .ensures,
       c .before .before .before .before .enum-told .given .1)
-    (c .before .before .error-test .ensures)
+    (c .before .before .error-test .ensures _)
 
 returns-2 : tie.Need-returns-2
 unfolding iterateOf concludedAt
@@ -77,7 +77,7 @@ returns-2 c =
     rw (← j .before .before .before .before .before .correct .ensures, ← j .before .norm-at .ensures,
       ← j .judge .ensures,
       c .before .before .before .before .enum-told2 .given .1)
-    (c .before .before .open-pass .ensures)
+    (c .before .before .open-pass .ensures _)
 
 returns-3 : tie.Need-returns-3
 unfolding iterateOf concludedAt
@@ -86,7 +86,7 @@ returns-3 c =
     rw (← j .before .before .before .before .before .correct .ensures, ← j .before .norm-at .ensures,
       ← j .judge .ensures,
       c .before .before .before .before .enum-told3 .given .1)
-    (c .before .before .pass-failed .ensures)
+    (c .before .before .pass-failed .ensures _)
 
 returns-4 : tie.Need-returns-4
 unfolding iterateOf concludedAt

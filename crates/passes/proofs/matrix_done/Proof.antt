@@ -1,10 +1,8 @@
 -- `matrix_done` meets its contract: the factoring, then the iterations or no convergence.
 -- Assumes nothing.
-use mathlib.Core.Path.{ap}
 use native.Mathlib.Omega.{arith}
 use borrow.Author.Needs.{needs}
 use Rattle.between_steps.proofs.Inside.{inside-factored, lent-factored}
-use Rattle.questions.specs.Turns.{withPivots}
 use Rattle.passes.specs.Pass.{matrixDoneOf, matrixDoneAt}
 use Rattle.passes.proofs.matrix_done.Statement.{statement}
 use Rattle.passes.proofs.matrix_done.Tie as tie
@@ -27,7 +25,7 @@ returns c =
     let f = c .before .before .before .before .before .before .before .before .before .before
       .before .finish-jacobian in
     rw (← f .ensures, c .before .before .before .before .before .if1 .taken)
-      (ap (withPivots _) (c .before .before .iterations .ensures))
+      (c .before .before .iterations .ensures)
 
 pass-failed-requires : tie.Need-pass-failed-requires
 pass-failed-requires c κs =
@@ -45,7 +43,7 @@ unfolding matrixDoneOf matrixDoneAt
 returns-2 c =
     let f = c .before .before .before .before .before .before .before .before .before .before .finish-jacobian in
     rw (← f .ensures, c .before .before .before .before .if1 .left)
-      (ap (withPivots _) (c .before .before .pass-failed .ensures))
+      (c .before .before .pass-failed .ensures _)
 
 pub matrix-done-spec : {M : Type 1} → statement M
 matrix-done-spec =

@@ -7,8 +7,7 @@ use Prim.Native.Nat.{ℕ}
 use native.Mathlib.Omega.{arith}
 use lib.Ieee.{Float}
 use borrow.Author.Needs.{needs}
-use Rattle.common.specs.declared.Settings.{Settings}
-use Rattle.common.specs.declared.Common.{Common}
+use Rattle.common.specs.State.{Given, State, put-w}
 use Rattle.between_steps.specs.Start.{withDerivative}
 use Rattle.between_steps.proofs.Inside.{lent-length}
 use Rattle.passes.specs.Pass.{openedReplyOf, openedReplyAt}
@@ -16,20 +15,18 @@ use Rattle.passes.proofs.opened_reply.Statement.{statement}
 use Rattle.passes.proofs.opened_reply.Tie as tie
 
 -- whether a Jacobian is due
-opened-at : (s : Settings) (c : Common) (rtol atol f : List Float) (ipiv : List ℕ) (work : List Float) (t : Bool)
-    → c .due ≡ t
-    → openedReplyOf s c rtol atol f ipiv work ≡ openedReplyAt s t c rtol atol ipiv (withDerivative (s .n) f work)
+opened-at : (g : Given) (x : State) (f : List Float) (t : Bool) → x .c .due ≡ t
+    → openedReplyOf g x f ≡ openedReplyAt g (put-w (withDerivative (g .s .n) f (x .w)) x) t
 unfolding openedReplyOf
-opened-at s c rtol atol f ipiv work t e =
-    ap (λ (u : Bool). openedReplyAt s u c rtol atol ipiv (withDerivative (s .n) f work)) e
+opened-at g x f t e = ap (openedReplyAt g (put-w (withDerivative (g .s .n) f (x .w)) x)) e
 
 returns : tie.Need-returns
 unfolding openedReplyAt
 returns c =
     let o = c .before .before .before .before .before .before .before in
     let x = o .before .before .before .before .before .before .before .before .args in
-    (rw (o .store .ensures) at (c .before .before .ask-jacobian .ensures))
-    ∙ sym (opened-at (x .s) (x .c) _ _ _ _ _ true (c .before .before .before .before .if1 .taken))
+    (rw (o .store .ensures) at (c .before .before .ask-jacobian .ensures (x .ipiv .now)))
+    ∙ sym (opened-at _ _ _ true (c .before .before .before .before .if1 .taken))
 
 iterations-requires : tie.Need-iterations-requires
 iterations-requires c κs =
@@ -42,7 +39,7 @@ returns-2 c =
     let o = c .before .before .before .before .before .before .before in
     let x = o .before .before .before .before .before .before .before .before .args in
     (rw (o .store .ensures) at (c .before .before .iterations .ensures))
-    ∙ sym (opened-at (x .s) (x .c) _ _ _ _ _ false (c .before .before .before .before .if1 .left))
+    ∙ sym (opened-at _ _ _ false (c .before .before .before .before .if1 .left))
 
 pub opened-reply-spec : {M : Type 1} → statement M
 opened-reply-spec =

@@ -17,9 +17,9 @@ attempted-requires c κs =
 
 returns : tie.Need-returns
 unfolding passFailedOf
-returns c =
+returns c p =
     rw (← c .before .before .before .before .before .before .no-convergence .ensures)
-      (c .before .before .attempted .ensures)
+      (c .before .before .attempted .ensures p)
 
 pub pass-failed-spec : {M : Type 1} → statement M
 pass-failed-spec = tie.close (tie.spec (λ c κs. search needs) attempted-requires (λ c. search needs) returns)

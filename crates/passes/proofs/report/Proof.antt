@@ -6,7 +6,7 @@ use Rattle.passes.proofs.report.Tie as tie
 
 returns : tie.Need-returns
 unfolding reportedOf
-returns c = rw (c .before .before .before .copy-part .ensures)
+returns c p = rw (c .before .before .before .copy-part .ensures)
 
 pub report-spec : {M : Type 1} → statement M
 report-spec =

@@ -26,10 +26,10 @@ open-pass-requires c κs =
 
 returns : tie.Need-returns
 unfolding restepReplyOf
-returns c =
+returns c p =
     rw (← c .before .before .before .before .before .before .before .before .before .before .store .ensures,
       ← c .before .before .before .before .before .before .restep .ensures)
-    (c .before .before .open-pass .ensures)
+    (c .before .before .open-pass .ensures p)
 
 pub restep-reply-spec : {M : Type 1} → statement M
 restep-reply-spec =

@@ -16,9 +16,9 @@ open-pass-requires c κs =
 
 returns : tie.Need-returns
 unfolding beganOf
-returns c =
+returns c p =
     rw (← c .before .before .before .before .before .before .first-prediction .ensures)
-    (c .before .before .open-pass .ensures)
+    (c .before .before .open-pass .ensures p)
 
 pub begin-step-spec : {M : Type 1} → statement M
 begin-step-spec = tie.close (tie.spec (λ c κs. search needs) open-pass-requires (λ c. search needs) returns)

@@ -6,7 +6,7 @@ use Rattle.questions.proofs.open_pass.Tie as tie
 
 returns : tie.Need-returns
 unfolding openPassOf
-returns c = rw (c .ask-in-step .ensures, c .before .before .before .copy-part .ensures)
+returns c p = rw (c .ask-in-step .ensures, c .before .before .before .copy-part .ensures)
 
 pub open-pass-spec : {M : Type 1} → statement M
 open-pass-spec =

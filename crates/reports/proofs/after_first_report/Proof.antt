@@ -13,15 +13,15 @@ go-on-requires c κs = let p = c .before .before .before .before .before .pre in
 
 returns : tie.Need-returns
 unfolding afterFirstReportOf
-returns c = rw (c .before .before .before .before .enum-told .given .1) (c .before .before .go-on .ensures)
+returns c p = rw (c .before .before .before .before .enum-told .given .1) (c .before .before .go-on .ensures p)
 
 returns-2 : tie.Need-returns-2
 unfolding afterFirstReportOf
-returns-2 c = rw (c .before .enum-told2 .given .1, c .finish .ensures)
+returns-2 c p = rw (c .before .enum-told2 .given .1, c .finish .ensures)
 
 returns-3 : tie.Need-returns-3
 unfolding afterFirstReportOf
-returns-3 c =
+returns-3 c p =
     rw (c .before .before .before .before .before .enum-told3 .given .1, c .ask .ensures,
       c .before .before .before .take-state .ensures)
 

@@ -15,20 +15,20 @@ go-on-requires c κs =
 
 returns : tie.Need-returns
 unfolding afterReportOf
-returns c =
+returns c p =
     rw (c .before .before .before .before .enum-told .given .1,
       ← c .before .before .before .before .before .before .before .before .take-state .ensures)
-      (c .before .before .go-on .ensures)
+      (c .before .before .go-on .ensures p)
 
 returns-2 : tie.Need-returns-2
 unfolding afterReportOf
-returns-2 c =
+returns-2 c p =
     rw (c .before .enum-told2 .given .1, c .finish .ensures,
       c .before .before .before .before .before .take-state .ensures)
 
 returns-3 : tie.Need-returns-3
 unfolding afterReportOf
-returns-3 c =
+returns-3 c p =
     rw (c .before .before .enum-told3 .given .1, c .ask .ensures,
       c .before .before .before .before .before .before .take-state .ensures)
 

@@ -24,7 +24,7 @@ weighted-requires c κs =
 
 returns : tie.Need-returns
 unfolding firstDerivativeOf weightedAt
-returns c =
+returns c p =
     let i = c .before .before .before .before .before in
     let e = i .before .before .before .before in
     let k = e .before .before .before .before in
@@ -35,14 +35,14 @@ returns c =
 
 returns-2 : tie.Need-returns-2
 unfolding firstDerivativeOf weightedAt
-returns-2 c =
+returns-2 c p =
     let i = c .before .before .before .before .before .before .before .before in
     let e = i .before .before .before .before in
     let k = e .before .before .before .before in
     let n = k .before .before .before .before .before .before .args .s .n in
     let weights : 14 * n - 13 * n ≡ n = omega arith in
     let w = rw weights at (i .invert-weights .ensures) in
-    let g = rw weights at (c .before .before .weighted .ensures) in
+    let g = rw weights at (c .before .before .weighted .ensures p) in
     rw (← k .take-first .ensures, ← e .ewset .ensures, ← w .0, ← w .1,
       c .before .before .before .before .enum-told .given .1) g
 

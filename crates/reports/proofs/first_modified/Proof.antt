@@ -7,10 +7,10 @@ use Rattle.reports.proofs.first_modified.Tie as tie
 
 returns : tie.Need-returns
 unfolding firstModifiedOf
-returns c =
+returns c p =
     rw (← c .before .before .before .before .before .before .before .before .before .before .store .ensures,
       ← c .before .before .before .before .before .before .set-slope .ensures)
-    (c .before .before .go-on .ensures)
+    (c .before .before .go-on .ensures p)
 
 pub first-modified-spec : {M : Type 1} → statement M
 first-modified-spec =

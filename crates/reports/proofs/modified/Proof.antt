@@ -16,12 +16,12 @@ go-on-requires c κs =
 
 returns : tie.Need-returns
 unfolding modifiedOf
-returns c =
+returns c p =
     let w = c .before .before .before .before .before .before .before in
     rw (← w .before .before .before .before .before .before .before .before .store .ensures,
       ← w .before .before .before .before .set-slope .ensures, ← w .state-weights .ensures,
       ← c .before .before .before .before .restart .ensures)
-    (c .before .before .go-on .ensures)
+    (c .before .before .go-on .ensures p)
 
 pub modified-spec : {M : Type 1} → statement M
 modified-spec =

@@ -7,11 +7,11 @@ use Rattle.reports.proofs.sized.Tie as tie
 
 returns : tie.Need-returns
 unfolding sizedOf sizedAt
-returns c = rw (← c .before .is-refused .ensures, c .if1 .taken)
+returns c p = rw (← c .before .is-refused .ensures, c .if1 .taken)
 
 returns-2 : tie.Need-returns-2
 unfolding sizedOf sizedAt
-returns-2 c =
+returns-2 c p =
     let f = c .before .before .before .before in
     rw (c .before .before .set-slope .ensures, f .first-size .ensures, ← f .before .before .is-refused .ensures,
       f .before .if1 .left)
