@@ -28,13 +28,12 @@ use Rattle.common.specs.State.{Given, State, put-c}
 use Rattle.jacobian.specs.Jacobian.{beginOf, finishJacobianOf as factorsOf}
 use Rattle.corrector.specs.declared.Pass.{Pass}
 use Rattle.corrector.specs.declared.Pass.the-variants as Pass
-use Rattle.corrector.specs.Iterate.{openOf, correctOf}
+use Rattle.corrector.specs.Iterate.{openOf}
 use Rattle.attempt.specs.Attempt.{poorOf, noConvergenceAt, noConvergenceOf, errorOf, missedAt, missedOf, overshotOf}
 use Rattle.attempt.specs.Attempt.{failedOf, retractedWork}
 use Rattle.attempt.specs.Attempt as Attempt
 use Rattle.acceptance.specs.declared.Branch.{Branch}
 use Rattle.acceptance.specs.declared.Branch.the-variants as Branch
-use Rattle.acceptance.specs.Accept.{acceptOf, closedOf}
 use Rattle.between_steps.specs.declared.Answer.{Answer}
 use Rattle.between_steps.specs.declared.Answer.the-variants.{Continue, Interrupt, Modified}
 use Rattle.between_steps.specs.declared.Kind.{Kind}
@@ -43,7 +42,7 @@ use Rattle.questions.specs.declared.Phase.{Phase}
 use Rattle.questions.specs.declared.Phase.the-variants as Phase
 use Rattle.between_steps.specs.declared.Status.the-variants as Status
 use Rattle.questions.specs.Turns.{RunState, askedOf, askedInStepOf, finishedOf}
-use Rattle.between_steps.specs.Start.{withDerivative, firstStepOf, restartOf}
+use Rattle.between_steps.specs.Start.{withDerivative, firstStepOf}
 use Rattle.questions.specs.Begin.{openPassOf, beganOf, goOnAt, goOnOf}
 use Rattle.between_steps.specs.Begin.{isCut, cutOf, preparedAt, preparedOf, predictedAt, firstPredictionOf, isGoing}
 use Rattle.passes.specs.Pass.{attemptedAt, attemptedOf, reportedOf, closedAt, endStepOf, acceptedAt, acceptedOf}
@@ -51,7 +50,7 @@ use Rattle.passes.specs.Pass.{errorTestAt, errorTestOf, passFailedOf, concluded
 use Rattle.passes.specs.Pass.{matrixDoneAt, matrixDoneOf, askColumnOf, askJacobianAt, askJacobianOf, openedReplyAt}
 use Rattle.passes.specs.Pass.{openedReplyOf, jacobianReplyOf, columnReplyAt, columnReplyOf, furtherReplyOf}
 use Rattle.passes.specs.Pass.{restepReplyOf}
-use Rattle.between_steps.specs.Pass.{verdictOf, isSupplied}
+use Rattle.between_steps.specs.Pass.{isSupplied}
 use Rattle.reports.specs.Reports.{sizedAt, sizedOf, weightedAt, firstDerivativeOf, afterFirstReportOf}
 use Rattle.reports.specs.Reports.{firstModifiedOf, afterReportOf, modifiedOf}
 use Rattle.machine.specs.Resume.{isAsked, unasked, dealtOf, resumeOf}

@@ -39,7 +39,7 @@ use Rattle.between_steps.specs.declared.Answer.the-variants.{Continue, Interrup
 use Rattle.between_steps.specs.declared.Kind.{Kind}
 use Rattle.between_steps.specs.declared.Kind.the-variants as Kind
 use Rattle.between_steps.specs.Begin.{isGoing}
-use Rattle.between_steps.specs.Start.{withDerivative, inverted, firstStepOf, takenOf as stateOf}
+use Rattle.between_steps.specs.Start.{withDerivative, firstStepOf, takenOf as stateOf}
 use Rattle.between_steps.specs.Pass.{isSupplied}
 use Rattle.between_steps.proofs.Lengths.{length-first, length-stored, length-taken, length-inverted}
 use Rattle.questions.specs.declared.Phase.{Phase}

@@ -1,6 +1,5 @@
 // The run as a machine that asks: from a record, a phase and a reply to the next question.
 // `resume` hands each reply to the function of its phase.
-ghost use mathlib.Core.Bool.{Bool};
 ghost use mathlib.Core.Path.{_≡_};
 ghost use Prim.Native.Nat.{_≤_};
 ghost use Rattle.common.specs.Limits.{maxStates};

@@ -22,7 +22,6 @@ use Rattle.rules.specs.Play.{finished, stepRefused, weightRefused, exhausted, P
 use Rattle.rules.specs.Rules.{Start, start}
 use Rattle.rules.specs.Steps.{Step, noted, marked}
 use Rattle.rules.specs.Replies.{Reply, Progress, answerGiven, waits, fed}
-use Rattle.invariants.specs.Next.{sessionFound}
 use Rattle.refinement.specs.Shown.{shownAs, shownBy, shownAt, asks, resumed, isTaken, treeNext}
 use Rattle.refinement.specs.Shown.{reachedAfter, heard, treeAnswers, notRefused, heardTaken}
 use Rattle.refinement.specs.Shown.{givenTaken}

@@ -24,7 +24,6 @@ use Rattle.questions.specs.Turns.{RunState}
 use Rattle.machine.specs.Resume.{isAsked, unasked, dealtOf, resumeOf}
 use Rattle.rules.specs.Play.{derivativeAt, jacobianAt, Play, ask}
 use Rattle.rules.specs.Replies.{Reply}
-use Rattle.invariants.specs.Next.{sessionFound}
 use Rattle.refinement.specs.Shown.{wantedAt, shownAs, resumed, isTaken}
 use Rattle.refinement.specs.AtNode.{derivative, jacobian, answer, AtNode}
 

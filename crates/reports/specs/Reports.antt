@@ -5,7 +5,6 @@ use mathlib.Core.List.{List}
 use lib.Ieee.{Float}
 use Rattle.numbers.specs.Float.{_⊕_}
 use Rattle.numbers.specs.Sign.{refused}
-use lib.Ieee as Ieee
 use Rattle.vectors.specs.declared.Weights.{Weights}
 use Rattle.vectors.specs.declared.Weights.the-variants.{Inverted, Refused}
 use Rattle.vectors.specs.Weights.{ewsetOf, ewsetLikeOf, invertOf, weightsOutcome}
