@@ -48,7 +48,7 @@ sessionLength = 8 * sessionWords
 def setter(field):
     parts = [f"{f.name} = v;" if f is field else f"{f.name} = c .{f.name};" for f in COMMON_FIELDS]
     return (f"abbrev pub with-{field.name} : {TYPES[field.kind]} → Common → Common\n"
-            f"with-{field.name} v c = record {{\n{wrapped(parts, '      ')}\n}}\n")
+            f"with-{field.name} v c = record {{\n{wrapped([*parts, '}'], '  ', 121)}\n")
 
 
 def setters():

@@ -1,10 +1,43 @@
-"""What is made of the proofs of a session's bytes: the laws that name every field, and the contracts of the two functions
-that do."""
+"""What is made of the proofs of a session's bytes: the laws that name every field, and the contracts of the two
+functions that do."""
 from .session import FROM, RECORD, SETTINGS
 from .table import *
 
 # Counts whose greatest value a relation with another field says, and no row.
 RELATED = [f for f in COUNTS if f.name not in RANGES]
+# Fields of `Orders` (crates/common/specs/Ranges.antt); what is neither these, a setting nor a count, is of `Counters`.
+ORDERS = ("nq", "lmax", "nqnyh", "table")
+
+
+# ---- proofs/Fits.antt
+
+
+def fits():
+    return f"""\
+-- What a session's bytes can keep: counts of 64 bits, and floats of the format.
+-- {FROM} Assumes nothing.
+use mathlib.Core.List.{{List}}
+use Prim.Native.Nat.{{ℕ, _^_, _<_}}
+use lib.Dec.{{T}}
+use lib.ListN.{{length, getD}}
+use lib.Ieee.{{Float, nan, binary64, fits}}
+use Rattle.questions.specs.declared.Session.{{Session}}
+
+pub record CountsFit (x : Session) : Type 0 where
+{lines((f"pub {f.name} : {f.path} < 2 ^ 64" for f in COUNTS if f.kind == "usize"), "  ")}
+abbrev pub Fit : Float → Type 0
+Fit v = T (fits binary64 v)
+
+pub record FloatsFit (x : Session) : Type 0 where
+{lines((f"pub {f.name} : Fit ({f.path})" for f in FLOATS), "  ")}
+pub record Fits (x : Session) : Type 0 where
+  pub counts : CountsFit x
+  pub floats : FloatsFit x
+
+-- every entry of a list
+abbrev pub ListFits : List Float → Type 0
+ListFits list = (i : ℕ) → i < length list → Fit (getD list i nan)
+"""
 
 
 # ---- proofs/Listed.antt
@@ -35,15 +68,15 @@ def between(f):
 
 
 def in_ranges(f):
-    """The same of a record's number, from Ranges (s, k, o) and CountsFit f."""
+    """The same of a record's number, from Ranges (s, k, o, t) and CountsFit f."""
     low, high = f.bounds
     if f.kind != "usize":
         return {"Phase": "phase-from", "MethodFamily": "family-from", "bool": "flag-from"}[f.kind] + f" ({f.path})"
     if f in RELATED:
         return f"upto (upto-64 (f .{f.name}))"
+    part = "s" if f.record == "settings" else "k" if high == COUNT[1] else "o" if f.name in ORDERS else "t"
     if high == LARGEST:
-        return f"(o .{f.name}, upto-64 (f .{f.name}))"
-    part = "s" if f.record == "settings" else "k" if high == COUNT[1] else "o"
+        return f"({part} .{f.name} .0, upto-64 (f .{f.name}))"
     return f"upto ({part} .{f.name})" if low == "0" else f"({part} .{f.name} .0, {part} .{f.name} .1)"
 
 
@@ -64,7 +97,6 @@ def back(f):
 FITS = {
     "nrtol": "⊎-elim (λ e. omega arith) (λ e. omega arith) rtol",
     "natol": "⊎-elim (λ e. omega arith) (λ e. omega arith) atol",
-    "ialth": "ialth",
 }
 
 
@@ -80,7 +112,7 @@ def laws():
     each = lambda parts: wrapped([*opened(parts), "none)"], "    ", 116)
     return f"""-- The laws that name every field of a session.
 --     counts-small, floats-fit       what the bytes can keep, of the lists of words
---     counts-fit                     the ranges keep every count below 2^64, but for ialth, which has no upper end
+--     counts-fit                     the ranges keep every count below 2^64
 --     record-back                    the record from its own words
 --     words-listed                   the counts in the bytes, one by one
 --     word-ranges, words-between     what passes word by word, by the fields' names, and back
@@ -103,13 +135,13 @@ use Rattle.numbers.specs.Float.{{zeroF}}
 use Rattle.common.specs.Limits.{{maxStates}}
 use Rattle.common.specs.SessionWords.{{countWords}}
 use Rattle.questions.specs.declared.Session.{{Session}}
-use Rattle.between_steps.specs.Ranges.{{Accepted, Counts, Ranges}}
+use Rattle.common.specs.Ranges.{{Accepted, Counts, shapeOf, stepNumbersOf, Orders, EndedCounters, Ranges}}
 use Rattle.words.specs.Words.{{countsOver}}
 use Rattle.session.specs.Fields.{{countsOf, floatsOf, settingsOf, commonOf, sessionOf, lowest, highest}}
-use Rattle.session.specs.Fields.{{CountsFit, FloatsFit, Fit, Fits}}
 {imports("Rattle.session.specs.Names", [f"{f.name}Word" for f in COUNTS])}\
 use Rattle.session.specs.WordRanges.{{WordRanges}}
 use Rattle.session.specs.Session.{{storedCounts, every, wordInRange, OneOrN}}
+use Rattle.session.proofs.Fits.{{CountsFit, FloatsFit, Fit}}
 use Rattle.session.proofs.StateNumbers.{{flag-from, family-from, phase-from}}
 use Rattle.session.proofs.StateNumbers.{{flag-small, family-small, phase-small}}
 use Rattle.session.proofs.StateNumbers.{{flag-back, family-back, phase-back}}
@@ -145,13 +177,11 @@ floats-fit x f i =
 {each(f"f .{f.name}" for f in FLOATS)}
     i
 
-pub counts-fit : (x : Session) → Ranges (x .settings) (x .common)
-    → OneOrN (x .settings .n) (x .settings .nrtol) → OneOrN (x .settings .n) (x .settings .natol)
-    → x .common .ialth < 2 ^ 64 → CountsFit x
-counts-fit x r rtol atol ialth =
-    let s = r .settings in
-    let k = r .counts in
-    let o = r .orders in
+-- whether the run is over or not
+pub counts-fit : (x : Session) → Accepted (x .settings) → Counts (x .common) (2 ^ 62 - 1)
+    → Orders (x .settings) (shapeOf (x .common)) → EndedCounters (x .settings) (2 ^ 64 - 1) (stepNumbersOf (x .common))
+    → OneOrN (x .settings .n) (x .settings .nrtol) → OneOrN (x .settings .n) (x .settings .natol) → CountsFit x
+counts-fit x s k o t rtol atol =
     record {{
 {lines((f"{f.name} = {FITS.get(f.name, 'omega arith')};" for f in numbers), "      ")}    }}
 
@@ -237,6 +267,7 @@ record-between x f r =
     let s = r .settings in
     let k = r .counts in
     let o = r .orders in
+    let t = r .counters in
 {chain((in_ranges(f) for f in COUNTS), "▹", "between-none")}
 """
 
@@ -317,6 +348,7 @@ use Rattle.session.specs.Fields.{withCounts}
 
 
 def make(put):
+    put(f"{SESSION}/proofs/Fits.antt", fits())
     put(f"{SESSION}/proofs/Listed.antt", laws())
     put(f"{SESSION}/proofs/fields/counts/Proof.antt", counts_proof())
     put(f"{SESSION}/proofs/fields/common/Proof.antt", common_proof())

@@ -152,10 +152,9 @@ def definitions():
 -- {FROM}
 use mathlib.Core.Bool.{{false}}
 use mathlib.Core.List.{{List, [], _∷_}}
-use Prim.Native.Nat.{{ℕ, _^_, _<_}}
-use lib.Dec.{{T}}
+use Prim.Native.Nat.{{ℕ}}
 use lib.ListN.{{getD}}
-use lib.Ieee.{{Float, nan, binary64, fits}}
+use lib.Ieee.{{Float, nan}}
 use Rattle.common.specs.declared.MethodFamily.{{MethodFamily}}
 use Rattle.common.specs.declared.MethodFamily.the-variants.{{Adams}}
 use Rattle.common.specs.declared.Settings.{{Settings}}
@@ -207,26 +206,14 @@ lowest =
 unfoldable pub highest : List ℕ
 highest =
 {listed(1)}
--- ---- what a session's bytes can keep: counts of 64 bits, and floats of the format
-
-pub record CountsFit (x : Session) : Type 0 where
-{lines((f"pub {f.name} : {f.path} < 2 ^ 64" for f in COUNTS if f.kind == "usize"), "  ")}
-abbrev pub Fit : Float → Type 0
-Fit v = T (fits binary64 v)
-
-pub record FloatsFit (x : Session) : Type 0 where
-{lines((f"pub {f.name} : Fit ({f.path})" for f in FLOATS), "  ")}
-pub record Fits (x : Session) : Type 0 where
-  pub counts : CountsFit x
-  pub floats : FloatsFit x
 """
 
 
-# ---- specs/Names.antt and specs/WordRanges.antt
+# ---- specs/Names.antt
 
 
 def names():
-    each = "\n".join(f"abbrev pub {f.name}Word : List ℕ → ℕ\n{f.name}Word b = word b {f.word}\n" for f in COUNTS)
+    each = "".join(f"abbrev pub {f.name}Word : List ℕ → ℕ\n{f.name}Word b = word b {f.word}\n" for f in COUNTS)
     return f"""\
 -- The counts of a session by the names of docs/SESSION.md: the number that stands in the bytes b, whatever it is.
 -- icount is kept with 1,000,000 added, kflag as the number of error failures, a flag as 0 or 1.
@@ -236,26 +223,6 @@ use Prim.Native.Nat.{{ℕ}}
 use Rattle.words.specs.Words.{{word}}
 
 {each}"""
-
-
-def proposition(f):
-    word, (low, high) = f"{f.name}Word b", f.bounds
-    greatest = {COUNT[1]: f"{word} < 2 ^ 62", LARGEST: f"{word} < 2 ^ 64"}.get(high, f"{word} ≤ {SPEC.get(high, high)}")
-    return greatest if low == "0" else f"({low} ≤ {word}) × ({greatest})"
-
-
-def word_ranges():
-    fields = [f for f in COUNTS if f.name in RANGES]
-    return f"""\
--- The ranges of 13 that one word says, of the bytes b: settings as start accepts, flags among the values the Rust
--- stores, counts below 2^62, family, orders, and the counters of a step. What fields say of each other is in InRange.
--- {FROM}
-use mathlib.Core.List.{{List}}
-use Prim.Native.Nat.{{ℕ, _^_, _≤_, _<_}}
-use Rattle.common.specs.Limits.{{maxStates}}
-{imports("Rattle.session.specs.Names", [f"{f.name}Word" for f in fields])}
-pub record WordRanges (b : List ℕ) : Type 0 where
-{lines((f"pub {f.name} : {proposition(f)}" for f in fields), "  ")}"""
 
 
 def ranges():
@@ -275,5 +242,4 @@ def make(put):
     put(f"{SESSION}/src/fields.rt", source())
     put(f"{SESSION}/specs/Fields.antt", definitions())
     put(f"{SESSION}/specs/Names.antt", names())
-    put(f"{SESSION}/specs/WordRanges.antt", word_ranges())
     put(RANGES_OF_A_RUN, ranges(), "the ranges of settings and counts")

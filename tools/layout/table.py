@@ -2,8 +2,9 @@
 
 A new field goes to the end of its group in its struct (floats, counts, flags), with its comment. It needs a row in
 RANGES if it is a count, and one in INITIAL if a start gives it another value than 0, false or Adams. After a run of
-tools/record.py what is left is its use: in the code and the definition that set it, in the lists of what a move may
-change (`attempted`, `moved`), for a float its law `put-..` where it is set, for a count that it stays in its range.
+tools/record.py what is left is its range in words (crates/session/specs/WordRanges.antt, which is not made: it says
+what RANGES must be) and its use: in the code and the definition that set it, in the lists of what a move may change
+(`attempted`, `testsMoved`), for a float its law `put-..` where it is set, for a count that it stays in its range.
 """
 import re
 
@@ -12,7 +13,7 @@ SESSION = "crates/session"
 INVARIANTS = "crates/invariants"
 PROBE = "crates/probe"
 PHASES = "crates/questions"
-RANGES_OF_A_RUN = "crates/between_steps/specs/Ranges.antt"
+RANGES_OF_A_RUN = f"{COMMON}/specs/Ranges.antt"
 
 TYPES = {"f64": "Float", "usize": "ℕ", "bool": "Bool", "MethodFamily": "MethodFamily"}
 # Fields of Common that a start fixes: no setter is made for them.

@@ -8,9 +8,11 @@ use native.Mathlib.Omega.{arith}
 use lib.Dec.{eqb, ltb}
 use lib.Ieee.{Float}
 use borrow.Author.Tests.{eqb-false}
-use Rattle.loops.specs.Test.{chosen-by}
+use Rattle.loops.proofs.Test.{chosen-by}
 use Rattle.common.specs.declared.Settings.{Settings}
 use Rattle.common.specs.declared.Common.{Common}
+use Rattle.common.specs.Ranges.{Accepted, shapeOf, Orders}
+use Rattle.common.proofs.Ranges.{lower-orders}
 use Rattle.history.specs.Steps.{adjustOf}
 use Rattle.history.proofs.Laws.{length-rescale}
 use Rattle.acceptance.specs.declared.family.Change.{Change}
@@ -19,7 +21,6 @@ use Rattle.acceptance.specs.declared.family.Move.{Move}
 use Rattle.acceptance.specs.Family.{changeOf, changedOf}
 use Rattle.acceptance.proofs.ChangeOrder.{orderWithin, change-within}
 use Rattle.acceptance.specs.declared.Branch.the-variants.{Unchanged, CoefficientGap}
-use Rattle.acceptance.proofs.Ready.{Ready, same-ready, lower-ready}
 use Rattle.acceptance.proofs.OrderMoves.{Moves, moves-from, waits-moves, choose-order-moves}
 use Rattle.acceptance.specs.Accept.{countedDown, keepFamilyOf, changedFamily, testedOf, testFamilyOf}
 
@@ -30,14 +31,14 @@ module _ (s : Settings) (dsm : Float) where
       chosen-by (Moves s c (c .ialth) work) (eqb (c .ialth - 1) 0)
       (λ e.
       moves-from s c (c .ialth) (countedDown c) work work _ refl refl refl
-      (λ o. same-ready _ refl refl refl refl refl o) refl
+      (λ o. o) refl
       (choose-order-moves s (c .ialth) (countedDown c) dsm work))
       (λ e.
       let more = eqb-false (c .ialth - 1) 0 e in
-      waits-moves s c (c .ialth) Unchanged (c .ialth - 1) work (λ h. omega (arith, more)))
+      waits-moves s c (c .ialth) Unchanged (c .ialth - 1) work (λ h. omega (arith, more)) (omega arith))
 
   changed-moves : (c : Common) (to : Move) (work : List Float)
-      → (Ready s c → (1 ≤ to .order) × (to .order ≤ c .nq))
+      → (Accepted s → Orders s (shapeOf c) → (1 ≤ to .order) × (to .order ≤ c .nq))
       → Moves s c (c .ialth) work (changedFamily (changedOf s c to work))
   unfolding changedOf adjustOf
   changed-moves c to work within =
@@ -47,15 +48,16 @@ module _ (s : Settings) (dsm : Float) where
         icount = inr refl;
         meth = λ n. absurd (n refl);
         ialth = λ h. omega arith;
-        ready = λ p. lower-ready _ (to .order) refl refl refl refl refl (within p) p;
+        ialth-most = inr refl;
+        orders = λ a p. lower-orders (to .order) p (within a p);
       }
 
   tested-moves : (c : Common) (work : List Float) (change : Change)
-      → (Ready s c → orderWithin (c .nq) change)
+      → (Accepted s → Orders s (shapeOf c) → orderWithin (c .nq) change)
       → Moves s c (c .ialth) work (testedOf s c dsm work change)
   unfolding testedOf orderWithin
   tested-moves c work Stay within = keep-moves c work
-  tested-moves c work Gap within = waits-moves s c (c .ialth) CoefficientGap (c .ialth) work (λ h. h)
+  tested-moves c work Gap within = waits-moves s c (c .ialth) CoefficientGap (c .ialth) work (λ h. h) (omega arith)
   tested-moves c work (To to) within = changed-moves c to work within
 
   pub test-moves : (c : Common) (work : List Float) → Moves s c (c .ialth) work (testFamilyOf s c dsm work)
@@ -63,5 +65,5 @@ module _ (s : Settings) (dsm : Float) where
   test-moves c work =
       chosen-by (Moves s c (c .ialth) work) (ltb (c .icount) 1000000)
       (λ e. tested-moves c work (changeOf s c dsm work)
-      (λ p. change-within s c dsm work (p .range .order .0) (p .limits .0) (p .limits .1)))
+      (λ a p. change-within s c dsm work (p .nq .0) (a .mxordn .0) (a .mxords .0)))
       (λ e. keep-moves c work)

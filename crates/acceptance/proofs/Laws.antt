@@ -5,11 +5,11 @@
 use mathlib.Core.Path.{_≡_, refl, ap, _∙_}
 use mathlib.Core.List.{List}
 use mathlib.Core.Logic.{_⊎_}
-use Prim.Native.Nat.{ℕ, _+_, _-_, _≤_}
+use Prim.Native.Nat.{ℕ, _+_, _-_, _≤_, max}
 use native.Mathlib.Omega.{arith}
 use lib.ListN.{length}
 use lib.Ieee.{Float}
-use Rattle.loops.specs.Part.{length-part, length-putPart}
+use Rattle.loops.proofs.Part.{length-part, length-putPart}
 use Rattle.numbers.specs.Float.{_⊘_, oneF}
 use Rattle.coefficients.specs.Table.{tescoOf}
 use Rattle.vectors.specs.Weights.{ewsetOf, invertOf}
@@ -18,11 +18,11 @@ use Rattle.common.specs.declared.Settings.{Settings}
 use Rattle.common.specs.declared.Common.{Common}
 use Rattle.common.specs.Layout.{ewt, ewtAt, savfAt, acorAt}
 use Rattle.common.specs.Rules.{icount20}
+use Rattle.common.specs.Ranges.{Accepted, shapeOf, Orders}
 use Rattle.history.specs.Columns.{scalePartOf, correctColumnsOf}
 use Rattle.history.proofs.Laws.{length-scale-part, length-correct}
 use Rattle.acceptance.specs.declared.Branch.the-variants.{FamilyChanged}
 use Rattle.acceptance.specs.Order.{Settled}
-use Rattle.acceptance.proofs.Ready.{Ready, same-ready}
 use Rattle.acceptance.proofs.OrderMoves.{Moves}
 use Rattle.acceptance.specs.Accept.{correctedOf, acceptOf, closedOf}
 use Rattle.acceptance.proofs.FamilyMoves.{test-moves}
@@ -30,7 +30,7 @@ use Rattle.acceptance.proofs.FamilyMoves.{test-moves}
 -- ---- an accepted step
 
 -- what an accepted step makes of the record c: its count rises, the other counts and the flags stay, the family changes
--- on one branch alone, and a record that was ready is ready again
+-- on one branch alone, and orders and columns stay in range
 pub record AcceptKeeps (s : Settings) (c : Common) (r : Settled) : Type 0 where
   pub nst : r .common .nst ≡ c .nst + 1
   pub kflag : r .common .kflag ≡ 0
@@ -54,7 +54,8 @@ pub record AcceptKeeps (s : Settings) (c : Common) (r : Settled) : Type 0 where
   pub icount : (r .common .icount ≡ c .icount - 1) ⊎ (r .common .icount ≡ icount20)
   pub meth : (r .branch ≡ FamilyChanged → ⊥) → r .common .meth ≡ c .meth
   pub ialth : 1 ≤ c .ialth → 1 ≤ r .common .ialth
-  pub ready : Ready s c → Ready s (r .common)
+  pub ialth-most : (r .common .ialth ≤ max (c .ialth) 3) ⊎ (r .common .ialth ≡ r .common .nq + 1)
+  pub orders : Accepted s → Orders s (shapeOf c) → Orders s (shapeOf (r .common))
 
 module _ (s : Settings) (c : Common) (dsm : Float) (work : List Float) where
   moves : Moves s (correctedOf c) (c .ialth) (correctColumnsOf s c work) (acceptOf s c dsm work)
@@ -91,7 +92,8 @@ module _ (s : Settings) (c : Common) (dsm : Float) (work : List Float) where
         icount = moves .icount;
         meth = moves .meth;
         ialth = moves .ialth;
-        ready = λ p. moves .ready (same-ready _ refl refl refl refl refl p);
+        ialth-most = moves .ialth-most;
+        orders = λ a p. moves .orders a p;
       }
 
 -- ---- the end of a step

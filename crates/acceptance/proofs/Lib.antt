@@ -1,5 +1,4 @@
 pub mod ChangeOrder
-pub mod Ready
 pub mod OrderMoves
 pub mod FamilyMoves
 pub mod Laws

@@ -3,16 +3,16 @@
 use mathlib.Core.Path.{_≡_, refl, ap, _∙_}
 use mathlib.Core.Bool.{Bool, true, false, _||_}
 use mathlib.Core.List.{List}
-use mathlib.Core.Logic.{_⊎_, inl}
-use Prim.Native.Nat.{ℕ, _+_, _≤_}
+use mathlib.Core.Logic.{_⊎_, inl, inr}
+use Prim.Native.Nat.{ℕ, _+_, _≤_, max}
 use native.Mathlib.Omega.{arith}
 use lib.Dec.{eqb}
 use lib.ListN.{length, length-set}
 use lib.Ieee as Ieee
 use lib.Ieee.{Float}
 use borrow.Author.Tests.{eqb-false}
-use Rattle.loops.specs.Stores.{length-for}
-use Rattle.loops.specs.Test.{chosen-by}
+use Rattle.loops.proofs.Stores.{length-for}
+use Rattle.loops.proofs.Test.{chosen-by}
 use Rattle.numbers.specs.Float.{d1·1}
 use Rattle.numbers.specs.Order.{maxOf}
 use Rattle.common.specs.declared.Settings.{Settings}
@@ -20,6 +20,8 @@ use Rattle.common.specs.declared.Common.{Common}
 use Rattle.common.specs.Record.{with-h, with-hu, with-rc, with-el0, with-conit, with-pdest, with-pdlast, with-meth}
 use Rattle.common.specs.Record.{with-nq, with-nqnyh, with-ialth, with-icount}
 use Rattle.common.specs.Rules.{resetOf, icount20}
+use Rattle.common.specs.Ranges.{Accepted, shapeOf, Orders}
+use Rattle.common.proofs.Ranges.{reset-orders}
 use Rattle.history.specs.Steps.{leastOf, limitedOf, adjustOf}
 use Rattle.history.proofs.Laws.{length-rescale}
 use Rattle.acceptance.specs.declared.family.Proposal.{Proposal}
@@ -30,7 +32,6 @@ use Rattle.acceptance.specs.declared.order.Factors.{Factors}
 use Rattle.acceptance.specs.Order.{Settled, raisedAt, raisedWorkOf, raisedLeftOf, heldOf, waitsOf, orderTakenOf}
 use Rattle.acceptance.specs.Order.{settleOf, raiseColumnAt, raiseColumnOf, raiseOf, lowerOf, sameLargest}
 use Rattle.acceptance.specs.Order.{chooseOf, forgottenOf, chooseOrderOf}
-use Rattle.acceptance.proofs.Ready.{Ready, same-ready, reset-ready}
 
 first-false : (t u : Bool) → (t || u) ≡ false → t ≡ false
 first-false true u e = e
@@ -59,14 +60,16 @@ pub record Moves (s : Settings) (c : Common) (k : ℕ) (work : List Float) (r : 
   pub icount : (r .common .icount ≡ c .icount) ⊎ (r .common .icount ≡ icount20)
   pub meth : (r .branch ≡ FamilyChanged → ⊥) → r .common .meth ≡ c .meth
   pub ialth : 1 ≤ k → 1 ≤ r .common .ialth
-  pub ready : Ready s c → Ready s (r .common)
+  pub ialth-most : (r .common .ialth ≤ max k 3) ⊎ (r .common .ialth ≡ r .common .nq + 1)
+  pub orders : Accepted s → Orders s (shapeOf c) → Orders s (shapeOf (r .common))
 
 -- ---- the order choice
 
 module _ (s : Settings) (c : Common) (k : ℕ) where
   -- from a record and a work that the tests may have come from
   pub moves-from : (d : Common) (work w : List Float) (r : Settled) → d ≡ testsMoved d c → d .icount ≡ c .icount
-      → d .meth ≡ c .meth → (Ready s c → Ready s d) → length w ≡ length work → Moves s d k w r → Moves s c k work r
+      → d .meth ≡ c .meth → (Orders s (shapeOf c) → Orders s (shapeOf d)) → length w ≡ length work → Moves s d k w r
+      → Moves s c k work r
   moves-from d work w r e i m p l q =
       record {
         fields = q .fields ∙ ap (testsMoved (r .common)) e;
@@ -74,24 +77,26 @@ module _ (s : Settings) (c : Common) (k : ℕ) where
         icount = rw i at (q .icount);
         meth = λ n. q .meth n ∙ m;
         ialth = q .ialth;
-        ready = λ o. q .ready (p o);
+        ialth-most = q .ialth-most;
+        orders = λ a o. q .orders a (p o);
       }
 
   -- ialth alone is another
-  pub waits-moves : (branch : Branch) (v : ℕ) (work : List Float) → (1 ≤ k → 1 ≤ v)
+  pub waits-moves : (branch : Branch) (v : ℕ) (work : List Float) → (1 ≤ k → 1 ≤ v) → v ≤ max k 3
       → Moves s c k work (record { branch = branch; common = with-ialth v c; work = work })
-  waits-moves branch v work h =
+  waits-moves branch v work h most =
       record {
         fields = refl;
         sized = refl;
         icount = inl refl;
         meth = λ n. refl;
         ialth = h;
-        ready = λ p. same-ready _ refl refl refl refl refl p;
+        ialth-most = inl most;
+        orders = λ a p. p;
       }
 
   three : (branch : Branch) (work : List Float) → Moves s c k work (waitsOf branch c work)
-  three branch work = waits-moves branch 3 work (λ h. omega arith)
+  three branch work = waits-moves branch 3 work (λ h. omega arith) (omega arith)
 
   taken-moves : (rh : Float) (branch : Branch) (work : List Float) → Moves s c k work (orderTakenOf s c rh branch work)
   unfolding adjustOf
@@ -102,18 +107,20 @@ module _ (s : Settings) (c : Common) (k : ℕ) where
         icount = inl refl;
         meth = λ n. refl;
         ialth = λ h. omega arith;
-        ready = λ p. same-ready _ refl refl refl refl refl p;
+        ialth-most = inr refl;
+        orders = λ a p. p;
       }
 
 module _ (s : Settings) (k : ℕ) where
   settled-moves : (c : Common) (p : Proposal) (branch : Branch) (work : List Float)
-      → (Ready s c → (1 ≤ p .order) × (p .order + 1 ≤ c .lmax)) → Moves s c k work (settleOf s c p branch work)
+      → (Orders s (shapeOf c) → (1 ≤ p .order) × (p .order + 1 ≤ c .lmax))
+      → Moves s c k work (settleOf s c p branch work)
   unfolding settleOf resetOf
   settled-moves c p branch work within =
       let rh = maxOf (p .rh) (leastOf c) in
       let other = resetOf s (with-nq (p .order) c) in
       let to-other =
-      moves-from s c k other work work _ refl refl refl (λ o. reset-ready (p .order) (within o) o) refl
+      moves-from s c k other work work _ refl refl refl (λ o. reset-orders (p .order) o (within o)) refl
       (taken-moves s other k rh branch work)
       in
       let taken = chosen-by (λ d. Moves s c k work (orderTakenOf s d rh branch work)) (eqb (p .order) (c .nq))
@@ -143,13 +150,13 @@ module _ (s : Settings) (k : ℕ) where
       chosen-by (Moves s c k work) (eqb (c .nq) 1) (λ e. three s c k SmallGain work)
       (λ e.
       let more = eqb-false (c .nq) 1 e in
-      settled-moves c _ Lowered work (λ o. (omega (arith, more, o .range .order), omega (arith, o .lmax))))
+      settled-moves c _ Lowered work (λ o. (omega (arith, more, o .nq), omega (arith, o .lmax))))
 
   choose-moves : (c : Common) (f : Factors) (work : List Float) → Moves s c k work (chooseOf s c f work)
   unfolding chooseOf
   choose-moves c f work =
       chosen-by (Moves s c k work) (sameLargest f)
-      (λ e. settled-moves c _ Kept work (λ o. (o .range .order .0, o .lmax .2)))
+      (λ e. settled-moves c _ Kept work (λ o. (o .nq .0, o .lmax .2)))
       (λ e. chosen-by (Moves s c k work) (Ieee.lt (f .down) (f .up)) (λ e. raise-moves c (f .up) work)
       (λ e. lower-moves c (f .down) work))
 
@@ -164,5 +171,5 @@ module _ (s : Settings) (k : ℕ) where
   unfolding chooseOrderOf
   choose-order-moves c dsm work =
       moves-from s c k (forgottenOf c) work (raisedLeftOf s c work) _ refl refl refl
-      (λ o. same-ready _ refl refl refl refl refl o) (length-raised-left c work)
+      (λ o. o) (length-raised-left c work)
       (choose-moves (forgottenOf c) _ _)

@@ -6,7 +6,7 @@ ghost use lib.ListN.{length};
 ghost use Rattle.common.specs.Limits.{maxStates};
 ghost use Rattle.common.specs.Layout.{matrixAt};
 ghost use Rattle.common.specs.State.{Moved};
-ghost use Rattle.history.specs.Steps.{StepInRange};
+ghost use Rattle.common.specs.Ranges.{StepInRange};
 ghost use Rattle.acceptance.specs.Size.{sizeOf, columnSizeOf, withinStabilityOf};
 ghost use Rattle.acceptance.specs.Family.{bdfProposalOf, toBdfOf, adamsProposalOf, toAdamsOf, changeOf, otherOf};
 ghost use Rattle.acceptance.specs.Family.{changedOf};

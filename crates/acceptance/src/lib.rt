@@ -4,7 +4,7 @@ ghost use mathlib.Core.Path.{_≡_};
 ghost use Prim.Native.Nat.{_+_, _-_, _^_, _≤_, _<_};
 ghost use lib.ListN.{length};
 ghost use Rattle.common.specs.Layout.{matrixAt};
-ghost use Rattle.history.specs.Steps.{StepInRange};
+ghost use Rattle.common.specs.Ranges.{StepInRange};
 ghost use Rattle.vectors.specs.Tolerance.{List1OrN};
 ghost use Rattle.history.specs.Columns.{correctColumnsOf};
 ghost use Rattle.acceptance.specs.Order.{Settled};

@@ -4,7 +4,7 @@ ghost use Prim.Native.Nat.{_+_, _≤_};
 ghost use lib.ListN.{length};
 ghost use Rattle.common.specs.Limits.{maxStates};
 ghost use Rattle.common.specs.Layout.{matrixAt};
-ghost use Rattle.history.specs.Steps.{StepInRange};
+ghost use Rattle.common.specs.Ranges.{StepInRange};
 ghost use Rattle.acceptance.specs.Order.{Settled, raisedWorkOf, raisedLeftOf, raisedSizeOf, loweredSizeOf};
 ghost use Rattle.acceptance.specs.Order.{limitedFactorsOf, heldOf, settleOf, raiseColumnOf, raiseOf, lowerOf};
 ghost use Rattle.acceptance.specs.Order.{chooseOf, forgottenOf, chooseOrderOf};

@@ -3,12 +3,6 @@ ghost use mathlib.Core.Path.{_≡_};
 ghost use Rattle.numbers.specs.Float.{zeroF};
 ghost use Rattle.answers.specs.Answers.{plainReply, statusNumber, firstReportReply, reportReply, endReply};
 ghost use Rattle.answers.specs.Answers.{questionReply, refusalReply};
-ghost use Rattle.answers.specs.Answers.{plainReply};
-ghost use Rattle.answers.specs.Answers.{firstReportReply};
-ghost use Rattle.answers.specs.Answers.{reportReply};
-ghost use Rattle.answers.specs.Answers.{endReply};
-ghost use Rattle.answers.specs.Answers.{questionReply};
-ghost use Rattle.answers.specs.Answers.{refusalReply};
 
 use refusals::Refusal;
 use questions::End;

@@ -3,7 +3,7 @@
 --     Unconverged      no convergence: a pass again below mxncf failures, or poor
 --     Failed           an error failure: a pass again before the third, a derivative from the third to the ninth
 --     Restepped        the derivative is there: order 1
--- Each says too that the work keeps its length and that the record stays in range. Assumes nothing.
+-- Each says too that the work keeps its length and that orders and columns stay in range. Assumes nothing.
 use mathlib.Core.Bool.{Bool, true, false, cond, _||_}
 use mathlib.Core.List.{List}
 use mathlib.Core.Logic.{_⊎_, inl, inr}
@@ -22,16 +22,16 @@ use Rattle.common.specs.Record.{isBdf, with-tn, with-h, with-rc, with-el0, with
 use Rattle.common.specs.Record.{with-ialth, with-rejected, with-kflag, with-ncf, with-due}
 use Rattle.common.specs.Limits.{mxncfOf}
 use Rattle.common.specs.Rules.{resetOf, tinyOf}
-use Rattle.history.specs.Columns.{slopeOf}
-use Rattle.history.specs.Steps.{StepInRange, adjustOf, predictedOf, staleOf, leastOf}
-use Rattle.history.proofs.Laws.{same-range, in-range-predicted, length-predict, length-retract, length-rescale}
-use Rattle.history.proofs.Laws.{length-copy, length-slope}
-use Rattle.attempt.specs.declared.Next.the-variants.{Pass, Restep, TooSmall, Poor}
 use Rattle.common.specs.State.{Moved}
+use Rattle.common.specs.Ranges.{shapeOf, Orders}
+use Rattle.common.proofs.Ranges.{reset-orders}
+use Rattle.history.specs.Columns.{slopeOf}
+use Rattle.history.specs.Steps.{adjustOf, predictedOf, staleOf, leastOf}
+use Rattle.history.proofs.Laws.{length-predict, length-retract, length-rescale, length-copy, length-slope}
+use Rattle.attempt.specs.declared.Next.the-variants.{Pass, Restep, TooSmall, Poor}
 use Rattle.attempt.specs.Attempt.{Attempt, retractedOf, retractedWork, predictOf, repredictOf, unconvergedOf}
 use Rattle.attempt.specs.Attempt.{poorOf, quarteredOf, noConvergenceAt, noConvergenceOf, shrunkOf, tenthOf}
 use Rattle.attempt.specs.Attempt.{missedAt, missedOf, overshotOf, failedOf, loweredOf, restepOf}
-use Rattle.attempt.proofs.Ranges.{in-range-unconverged, in-range-overshot, in-range-lowered}
 
 -- d has these fields of c
 pub record Kept (c d : Common) : Type 0 where
@@ -111,8 +111,8 @@ pub record Unconverged (s : Settings) (c : Common) (work : List Float) (a : Atte
   pub rejected-poor : a .next ≡ Poor → a .common .rejected ≡ c .rejected
   pub due : a .next ≡ Pass → a .common .due ≡ isBdf (c .meth)
   pub below : c .ncf < mxncfOf s → a .next ≡ Pass → c .ncf + 1 < mxncfOf s
-  pub ialth : 1 ≤ c .ialth → 1 ≤ a .common .ialth
-  pub in-range : StepInRange s c → StepInRange s (a .common)
+  pub ialth : (a .common .ialth ≡ c .ialth) ⊎ (a .common .ialth ≡ c .nq + 1)
+  pub orders : Orders s (shapeOf c) → Orders s (shapeOf (a .common))
   pub sized : length (a .work) ≡ length work
 
 module _ (s : Settings) (c : Common) (work : List Float) where
@@ -131,8 +131,8 @@ module _ (s : Settings) (c : Common) (work : List Float) where
         rejected-poor = λ q. refl;
         due = λ q. cc;
         below = λ few q. impossible (cc);
-        ialth = λ h. h;
-        in-range = λ p. in-range-unconverged s c p;
+        ialth = inl refl;
+        orders = λ p. p;
         sized = length-retract (s .n) _ _ work;
       }
   unconverged-at false e =
@@ -150,8 +150,8 @@ module _ (s : Settings) (c : Common) (work : List Float) where
         below = λ few q.
             let other = eqb-false (c .ncf + 1) (mxncfOf s) (second-false (tinyOf (unconvergedOf c)) e) in
             omega (arith, other);
-        ialth = λ h. omega arith;
-        in-range = λ p. same-range _ refl refl refl refl p;
+        ialth = inr refl;
+        orders = λ p. p;
         sized = length-repredict s _ _ _ ∙ length-retract (s .n) _ _ work;
       }
 
@@ -171,8 +171,8 @@ pub record Failed (s : Settings) (c : Common) (work : List Float) (a : Attempt) 
   pub next : (a .next ≡ Pass) ⊎ ((a .next ≡ Restep) ⊎ (a .next ≡ TooSmall))
   pub pass : a .next ≡ Pass → c .kflag + 1 < 3
   pub restep : c .kflag ≤ 9 → a .next ≡ Restep → (3 ≤ c .kflag + 1) × (c .kflag + 1 ≤ 9)
-  pub ialth : 1 ≤ c .ialth → 1 ≤ a .common .ialth
-  pub in-range : StepInRange s c → StepInRange s (a .common)
+  pub ialth : (a .common .ialth ≡ c .ialth) ⊎ (a .common .ialth ≡ c .nq + 1)
+  pub orders : Orders s (shapeOf c) → Orders s (shapeOf (a .common))
   pub sized : length (a .work) ≡ length work
 
 module _ (s : Settings) (c : Common) (dsm : Float) (work : List Float) where
@@ -189,8 +189,8 @@ module _ (s : Settings) (c : Common) (dsm : Float) (work : List Float) where
         next = inr (inr refl);
         pass = λ q. impossible (cc);
         restep = λ few q. impossible (cc);
-        ialth = λ h. h;
-        in-range = λ p. in-range-overshot s c p;
+        ialth = inl refl;
+        orders = λ p. p;
         sized = length-retract (s .n) _ _ work;
       }
 
@@ -209,8 +209,8 @@ module _ (s : Settings) (c : Common) (dsm : Float) (work : List Float) where
         next = inl refl;
         pass = λ q. ltb-true (c .kflag + 1) 3 e;
         restep = λ few q. impossible (cc);
-        ialth = λ h. omega arith;
-        in-range = λ p. same-range _ refl refl refl refl p;
+        ialth = inr refl;
+        orders = λ p. p;
         sized = length-repredict s _ _ _ ∙ length-retract (s .n) _ _ work;
       }
   failed-at false false true e l = stopped-at
@@ -228,8 +228,8 @@ module _ (s : Settings) (c : Common) (dsm : Float) (work : List Float) where
             let third = ltb-false (c .kflag + 1) 3 e in
             let other = eqb-false (c .kflag + 1) 10 l in
             omega (arith, other);
-        ialth = λ h. h;
-        in-range = λ p. same-range _ refl refl refl refl p;
+        ialth = inl refl;
+        orders = λ p. p;
         sized = length-copy (s .n) _ _ _ ∙ length-retract (s .n) _ _ work;
       }
 
@@ -247,8 +247,8 @@ pub record Restepped (s : Settings) (c : Common) (work : List Float) (a : Moved)
   pub nq : a .common .nq ≡ 1
   pub nqnyh : ((c .nq ≡ 1) × (a .common .nqnyh ≡ c .nqnyh)) ⊎ ((c .nq ≡ 1 → ⊥) × (a .common .nqnyh ≡ s .n))
   pub due : a .common .due ≡ isBdf (c .meth)
-  pub ialth : 1 ≤ a .common .ialth
-  pub in-range : StepInRange s c → StepInRange s (a .common)
+  pub ialth : a .common .ialth ≡ 5
+  pub orders : Orders s (shapeOf c) → Orders s (shapeOf (a .common))
   pub sized : length (a .work) ≡ length work
 
 module _ (s : Settings) (c : Common) (work : List Float) where
@@ -267,8 +267,8 @@ module _ (s : Settings) (c : Common) (work : List Float) where
         nq = eqb-true (c .nq) 1 e;
         nqnyh = inl (eqb-true (c .nq) 1 e, refl);
         due = due-predicted s entered refl;
-        ialth = omega arith;
-        in-range = λ p. same-range _ refl refl refl refl p;
+        ialth = refl;
+        orders = λ p. p;
         sized = length-predict (s .n) _ _ _ ∙ length-slope (s .n) _ work;
       }
   restepped-at false e =
@@ -280,8 +280,8 @@ module _ (s : Settings) (c : Common) (work : List Float) where
         nq = refl;
         nqnyh = inr (eqb-false (c .nq) 1 e, omega arith);
         due = due-predicted s (loweredOf s false entered) refl;
-        ialth = omega arith;
-        in-range = λ p. in-range-predicted s (loweredOf s false entered) (in-range-lowered s c p _);
+        ialth = refl;
+        orders = λ p. reset-orders 1 p (omega arith, p .lmax .0);
         sized = length-predict (s .n) _ _ _ ∙ length-slope (s .n) _ work;
       }
 

@@ -8,7 +8,7 @@ use Rattle.common.specs.declared.Settings.{Settings}
 use Rattle.common.specs.declared.Common.{Common}
 use Rattle.common.specs.Record.{with-due, with-ialth, with-nq}
 use Rattle.common.specs.Rules.{resetOf}
-use Rattle.history.specs.Steps.{StepInRange}
+use Rattle.common.specs.Ranges.{StepInRange}
 use Rattle.history.proofs.Laws.{same-range, reset-range}
 use Rattle.attempt.specs.Attempt.{retractedOf, unconvergedOf, overshotOf}
 

@@ -5,7 +5,7 @@ ghost use Prim.Native.Nat.{_^_, _≤_, _<_};
 ghost use lib.ListN.{length};
 ghost use Rattle.common.specs.Layout.{matrixAt};
 ghost use Rattle.common.specs.State.{Moved};
-ghost use Rattle.history.specs.Steps.{StepInRange};
+ghost use Rattle.common.specs.Ranges.{StepInRange};
 ghost use Rattle.history.specs.Columns.{retractColumnsOf};
 ghost use Rattle.attempt.specs.Attempt.{Attempt, retractedOf, repredictOf, noConvergenceOf, errorOf, shrunkOf};
 ghost use Rattle.attempt.specs.Attempt.{missedOf, failedOf, restepOf};

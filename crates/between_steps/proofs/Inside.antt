@@ -1,33 +1,31 @@
 -- What the functions inside a reply ask of the record (`Inside`) holds at each of their calls: it is `Within` with one
 -- step under way, and bounds on the counts.
 --     inside-ranges                  a session in range
---     in-range, ready                what a step's functions ask
+--     in-range, prepared-range       what a step's functions ask
 --     inside-tn, inside-restart, inside-column, inside-open, inside-judged, inside-factored     what each change keeps
 --     lent-length, lent-factored     the work and the pivots after a change
 -- Assumes nothing.
 use mathlib.Core.Path.{_≡_, _∙_}
 use mathlib.Core.List.{List}
-use Prim.Native.Nat.{ℕ, _+_, _^_, _<_}
+use Prim.Native.Nat.{ℕ, _+_, _-_, _^_, _<_}
 use native.Mathlib.Omega.{arith}
 use lib.Ieee.{Float}
 use lib.ListN.{length}
 use Rattle.common.specs.declared.Settings.{Settings}
 use Rattle.common.specs.declared.Common.{Common}
 use Rattle.common.specs.Record.{with-tn, with-column}
-use Rattle.history.specs.Steps.{StepInRange}
+use Rattle.common.specs.Ranges.{Ranges, Inside, StepInRange, Lent}
+use Rattle.common.proofs.Ranges.{wider}
 use Rattle.jacobian.specs.Jacobian.{finishJacobianOf}
 use Rattle.jacobian.proofs.Laws.{length-finished, length-finished-ipiv, finished-below}
 use Rattle.corrector.specs.declared.Correction.{Correction}
 use Rattle.corrector.specs.Verdict.{judgeOf}
 use Rattle.corrector.proofs.Judged.{same-judge}
 use Rattle.corrector.specs.Iterate.{openOf}
-use Rattle.acceptance.proofs.Ready.{Ready}
-use Rattle.between_steps.specs.Ranges.{Ranges, Inside, Lent}
 use Rattle.between_steps.specs.Begin.{preparedOf}
 use Rattle.between_steps.specs.Start.{restartOf}
-use Rattle.between_steps.proofs.Within.{coreOf, Within, orders-of, range-of, ready-of, within-open}
-use Rattle.between_steps.proofs.Within.{within-judged, within-factored, within-column, within-restart}
-use Rattle.between_steps.proofs.Within.{within-prepared}
+use Rattle.between_steps.proofs.Within.{coreOf, Within, counters-of, range-of, within-open, within-judged}
+use Rattle.between_steps.proofs.Within.{within-factored, within-column, within-restart, within-prepared}
 
 pub inside-ranges : {s : Settings} {c : Common} → Ranges s c → Inside s c
 inside-ranges p =
@@ -35,28 +33,28 @@ inside-ranges p =
     record {
       settings = p .settings;
       orders = p .orders;
+      counters = p .counters;
       steps = (omega (arith, k .nslp), omega (arith, k .nst));
       counts = (omega (arith, k .nfe), omega (arith, k .count), omega (arith, k .rejected));
     }
 
 -- nst stays inside a reply until a step is accepted, so icount stays at least 20
 module _ {s : Settings} {c : Common} (p : Inside s c) where
-  abbrev InStep : Common → Type 0
-  InStep d = Within s (20 + c .nst) (c .nst + 1) 1 (coreOf d)
+  abbrev WithinStep : Common → Type 0
+  WithinStep d = Within s (20 + c .nst) (c .nst + 1) (2 ^ 64 - 14) 1 (coreOf d)
 
-  within-of : InStep c
-  within-of =
-      let o = p .orders in
-      record {
-        nq = o .nq; lmax = o .lmax; nqnyh = o .nqnyh; table = o .table; ialth = o .ialth;
-        icount = (omega (arith, o .icount), o .icount .1);
-        kflag = o .kflag; ncf = o .ncf; m = o .m; column = o .column; nslp = p .steps .0; steps = omega arith;
-      }
+  within-of : WithinStep c
+  within-of = record {
+    orders = p .orders; counters = wider (omega arith) (omega arith) (omega arith) (omega arith) (p .counters);
+    nslp = p .steps .0; steps = omega arith;
+  }
 
-  inside-by : (d : Common) → InStep d → (d .nfe < 2 ^ 63) × (d .count < 2 ^ 63) × (d .rejected < 2 ^ 63) → Inside s d
+  inside-by : (d : Common) → WithinStep d → (d .nfe < 2 ^ 63) × (d .count < 2 ^ 63) × (d .rejected < 2 ^ 63)
+      → Inside s d
   inside-by d q k = record {
     settings = p .settings;
-    orders = orders-of (p .settings) d q (omega arith);
+    orders = q .orders;
+    counters = counters-of (p .settings) d q (omega arith) (omega arith);
     steps = (q .nslp, omega (arith, q .steps, p .steps));
     counts = k;
   }
@@ -66,10 +64,6 @@ module _ {s : Settings} {c : Common} (p : Inside s c) where
 
   pub prepared-range : (work : List Float) → StepInRange s (preparedOf s c work .common)
   prepared-range work = range-of (p .settings) _ (within-prepared (p .settings) c within-of work)
-
-  -- what an accepted step asks
-  pub ready : Ready s c
-  ready = ready-of (p .settings) c within-of
 
   pub inside-tn : (t : Float) → Inside s (with-tn t c)
   inside-tn t = inside-by (with-tn t c) within-of (p .counts)

@@ -8,7 +8,7 @@ use Prim.Native.Nat.{ℕ, _+_, _≤_}
 use native.Mathlib.Omega.{arith}
 use lib.Ieee.{Float}
 use lib.ListN.{length}
-use Rattle.loops.specs.Part.{length-part, length-putPart}
+use Rattle.loops.proofs.Part.{length-part, length-putPart}
 use Rattle.vectors.specs.Weights.{invertOf}
 use Rattle.vectors.proofs.Laws.{length-invert}
 use Rattle.common.specs.declared.Settings.{Settings}

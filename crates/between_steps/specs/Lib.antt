@@ -1,4 +1,3 @@
-pub mod Ranges
 pub mod Begin
 pub mod Start
 pub mod Pass

@@ -7,7 +7,7 @@ ghost use Rattle.vectors.specs.Weights.{ewsetLikeOf};
 ghost use Rattle.common.specs.Layout.{ewtAt, yAt, matrixAt};
 ghost use Rattle.history.specs.Columns.{copyOf};
 ghost use Rattle.common.specs.State.{Moved};
-ghost use Rattle.between_steps.specs.Ranges.{Accepted, Inside};
+ghost use Rattle.common.specs.Ranges.{Accepted, Inside};
 ghost use Rattle.between_steps.specs.Begin.{cutOf, setupOf, preparedOf, firstPredictionOf};
 ghost use Rattle.between_steps.specs.Start.{withDerivative, inverted, firstSizeOf, takenOf, restartOf};
 

@@ -25,6 +25,7 @@ use Rattle.refusals.specs.Rows.{Row, NoneHolds, FirstIs}
 use Rattle.common.specs.Limits.{maxStates}
 use Rattle.common.specs.SessionWords.{sessionLength}
 use Rattle.common.specs.State.{Given}
+use Rattle.common.specs.Layout.{questionLength, workLength}
 use Rattle.rules.specs.Rules.{Start}
 use Rattle.invariants.specs.Next.{sessionFound}
 use Rattle.refinement.specs.Shown.{resumed, isTaken}
@@ -35,8 +36,7 @@ use Rattle.raimsklo.specs.Calls.{replyOf}
 use Rattle.calls.specs.Run.{ReplyCall}
 use Rattle.calls.specs.Follow.{fedAs, isSized}
 use Rattle.calls.specs.ReplyRefused.{replyRows}
-use Rattle.calls.proofs.Agrees.{isOver, asking}
-use Rattle.calls.proofs.Turns.{Well}
+use Rattle.calls.proofs.Agrees.{isOver, Agrees, asking}
 use Rattle.calls.proofs.Keeps.{over-or-not, Runs, Keeps}
 use Rattle.calls.proofs.ReplyRefused.{asked-now, gone, reply-refused}
 
@@ -73,14 +73,14 @@ module _ (g : Given) (a : Start) (run : Runs g a) (l : RunState) (bytes : List �
   stated (inr h) = omega (arith, h, k .states, run .ok .settings .n .1)
 
   fitting : isSized (g .s .n) r ≡ true
-      → (length (l .st .w) ≢ n * n + 19 * n) ⊎ (length (l .st .p) ≢ n) ⊎ (length (r .question) ≢ 14 * n + 6) → ⊥
+      → (length (l .st .w) ≢ workLength n) ⊎ (length (l .st .p) ≢ n) ⊎ (length (r .question) ≢ questionLength n) → ⊥
   fitting sized (inl h) = h (rw (k .states) (k .lent .sized))
   fitting sized (inr (inl h)) = h (rw (k .states) (k .lent .pivots))
-  fitting sized (inr (inr h)) = h (rw (k .states) (eqb-true (length (r .question)) (14 * g .s .n + 6) sized))
+  fitting sized (inr (inr h)) = h (rw (k .states) (eqb-true (length (r .question)) (questionLength (g .s .n)) sized))
 
   pub reply-sizes : isSized (g .s .n) r ≡ false → answer ≡ leaves 3
   reply-sizes off =
-      let wrong : length (r .question) ≢ 14 * n + 6 = rw (k .states) (eqb-false (length (r .question)) _ off) in
+      let wrong : length (r .question) ≢ questionLength n = rw (k .states) (eqb-false (length (r .question)) _ off) in
       left-by 3 (inr (long, inr (stated, inl (inr (inr wrong), refl))))
 
   module _ (sized : isSized (g .s .n) r ≡ true) where
@@ -90,7 +90,7 @@ module _ (g : Given) (a : Start) (run : Runs g a) (l : RunState) (bytes : List �
     running e = eqb-false (phaseWord bytes) 10 (k .finished ∙ e)
 
     ranged : isOver (l .phase) ≡ false → (InRange bytes (l .st .p) → ⊥) → ⊥
-    ranged e out = out (in-range bytes (l .st .p) .0 (k .found e .passed))
+    ranged e out = out (in-range bytes (l .st .p) .0 (k .passed e))
 
     abbrev Asks : Bool → Type 0
     Asks t = isKind (r .kind) && isTaken g l (fedAs r) ≡ t
@@ -130,11 +130,11 @@ module _ (g : Given) (a : Start) (run : Runs g a) (l : RunState) (bytes : List �
           (questionOf (g .s) (m .phase) (m .st .c) (m .st .w) (r .question));
     }
 
-    write : (m : RunState) → Well 0 m → written (g .s) m lent ≡ taken m
+    write : (m : RunState) → Agrees (m .question) (m .phase) (m .st .c) → written (g .s) m lent ≡ taken m
     unfolding turnWrittenOf
-    write m w = rw (asking (m .question) (m .phase) (m .st .c) (w .agrees))
+    write m w = rw (asking (m .question) (m .phase) (m .st .c) w)
 
-    pub reply-taken : isOver (l .phase) ≡ false → Asks true → Well 0 (resumed g l (fedAs r))
-        → answer ≡ taken (resumed g l (fedAs r))
+    pub reply-taken : isOver (l .phase) ≡ false → Asks true
+        → let m = resumed g l (fedAs r) in Agrees (m .question) (m .phase) (m .st .c) → answer ≡ taken m
     reply-taken e on w =
         gone (r .kind) (r .numbers) (r .time) lent (none e on) ∙ go-is ∙ write (resumed g l (fedAs r)) w

@@ -10,7 +10,7 @@ use Prim.Native.Nat.{ℕ, _≤_}
 use native.Mathlib.Omega.{arith}
 use lib.Dec.{eqb, lit<}
 use lib.Ieee.{Float}
-use Rattle.loops.specs.Test.{differs, both}
+use Rattle.loops.proofs.Test.{differs, both}
 use Rattle.numbers.specs.Float.{zeroF}
 use Rattle.between_steps.specs.declared.Answer.{Answer}
 use Rattle.questions.specs.declared.Question.{Question}

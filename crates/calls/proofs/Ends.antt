@@ -7,7 +7,7 @@ use mathlib.Core.Path.{_≡_, refl, sym, ap, _∙_}
 use Prim.Native.Nat.{ℕ, suc}
 use native.Mathlib.Omega.{arith}
 use lib.ListN.{length}
-use Rattle.loops.specs.Test.{differs, both}
+use Rattle.loops.proofs.Test.{differs, both}
 use Rattle.numbers.specs.Float.{zeroF}
 use Rattle.questions.specs.declared.Question.the-variants as Question
 use Rattle.questions.specs.Turns.{RunState}

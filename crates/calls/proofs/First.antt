@@ -13,13 +13,14 @@ use lib.Ieee as Ieee
 use lib.Ieee.{Float, nan}
 use lib.ListN.{length, getD, replicate, length-replicate}
 use borrow.Author.Tests.{eqb-true, eqb-false, eq-eqb}
-use Rattle.loops.specs.Part.{putPart, getD-part, length-part, length-putPart, part-put, getD-beyond}
-use Rattle.loops.specs.Stores.{stores}
-use Rattle.loops.specs.Test.{differs}
+use Rattle.loops.specs.Part.{putPart}
+use Rattle.loops.proofs.Part.{getD-part, length-part, length-putPart, part-put, getD-beyond}
+use Rattle.loops.proofs.Stores.{stores}
+use Rattle.loops.proofs.Test.{differs}
 use Rattle.numbers.specs.Float.{_⊖_, zeroF}
 use Rattle.numbers.specs.Sign.{signumOf, refused}
 use Rattle.vectors.proofs.Laws.{length-ewset, ewset-written}
-use Rattle.common.specs.Layout.{ewt}
+use Rattle.common.specs.Layout.{ewt, workLength, ewtAt, savfAt, yAt}
 use Rattle.history.specs.Columns.{copyOf}
 use Rattle.history.proofs.Laws.{length-copy}
 use Rattle.questions.specs.declared.Phase.the-variants as Phase
@@ -144,44 +145,44 @@ module _ (p : Problem) (b : Buffers) (begins : Begins p b) (r : ReplyCall) (time
   w = firstWeights g f x
 
   -- the weights
-  long-work : length w ≡ n * n + 19 * n
+  long-work : length w ≡ workLength n
   unfolding beginning acceptedSettings
   long-work =
-      let zeros = replicate (n * n + 19 * n) zeroF in
-      let l0 : length zeros ≡ n * n + 19 * n = length-replicate _ _ in
-      let y = putPart (17 * n) n zeros (p .y0) in
-      let l1 : length y ≡ n * n + 19 * n = length-putPart (17 * n) n zeros (omega arith) (p .y0) refl ∙ l0 in
-      length-ewset (p .rtol) (p .atol) n (13 * n) (copyOf n 0 (17 * n) (withDerivative n f y))
-      ∙ length-copy n 0 (17 * n) (withDerivative n f y)
-      ∙ length-putPart (14 * n) (length f) y (omega (arith, long)) f refl ∙ l1
+      let zeros = replicate (workLength n) zeroF in
+      let l0 : length zeros ≡ workLength n = length-replicate _ _ in
+      let y = putPart (yAt n) n zeros (p .y0) in
+      let l1 : length y ≡ workLength n = length-putPart (yAt n) n zeros (omega arith) (p .y0) refl ∙ l0 in
+      length-ewset (p .rtol) (p .atol) n (ewtAt n) (copyOf n 0 (yAt n) (withDerivative n f y))
+      ∙ length-copy n 0 (yAt n) (withDerivative n f y)
+      ∙ length-putPart (savfAt n) (length f) y (omega (arith, long)) f refl ∙ l1
 
   weights-are : (i : ℕ) → i < n → getD (ewt n w) i nan ≡ weightOf p i
   unfolding beginning acceptedSettings copyOf
   weights-are i m =
-      let zeros = replicate (n * n + 19 * n) zeroF in
-      let l0 : length zeros ≡ n * n + 19 * n = length-replicate _ _ in
-      let y = putPart (17 * n) n zeros (p .y0) in
-      let l1 : length y ≡ n * n + 19 * n = length-putPart (17 * n) n zeros (omega arith) (p .y0) refl ∙ l0 in
+      let zeros = replicate (workLength n) zeroF in
+      let l0 : length zeros ≡ workLength n = length-replicate _ _ in
+      let y = putPart (yAt n) n zeros (p .y0) in
+      let l1 : length y ≡ workLength n = length-putPart (yAt n) n zeros (omega arith) (p .y0) refl ∙ l0 in
       let v = withDerivative n f y in
-      let l2 : length v ≡ n * n + 19 * n = length-putPart (14 * n) (length f) y (omega arith) f refl ∙ l1 in
-      let u = copyOf n 0 (17 * n) v in
-      let l3 : length u ≡ n * n + 19 * n = length-copy n 0 (17 * n) v ∙ l2 in
-      let made = ewset-written (p .rtol) (p .atol) n (13 * n) u (omega arith) (omega arith) in
-      let l4 : length w ≡ n * n + 19 * n = long-work in
-      let at17 : 14 * n + (length f + (2 * n + i)) ≡ 17 * n + i = omega (arith, long) in
-      let copied = stores nan (λ j. 0 + j) (λ j. 17 * n + j) (λ j c. c) n v
+      let l2 : length v ≡ workLength n = length-putPart (savfAt n) (length f) y (omega arith) f refl ∙ l1 in
+      let u = copyOf n 0 (yAt n) v in
+      let l3 : length u ≡ workLength n = length-copy n 0 (yAt n) v ∙ l2 in
+      let made = ewset-written (p .rtol) (p .atol) n (ewtAt n) u (omega arith) (omega arith) in
+      let l4 : length w ≡ workLength n = long-work in
+      let at17 : savfAt n + (length f + (2 * n + i)) ≡ yAt n + i = omega (arith, long) in
+      let copied = stores nan (λ j. 0 + j) (λ j. yAt n + j) (λ j c. c) n v
       (λ j k l q. (λ e. omega arith, λ e. omega arith)) (λ j l. omega arith) in
       let here : 0 + i ≡ i = omega arith in
-      let first : getD u i nan ≡ getD v (17 * n + i) nan = rw here at (copied .made i m) in
-      let second : getD v (17 * n + i) nan ≡ getD y (17 * n + i) nan =
-          rw at17 at (getD-beyond (14 * n) (length f) y f (omega arith) refl (2 * n + i) nan) in
-      let third : getD y (17 * n + i) nan ≡ getD (p .y0) i nan =
-          sym (getD-part (17 * n) n y (omega arith) i nan m)
-          ∙ ap (λ (l : List Float). getD l i nan) (part-put (17 * n) n zeros (p .y0) (omega arith) refl) in
-      getD-part (13 * n) n w (omega arith) i nan m ∙ made .made i m ∙ rw (first, second, third)
+      let first : getD u i nan ≡ getD v (yAt n + i) nan = rw here at (copied .made i m) in
+      let second : getD v (yAt n + i) nan ≡ getD y (yAt n + i) nan =
+          rw at17 at (getD-beyond (savfAt n) (length f) y f (omega arith) refl (2 * n + i) nan) in
+      let third : getD y (yAt n + i) nan ≡ getD (p .y0) i nan =
+          sym (getD-part (yAt n) n y (omega arith) i nan m)
+          ∙ ap (λ (l : List Float). getD l i nan) (part-put (yAt n) n zeros (p .y0) (omega arith) refl) in
+      getD-part (ewtAt n) n w (omega arith) i nan m ∙ made .made i m ∙ rw (first, second, third)
 
   long-weights : length (ewt n w) ≡ n
-  long-weights = length-part (13 * n) n w (omega (arith, long-work))
+  long-weights = length-part (ewtAt n) n w (omega (arith, long-work))
 
   abbrev a : Reply
   a = replied (startOf p b) r .reply

@@ -11,11 +11,12 @@ use native.Mathlib.Omega.{arith}
 use lib.Ieee.{Float}
 use lib.ListN.{length, take, drop, length-append}
 use lib.Seq.{take-at, length-take-le}
-use Rattle.loops.specs.Test.{differs, both}
-use Rattle.loops.specs.Part.{part, putPart, length-part}
+use Rattle.loops.proofs.Test.{differs, both}
+use Rattle.loops.specs.Part.{part, putPart}
+use Rattle.loops.proofs.Part.{length-part}
 use Rattle.numbers.specs.Float.{zeroF}
 use Rattle.common.specs.declared.Common.{Common}
-use Rattle.common.specs.Layout.{y}
+use Rattle.common.specs.Layout.{y, yAt, matrixAt}
 use Rattle.between_steps.specs.declared.Answer.the-variants.{Continue}
 use Rattle.questions.specs.declared.Phase.{Phase}
 use Rattle.questions.specs.declared.Question.{Question}
@@ -79,15 +80,15 @@ put-first n k q v s e =
     let long : n ≤ length z = omega (arith, e, length-append v (drop n q)) in
     take-at (take n z) (s ++ drop k (drop n z)) n (length-take-le n z long) ∙ take-at v (drop n q) n e
 
-module _ (n order : ℕ) (c : Common) (work q : List Float) (room : 19 * n ≤ length work) where
+module _ (n order : ℕ) (c : Common) (work q : List Float) (room : matrixAt n ≤ length work) where
   reads-state : (v : Question) (phase : Phase) → isReported v ≡ true
       → part 0 n (saidOf n order (shownAs n v phase c work) q .question) ≡ y n work
   unfolding shownAs
   reads-state (Question.FirstReport a) phase h =
-      put-first n 0 q (y n work) [] (length-part (17 * n) n work (omega arith))
+      put-first n 0 q (y n work) [] (length-part (yAt n) n work (omega arith))
   reads-state (Question.Report r) phase h =
       let s = snapshotShown n (r .order) c work in
-      put-first n (length s) q (y n work) s (length-part (17 * n) n work (omega arith))
+      put-first n (length s) q (y n work) s (length-part (yAt n) n work (omega arith))
   reads-state (Question.Derivative a) phase h = differs h
   reads-state (Question.Jacobian a) phase h = differs h
   reads-state (Question.Finished e) phase h = differs h
@@ -160,7 +161,7 @@ module _ (g : Given) (a : Start) (run : Runs g a) (one : g .s .n ≡ 1) where
       let v = l .question in
       let c = l .st .c in
       let state = y (g .s .n) (l .st .w) in
-      let room : 19 * g .s .n ≤ length (l .st .w) = omega (arith, h .at .keeps .lent .sized) in
+      let room : matrixAt (g .s .n) ≤ length (l .st .w) = omega (arith, h .at .keeps .lent .sized) in
       let first : part 0 (g .s .n) (x .lent .question) ≡ state =
       ap (λ (z : Said). part 0 (g .s .n) (z .question)) (said-shown l x h)
       ∙ reads-state (g .s .n) (stateAt (h .node) .c .nq) c (l .st .w) (h .question) room v (l .phase) (w .0) in

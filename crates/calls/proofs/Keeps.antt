@@ -15,17 +15,19 @@ use lib.Dec.{lit<}
 use lib.Ieee.{Float}
 use lib.ListN.{length, getD}
 use Rattle.loops.specs.Part.{part}
-use Rattle.loops.specs.Test.{differs}
+use Rattle.loops.proofs.Test.{differs}
 use Rattle.questions.specs.declared.Phase.{Phase}
 use Rattle.questions.specs.declared.Phase.the-variants as Phase
-use Rattle.between_steps.specs.Ranges.{Counts, Lent}
-use Rattle.questions.specs.Requires.{Resumes, UnlessFinished}
+use Rattle.common.specs.Ranges.{Counts, Lent}
+use Rattle.common.proofs.Ranges.{wider}
+use Rattle.questions.specs.Requires.{UnlessFinished}
 use Rattle.questions.specs.Turns.{RunState}
 use Rattle.invariants.proofs.Lent.{resume-lent}
-use Rattle.session.specs.Fields.{Fit, CountsFit, FloatsFit, Fits}
+use Rattle.session.proofs.Fits.{Fit, CountsFit, FloatsFit, Fits}
 use Rattle.session.specs.Session.{encodeOf, decodeOf, rtolSlots, atolSlots, storedN, finishedIn, OneOrN}
 use Rattle.session.specs.Session.{tolerancesInRange, inRangeOf}
 use Rattle.session.proofs.Back.{length-encode, encoded-count, finished-encode, decode-encode, rtol-kept, atol-kept}
+use Rattle.session.proofs.Listed.{counts-fit}
 use Rattle.session.proofs.Passes.{passes, tolerances-kept}
 use Rattle.common.specs.SessionWords.{sessionLength}
 use Rattle.common.specs.State.{Given}
@@ -39,7 +41,6 @@ use Rattle.invariants.proofs.Ranges.{Closing}
 use Rattle.invariants.proofs.Fits.{floats-kept}
 use Rattle.calls.specs.Follow.{slotsOf}
 use Rattle.calls.proofs.Agrees.{isOver}
-use Rattle.calls.proofs.Low.{Low}
 
 -- ---- phases
 
@@ -70,11 +71,6 @@ pub record Runs (g : Given) (a : Start) : Type 0 where
   pub nrtol : OneOrN (g .s .n) (g .s .nrtol)
   pub natol : OneOrN (g .s .n) (g .s .natol)
 
--- of a run that has not ended
-pub record Found (g : Given) (l : RunState) (bytes : List ℕ) : Type 0 where
-  pub passed : inRangeOf bytes (l .st .p) ≡ true
-  pub ialth : l .st .c .ialth ≤ 13
-
 pub record Keeps (g : Given) (l : RunState) (bytes : List ℕ) : Type 0 where
   pub long : length bytes ≡ sessionLength
   pub lent : Lent (g .s .n) (l .st .w) (l .st .p)
@@ -86,13 +82,9 @@ pub record Keeps (g : Given) (l : RunState) (bytes : List ℕ) : Type 0 where
   pub signs : tolerancesInRange bytes (g .s) ≡ true
   pub floats : FloatsFit (sessionFound g l)
   pub decoded : decodeOf bytes ≡ sessionFound g l
-  pub found : isOver (l .phase) ≡ false → Found g l bytes
+  pub passed : isOver (l .phase) ≡ false → inRangeOf bytes (l .st .p) ≡ true
 
 -- ---- an encoding
-
-low-ialth : (nq ialth : ℕ) → nq ≤ 12 → (ialth ≤ 13) ⊎ (ialth ≤ nq + 1) → ialth ≤ 13
-low-ialth nq ialth h (inl p) = p
-low-ialth nq ialth h (inr p) = omega arith
 
 pub pivots-below : {n : ℕ} {work : List Float} {ipiv : List ℕ} → Lent n work ipiv
     → (k : ℕ) → k < length ipiv → getD ipiv k 0 < n
@@ -101,57 +93,14 @@ pivots-below p k h = p .below k (omega (arith, p .pivots))
 module _ (g : Given) (a : Start) (run : Runs g a) where
   -- a run's counts, whether it has ended or not
   pub record Bounded (l : RunState) : Type 0 where
-    pub closing : Closing (g .s) (coreOf (l .st .c))
+    pub closing : Closing (g .s) 0 (coreOf (l .st .c))
     pub counts : Counts (l .st .c) (2 ^ 62 - 1)
-    pub low : Low 0 (l .st .c)
 
   pub counts-fit-of : (l : RunState) → Bounded l → CountsFit (sessionFound g l)
   counts-fit-of l h =
-      let s = run .ok .settings in
-      let c = l .st .c in
-      let k = h .counts in
-      let o = h .closing in
-      record {
-        n = omega (arith, s .n);
-        maxsteps = omega (arith, s .maxsteps);
-        mxordn = omega (arith, s .mxordn);
-        mxords = omega (arith, s .mxords);
-        maxcor = omega (arith, s .maxcor);
-        msbp = omega (arith, s .msbp);
-        mxncf = omega (arith, s .mxncf);
-        nrtol = ⊎-elim (λ e. omega arith) (λ e. omega (arith, s .n)) (run .nrtol);
-        natol = ⊎-elim (λ e. omega arith) (λ e. omega (arith, s .n)) (run .natol);
-        nq = omega (arith, o .nq);
-        lmax = omega (arith, o .lmax);
-        nqnyh = omega (arith, o .nqnyh, s .n);
-        ialth = omega (arith, low-ialth (c .nq) (c .ialth) (o .nq) (h .low));
-        icount = omega (arith, o .icount);
-        table = omega (arith, o .table);
-        nslp = omega (arith, k .nslp);
-        nst = omega (arith, k .nst);
-        nfe = omega (arith, k .nfe);
-        nje = omega (arith, k .nje);
-        nlu = omega (arith, k .nlu);
-        rejected = omega (arith, k .rejected);
-        total = omega (arith, k .total);
-        count = omega (arith, k .count);
-        kflag = omega (arith, o .kflag);
-        ncf = omega (arith, o .ncf, s .mxncf);
-        m = omega (arith, o .m, s .maxcor);
-        column = omega (arith, o .column, s .n);
-      }
-
-  pub found-after : (l : RunState) (bytes : List ℕ) → sessionLength ≤ length bytes → Fits (sessionFound g l)
-      → tolerancesInRange bytes (g .s) ≡ true → Low 0 (l .st .c)
-      → Resumes (sessionFound g l) (g .rtol) (g .atol) (l .st .w) (l .st .p)
-      → Found g l (encodeOf (sessionFound g l) bytes)
-  found-after l bytes room fits signs low r =
-      let c = l .st .c in
-      record {
-        passed = passes (sessionFound g l) bytes room fits (r .ranges) (run .nrtol) (run .natol) signs (l .st .p)
-            (pivots-below (r .lent));
-        ialth = low-ialth (c .nq) (c .ialth) (r .ranges .orders .nq .1) low;
-      }
+      let e = h .closing in
+      counts-fit (sessionFound g l) (run .ok .settings) (h .counts) (e .orders)
+      (wider (omega arith) (omega arith) (omega arith) (omega arith) (e .counters)) (run .nrtol) (run .natol)
 
   -- ---- after a reply
 
@@ -180,6 +129,8 @@ module _ (g : Given) (a : Start) (run : Runs g a) where
           signs = tolerances-kept x bytes room (g .s) (k .signs);
           floats = floats;
           decoded = decode-encode x bytes room fits;
-          found = λ e. found-after after bytes room fits (k .signs) (bounded .low)
-              (unless (after .phase) e inRun);
+          passed = λ e.
+              let r = unless (after .phase) e inRun in
+              passes x bytes room fits (r .ranges) (run .nrtol) (run .natol) (k .signs) (after .st .p)
+              (pivots-below (r .lent));
         }

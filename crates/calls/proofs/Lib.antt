@@ -1,5 +1,4 @@
 pub mod Agrees
-pub mod Low
 pub mod ReplyGap
 pub mod Turns
 pub mod Said

@@ -12,7 +12,7 @@ use lib.ListN.{getD}
 use lib.Ieee as Ieee
 use lib.Ieee.{Float, nan}
 use borrow.Author.Tests.{eqb-false, ltb-true, ltb-false}
-use Rattle.loops.specs.Test.{differs}
+use Rattle.loops.proofs.Test.{differs}
 use Rattle.numbers.specs.Float.{zeroF}
 use Rattle.vectors.specs.declared.Weights.{Weights}
 use Rattle.vectors.specs.declared.Weights.the-variants.{Inverted, Refused}
@@ -23,7 +23,7 @@ use Rattle.questions.specs.declared.Phase.the-variants as Phase
 use Rattle.questions.specs.declared.Session.{Session}
 use Rattle.reports.specs.Reports.{sizedAt, sizedOf, weightedAt, firstDerivativeOf}
 use Rattle.between_steps.specs.Start.{inverted}
-use Rattle.machine.specs.Resume.{dealtOf}
+use Rattle.machine.specs.Resume.{resumeAt}
 use Rattle.session.specs.Session.{decodeOf}
 use Rattle.answers.specs.declared.Reply.{Reply}
 use Rattle.answers.specs.Answers.{plainReply, questionReply}
@@ -148,7 +148,7 @@ module _ (kind : ℕ) (numbers : List Float) (time : Float) (b : Buffers) where
 
   module _ (h : NoneHolds (replyRows kind numbers b)) (e : phaseIn b ≡ Phase.FirstDerivative) where
     reply-is : reply ≡ said (weightsOutcome (invertOf weights))
-    unfolding dealtOf firstDerivativeOf
+    unfolding resumeAt firstDerivativeOf
     reply-is = answer-at kind numbers time b Phase.FirstDerivative (kindOf kind) h e refl
 
     pub says : Says

@@ -10,7 +10,7 @@ use Prim.Native.Nat.{ℕ, _≤_, _<_}
 use lib.Dec.{eqb, lit≤}
 use lib.Ieee.{Float}
 use borrow.Author.Tests.{eqb-true, le-leb, lt-leb}
-use Rattle.loops.specs.Test.{differs}
+use Rattle.loops.proofs.Test.{differs}
 use Rattle.numbers.specs.Float.{_⊕_, zeroF}
 use Rattle.common.specs.declared.Settings.{Settings}
 use Rattle.common.specs.declared.Common.{Common}
@@ -31,7 +31,7 @@ use Rattle.questions.specs.Turns.{turnIn, askedOf, askedInStepOf, finishedOf}
 use Rattle.questions.specs.Begin.{openPassOf, beganOf, goOnAt, goOnOf}
 use Rattle.between_steps.specs.Begin.{isGoing}
 use Rattle.reports.specs.Reports.{afterFirstReportOf, afterReportOf}
-use Rattle.machine.specs.Resume.{dealtOf, resumeOf}
+use Rattle.machine.specs.Resume.{resumeAt, resumeOf}
 use Rattle.session.specs.Session.{decodeOf, encodeOf}
 use Rattle.answers.specs.declared.Reply.{Reply}
 use Rattle.answers.specs.Answers.{plainReply, statusNumber, questionReply}
@@ -44,9 +44,8 @@ use Rattle.calls.specs.ReplyRefused.{phaseIn, replyRows}
 use Rattle.calls.specs.ReplyMeans.{Kinds, Numbers, Listed, endedBy, AtReport, HeldAtEnd, Meant, ReplyMeans}
 use Rattle.calls.proofs.Agrees.{status-number, asking}
 use Rattle.calls.proofs.Turns.{resume-means}
-use Rattle.calls.proofs.ReplyRefused.{isRefusing, givenIn, stateIn, stored-phase, gone, is-now, agreed}
-use Rattle.calls.proofs.ReplyRefused.{went, refusing}
-use Rattle.calls.proofs.ReplyRefused.{reply-refused}
+use Rattle.calls.proofs.ReplyRefused.{isRefusing, givenIn, stateIn, stored-phase, gone, is-now, agreed, went}
+use Rattle.calls.proofs.ReplyRefused.{refusing, reply-refused}
 
 pub kinds : Kinds
 unfolding kindOf
@@ -187,20 +186,20 @@ module _ (kind : ℕ) (numbers : List Float) (time : Float) (b : Buffers) where
 
   -- the answer, of a phase and a kind that are known
   pub answer-at : (p : Phase) (k : Kind) → NoneHolds rows → phaseIn b ≡ p → kindOf kind ≡ k
-      → reply .reply ≡ questionReply (dealtOf (givenIn b) p (stateIn b) k numbers time .question)
+      → reply .reply ≡ questionReply (resumeAt (givenIn b) p (stateIn b) k numbers time .question)
   unfolding resumeOf
   answer-at p k h e f =
       went kind numbers time b h
       ∙ rw (is-now kind numbers time b h)
-      (ap (λ (q : Phase). questionReply (dealtOf (givenIn b) q (stateIn b) (kindOf kind) numbers time .question))
+      (ap (λ (q : Phase). questionReply (resumeAt (givenIn b) q (stateIn b) (kindOf kind) numbers time .question))
       (stored-phase (b .session) ∙ e)
-      ∙ ap (λ (j : Kind). questionReply (dealtOf (givenIn b) p (stateIn b) j numbers time .question)) f)
+      ∙ ap (λ (j : Kind). questionReply (resumeAt (givenIn b) p (stateIn b) j numbers time .question)) f)
 
   kind-is : (k : ℕ) → kind ≡ k → kindOf kind ≡ kindOf k
   kind-is k e = ap kindOf e
 
   interruption : NoneHolds rows → AtReport (phaseIn b) → kind ≡ 4 → reply .reply ≡ endedBy 111 (x .common)
-  unfolding dealtOf afterFirstReportOf afterReportOf finishedOf
+  unfolding resumeAt afterFirstReportOf afterReportOf finishedOf
   interruption h (inl e) f = answer-at Phase.FirstReport (Kind.Report Interrupt) h e (kind-is 4 f ∙ kinds .interrupts)
   interruption h (inr e) f = answer-at Phase.Report (Kind.Report Interrupt) h e (kind-is 4 f ∙ kinds .interrupts)
 
@@ -213,12 +212,12 @@ module _ (kind : ℕ) (numbers : List Float) (time : Float) (b : Buffers) where
 
   first-modified : NoneHolds rows → phaseIn b ≡ Phase.FirstReport → kind ≡ 5
       → reply .reply ≡ plainReply 100 0 zeroF time
-  unfolding dealtOf afterFirstReportOf askedOf
+  unfolding resumeAt afterFirstReportOf askedOf
   first-modified h e f = answer-at Phase.FirstReport (Kind.Report Modified) h e (kind-is 5 f ∙ kinds .modifies)
 
   modified : NoneHolds rows → phaseIn b ≡ Phase.Report → kind ≡ 5
       → reply .reply ≡ plainReply 100 0 zeroF (x .common .told ⊕ x .common .hu)
-  unfolding dealtOf afterReportOf askedOf
+  unfolding resumeAt afterReportOf askedOf
   modified h e f = answer-at Phase.Report (Kind.Report Modified) h e (kind-is 5 f ∙ kinds .modifies)
 
   abbrev given : Common
@@ -227,7 +226,7 @@ module _ (kind : ℕ) (numbers : List Float) (time : Float) (b : Buffers) where
   -- continue goes on, from one work or another
   continued : NoneHolds rows → AtReport (phaseIn b) → kind ≡ 3
       → (work : List Float) × (reply .reply ≡ next (x .settings) given work (b .pivots))
-  unfolding dealtOf afterFirstReportOf afterReportOf
+  unfolding resumeAt afterFirstReportOf afterReportOf
   continued h (inl e) f =
       (_, answer-at Phase.FirstReport (Kind.Report Continue) h e (kind-is 3 f ∙ kinds .continues))
   continued h (inr e) f = (_, answer-at Phase.Report (Kind.Report Continue) h e (kind-is 3 f ∙ kinds .continues))

@@ -14,7 +14,7 @@ use lib.Dec.{eqb, ltb, lit<}
 use lib.Ieee.{Float}
 use lib.ListN.{length}
 use borrow.Author.Tests.{eqb-true, eqb-false, lt-leb}
-use Rattle.loops.specs.Test.{differs, both, one-of}
+use Rattle.loops.proofs.Test.{differs, both, one-of}
 use Rattle.numbers.specs.Float.{zeroF}
 use Rattle.common.specs.Limits.{maxStates}
 use Rattle.common.specs.SessionWords.{countWords, sessionLength}
@@ -27,6 +27,7 @@ use Rattle.questions.specs.Turns.{turnIn}
 use Rattle.machine.specs.Resume.{isAsked}
 use Rattle.between_steps.specs.Replies.{isDerivative, isJacobian, isAnswer}
 use Rattle.words.proofs.Rows.{counts-at}
+use Rattle.common.specs.Layout.{questionLength, workLength}
 use Rattle.session.specs.States.{phaseOf}
 use Rattle.session.specs.Session.{decodeOf, rtolOf, atolOf, finishedIn, inRangeOf}
 use Rattle.session.specs.Names.{nWord, phaseWord}
@@ -48,7 +49,7 @@ use Rattle.calls.specs.Run.{isRefusal}
 use Rattle.calls.specs.ReplyRefused.{awaits, Asked, derivative, jacobian, answer, phaseIn, replyRows}
 use Rattle.calls.specs.ReplyRefused.{ReplyRefused}
 use Rattle.calls.proofs.Agrees.{Agrees, not-refusal}
-use Rattle.calls.proofs.Turns.{resume-well, resume-same}
+use Rattle.calls.proofs.Turns.{resume-agrees, resume-same}
 
 -- ---- rows in order
 
@@ -165,10 +166,11 @@ module _ (n len : ℕ) where
 
 lengths-are : (n work pivots question : ℕ) (rest : Refusal)
     → orElse (lengthsRefusal n work pivots question) rest
-    ≡ cond (not (eqb work (n * n + 19 * n)) || (not (eqb pivots n) || not (eqb question (14 * n + 6)))) (plain 3) rest
+    ≡ cond (not (eqb work (workLength n)) || (not (eqb pivots n) || not (eqb question (questionLength n)))) (plain 3)
+    rest
 unfolding lengthsRefusal inOrder alsoOf orElse
 lengths-are n work pivots question rest =
-    by (not (eqb work (n * n + 19 * n))) (not (eqb pivots n)) (not (eqb question (14 * n + 6)))
+    by (not (eqb work (workLength n))) (not (eqb pivots n)) (not (eqb question (questionLength n)))
   where
     by : (s t u : Bool) → orElse (alsoOf (alsoOf (alsoOf none s 3) t 3) u 3) rest ≡ cond (s || (t || u)) (plain 3) rest
     by true t u = refl
@@ -223,8 +225,8 @@ module _ (kind : ℕ) (numbers : List Float) (time : Float) (b : Buffers) where
   unstated = eqb n 0 || ltb maxStates n
 
   abbrev unsized : Bool
-  unsized = not (eqb (length (b .work)) (n * n + 19 * n))
-      || (not (eqb (length (b .pivots)) n) || not (eqb (length (b .question)) (14 * n + 6)))
+  unsized = not (eqb (length (b .work)) (workLength n))
+      || (not (eqb (length (b .pivots)) n) || not (eqb (length (b .question)) (questionLength n)))
 
   abbrev outside : Bool
   outside = not (inRangeOf (b .session) (b .pivots))
@@ -304,8 +306,8 @@ module _ (kind : ℕ) (numbers : List Float) (time : Float) (b : Buffers) where
       rw reply-is
       (says-row unlong 3 (denied _ (equal (length (b .session)) sessionLength))
       (says-row unstated 13 (or (eqb n 0) (ltb maxStates n) (equal n 0) (smaller maxStates n))
-      (says-row unsized 3 (or _ _ (denied _ (equal (length (b .work)) (n * n + 19 * n)))
-      (or _ _ (denied _ (equal (length (b .pivots)) n)) (denied _ (equal (length (b .question)) (14 * n + 6)))))
+      (says-row unsized 3 (or _ _ (denied _ (equal (length (b .work)) (workLength n)))
+      (or _ _ (denied _ (equal (length (b .pivots)) n)) (denied _ (equal (length (b .question)) (questionLength n)))))
       (says-row (finishedIn (b .session)) 14 (equal (phaseWord (b .session)) 10)
       (says-row outside 13 (denied _ in-ranges)
       (says-row (not (isKind kind && isNow)) 14 (denied _ asked-now) (takes tt refl)))))))
@@ -339,8 +341,7 @@ module _ (kind : ℕ) (numbers : List Float) (time : Float) (b : Buffers) where
       → let t = turnIn (turned (kindOf kind) numbers time b) in Agrees (t .question) (t .phase) (t .common)
   agreed h =
       let x = decodeOf (b .session) in
-      resume-well (x .common .ialth) (givenIn b) (stateIn b) numbers time (omega arith) (x .phase) (kindOf kind)
-      (is-now h) .agrees
+      resume-agrees (givenIn b) (x .phase) (stateIn b) (kindOf kind) numbers time (is-now h)
 
   taken-not : NoneHolds (replyRows kind numbers b) → isRefusal (replyOf kind numbers time b .reply) ≡ false
   taken-not h =

@@ -11,11 +11,12 @@ use native.Mathlib.Nat.{mul-le-mul-right, add-assoc}
 use lib.Ieee.{Float}
 use lib.ListN.{length, take, drop, take-append-drop}
 use lib.Seq.{length-take-le, drop-drop}
-use Rattle.loops.specs.Part.{putPart, length-part, length-putPart}
-use Rattle.loops.specs.Test.{differs}
+use Rattle.loops.specs.Part.{putPart}
+use Rattle.loops.proofs.Part.{length-part, length-putPart}
+use Rattle.loops.proofs.Test.{differs}
 use Rattle.common.specs.declared.Settings.{Settings}
 use Rattle.common.specs.declared.Common.{Common}
-use Rattle.common.specs.Layout.{y}
+use Rattle.common.specs.Layout.{y, questionLength, yAt, matrixAt}
 use Rattle.interpolation.specs.Snapshot.{snapshotOf}
 use Rattle.interpolation.proofs.Roundtrip.{header, size, snapshot-is}
 use Rattle.questions.specs.declared.Phase.{Phase}
@@ -33,7 +34,6 @@ use Rattle.answers.specs.Answers.{questionReply}
 use Rattle.raimsklo.specs.Replies.{withY, questionOf}
 use Rattle.calls.specs.Follow.{says, saidOf, saidAt}
 use Rattle.calls.proofs.Agrees.{isOver, forDerivative, Agrees}
-use Rattle.calls.proofs.Turns.{Well}
 
 -- ---- the question slice
 
@@ -41,8 +41,8 @@ use Rattle.calls.proofs.Turns.{Well}
 put-none : (n : ℕ) (q : List Float) → putPart n 0 q [] ≡ q
 put-none n q = take-append-drop n q
 
-module _ (s : Settings) (c : Common) (work q : List Float) (order : c .nq ≤ 12) (history : 19 * s .n ≤ length work)
-    (room : length q ≡ 14 * s .n + 6) where
+module _ (s : Settings) (c : Common) (work q : List Float) (order : c .nq ≤ 12)
+    (history : matrixAt (s .n) ≤ length work) (room : length q ≡ questionLength (s .n)) where
   abbrev shot : List Float
   shot = Seen.snapshotShown (s .n) (c .nq) c work
 
@@ -68,11 +68,12 @@ module _ (s : Settings) (c : Common) (work q : List Float) (order : c .nq ≤ 12
 
 -- ---- what the machine shows
 
-module _ (s : Settings) (c : Common) (work q : List Float) (history : 19 * s .n ≤ length work)
-    (room : length q ≡ 14 * s .n + 6) where
-  length-withY : length (withY s work q) ≡ 14 * s .n + 6
+module _ (s : Settings) (c : Common) (work q : List Float) (history : matrixAt (s .n) ≤ length work)
+    (room : length q ≡ questionLength (s .n)) where
+  length-withY : length (withY s work q) ≡ questionLength (s .n)
   length-withY =
-      length-putPart 0 (s .n) q (omega arith) (y (s .n) work) (length-part (17 * s .n) (s .n) work (omega arith)) ∙ room
+      length-putPart 0 (s .n) q (omega arith) (y (s .n) work) (length-part (yAt (s .n)) (s .n) work (omega arith))
+      ∙ room
 
   abbrev Says : Question → Phase → Type 0
   Says v phase =
@@ -105,12 +106,13 @@ module _ (s : Settings) (c : Common) (work q : List Float) (history : 19 * s .n 
 -- ---- what the tree says
 
 module _ (g : Given) where
-  pub says-node : (t : Play) (l : RunState) (q : List Float) → AtNode g t l → Well 0 l
-      → (isOver (l .phase) ≡ false → l .st .c .nq ≤ 12) → 19 * g .s .n ≤ length (l .st .w)
-      → length q ≡ 14 * g .s .n + 6
+  pub says-node : (t : Play) (l : RunState) (q : List Float) → AtNode g t l
+      → Agrees (l .question) (l .phase) (l .st .c)
+      → (isOver (l .phase) ≡ false → l .st .c .nq ≤ 12) → matrixAt (g .s .n) ≤ length (l .st .w)
+      → length q ≡ questionLength (g .s .n)
       → says (questionReply (l .question)) (questionOf (g .s) (l .phase) (l .st .c) (l .st .w) q)
       ≡ saidAt (g .s .n) t q
   says-node t l q s w o history room =
       let f = arrived g t l s in
-      says-question (g .s) (l .st .c) (l .st .w) q history room (l .question) (l .phase) (w .agrees) o
+      says-question (g .s) (l .st .c) (l .st .w) q history room (l .question) (l .phase) w o
       ∙ rw (f .shows, f .holds .same)

@@ -12,7 +12,7 @@ use Rattle.common.specs.Limits.{maxStates}
 use Rattle.numbers.specs.Float.{zeroF}
 use Rattle.words.specs.Words.{word, floatsIn, slotOf}
 use Rattle.words.proofs.Rows.{length-floats, floats-at}
-use Rattle.session.specs.Session.{ListFits}
+use Rattle.session.proofs.Fits.{ListFits}
 use Rattle.session.proofs.Back.{slot-fits, slot-back}
 use Rattle.calls.specs.Follow.{slotsOf}
 

@@ -12,7 +12,7 @@ use lib.Dec.{eqb, leb, lit<}
 use lib.Ieee.{Float}
 use lib.ListN.{length}
 use borrow.Author.Tests.{eqb-true, eqb-false, leb-true, le-leb}
-use Rattle.loops.specs.Test.{differs, both}
+use Rattle.loops.proofs.Test.{differs, both}
 use Rattle.questions.specs.declared.Question.{Question}
 use Rattle.between_steps.specs.declared.Status.{Status}
 use Rattle.questions.specs.Turns.{RunState}

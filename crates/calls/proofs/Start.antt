@@ -23,13 +23,15 @@ use Rattle.common.specs.SessionWords.{rtolAt, atolAt, sessionLength}
 use Rattle.common.specs.Limits.{maxStates}
 use Rattle.common.specs.Initial.{initialOf}
 use Rattle.refusals.specs.Start.{acceptedSettings}
-use Rattle.session.specs.Fields.{countsOf, FloatsFit, Fits}
-use Rattle.session.specs.Session.{ListFits, encodeOf, decodeOf, putTolerancesOf, OneOrN, tolerancesInRange}
+use Rattle.session.specs.Fields.{countsOf}
+use Rattle.session.specs.Session.{encodeOf, decodeOf, putTolerancesOf, OneOrN, tolerancesInRange, inRangeOf}
+use Rattle.session.proofs.Fits.{FloatsFit, Fits, ListFits}
 use Rattle.session.proofs.Back.{length-encode, encoded-count, finished-encode, decode-encode, counts-back}
 use Rattle.session.proofs.Back.{length-put-tolerances, put-other, counts-put, decode-put, rtol-put, atol-put}
 use Rattle.session.proofs.Back.{rtol-slot, atol-slot}
 use Rattle.session.proofs.Passes.{assembled, fields-in-range, pivots-in-range, tolerances-put}
 use Rattle.session.proofs.Listed.{counts-fit}
+use Rattle.common.proofs.Ranges.{wider}
 use Rattle.common.specs.State.{Given}
 use Rattle.rules.specs.Rules.{Start, beginning}
 use Rattle.invariants.specs.Next.{sessionFound}
@@ -47,7 +49,7 @@ use Rattle.calls.specs.Run.{Begins}
 use Rattle.calls.specs.Follow.{givenOf, fromOf}
 use Rattle.calls.proofs.WellFormed.{refusalOf, some-start, start-number-is, well-formed}
 use Rattle.calls.proofs.Slots.{slots-put}
-use Rattle.calls.proofs.Keeps.{Runs, Found, Keeps, pivots-below}
+use Rattle.calls.proofs.Keeps.{Runs, Keeps, pivots-below}
 use Rattle.calls.proofs.Answers.{lentOf}
 
 pub clear-all : (l : List ℕ) → clearedOf l ≡ replicate (length l) 0
@@ -147,7 +149,10 @@ module _ (p : Problem) (b : Buffers) (begins : Begins p b) where
   fits : Fits x
   unfolding beginning initialOf
   fits = record {
-    counts = counts-fit x (resumes .ranges) (begun-run .nrtol) (begun-run .natol) (omega arith);
+    counts = let r = resumes .ranges in
+        counts-fit x (r .settings) (r .counts) (r .orders)
+        (wider (omega arith) (omega arith) (omega arith) (omega arith) (r .counters)) (begun-run .nrtol)
+        (begun-run .natol);
     floats = floats;
   }
 
@@ -166,17 +171,13 @@ module _ (p : Problem) (b : Buffers) (begins : Begins p b) where
   decoded =
       decode-put (p .rtol) (p .atol) (encodeOf x (b .session)) ∙ decode-encode x (b .session) room fits
 
-  pub begun-found : Found g (startedAt g a) bytes
+  pub begun-passed : inRangeOf bytes (startedAt g a .st .p) ≡ true
   unfolding beginning initialOf
-  begun-found =
-      let e = encodeOf x (b .session) in
-      record {
-        passed = assembled bytes (startedAt g a .st .p) x (countsOf x) decoded
-            (counts-put (p .rtol) (p .atol) e ∙ counts-back x (b .session) room fits)
-            (fields-in-range x fits (resumes .ranges) (begun-run .nrtol) (begun-run .natol)) signs
-            (pivots-in-range (startedAt g a .st .p) (g .s .n) (pivots-below (resumes .lent)));
-        ialth = omega arith;
-      }
+  begun-passed =
+      assembled bytes (startedAt g a .st .p) x (countsOf x) decoded
+      (counts-put (p .rtol) (p .atol) (encodeOf x (b .session)) ∙ counts-back x (b .session) room fits)
+      (fields-in-range x fits (resumes .ranges) (begun-run .nrtol) (begun-run .natol)) signs
+      (pivots-in-range (startedAt g a .st .p) (g .s .n) (pivots-below (resumes .lent)))
 
   pub begun-keeps : Keeps g (startedAt g a) bytes
   unfolding acceptedSettings
@@ -202,5 +203,5 @@ module _ (p : Problem) (b : Buffers) (begins : Begins p b) where
         signs = signs;
         floats = floats;
         decoded = decoded;
-        found = λ e. begun-found;
+        passed = λ e. begun-passed;
       }

@@ -42,13 +42,12 @@ use Rattle.between_steps.specs.Start as Start
 use Rattle.questions.specs.Begin as Turns
 use Rattle.passes.specs.Pass as Pass
 use Rattle.reports.specs.Reports as Reports
-use Rattle.machine.specs.Resume.{dealtOf, resumeOf}
+use Rattle.machine.specs.Resume.{resumeAt, resumeOf}
 use Rattle.refusals.specs.declared.Lengths.{Lengths}
 use Rattle.refusals.specs.Refusal.{alsoOf, inOrder, orElse}
 use Rattle.refusals.specs.Start as Refusals
 use Rattle.refusals.specs.Start.{startRefusalOf, acceptedSettings, givenStepOf}
-use Rattle.session.specs.Fields.{Fit}
-use Rattle.session.specs.Session.{ListFits}
+use Rattle.session.proofs.Fits.{Fit, ListFits}
 use Rattle.common.specs.State.{Given}
 use Rattle.rules.specs.Rules.{Start, beginning}
 use Rattle.refinement.specs.Shown.{Shown, wantsDerivative, wantsJacobian, reports, ends, refusesStep, refusesWeight}
@@ -242,7 +241,7 @@ accepted = (refl, refl, refl, refl)
 
 computed : Ends row8 × Ends row9 × Ends row10 × Ends row11 × Ends row12
 unfolding allowed hosted shownAs acceptedSettings givenStepOf Refusals.smallestOf Refusals.largestOf Refusals.inverseOf
-    Refusals.inverseLargestOf beginning dealtOf resumeOf askedInStepOf finishedOf
+    Refusals.inverseLargestOf beginning resumeAt resumeOf askedInStepOf finishedOf
     Begin.setupOf Begin.preparedAt Begin.preparedOf Begin.predictedAt Begin.firstPredictionOf Turns.openPassOf
     Turns.beganOf Turns.goOnAt Turns.goOnOf Pass.attemptedAt Pass.reportedOf Pass.closedAt Pass.endStepOf
     Pass.acceptedAt

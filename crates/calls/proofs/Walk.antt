@@ -13,8 +13,8 @@ use native.Mathlib.Omega.{arith}
 use lib.Ieee.{Float}
 use lib.ListN.{length, replicate, length-replicate}
 use borrow.Author.Tests.{eqb-true}
-use Rattle.loops.specs.Test.{both}
-use Rattle.loops.specs.Part.{part-put}
+use Rattle.loops.proofs.Test.{both}
+use Rattle.loops.proofs.Part.{part-put}
 use Rattle.numbers.specs.Float.{zeroF}
 use Rattle.between_steps.specs.declared.Kind.{Kind}
 use Rattle.questions.specs.declared.Phase.{Phase}
@@ -28,14 +28,14 @@ use Rattle.invariants.proofs.Host.{is-f64-fits}
 use Rattle.session.specs.Session.{encodeOf}
 use Rattle.rules.specs.Play.{Play}
 use Rattle.common.specs.State.{Given}
+use Rattle.common.specs.Layout.{questionLength, workLength, yAt}
 use Rattle.rules.specs.Rules.{Start, beginning, start}
 use Rattle.rules.specs.Replies.{Reply as Fed}
 use Rattle.invariants.specs.Next.{sessionFound}
 use Rattle.refinement.specs.Shown.{resumed, reachedAfter, isTaken, asks, treeNext}
 use Rattle.refinement.specs.AtNode.{AtNode, startedAt}
 use Rattle.refinement.specs.InRun.{InRun}
-use Rattle.refinement.proofs.Follows.{replies, follows}
-use Rattle.refinement.proofs.Follows.{arrived}
+use Rattle.refinement.proofs.Follows.{replies, follows, arrived}
 use Rattle.refinement.proofs.Kept.{counts-after, closing-after, session-kept}
 use Rattle.answers.specs.Answers.{plainReply, questionReply}
 use Rattle.answers.specs.Called.{Buffers, Called}
@@ -45,8 +45,7 @@ use Rattle.calls.specs.Run.{Begins, ReplyCall, lentFor, replied, isRefus
 use Rattle.calls.specs.Follow.{givenOf, fromOf, treeOf, Said, says, saidBy, saidAt, fedAs, isAwaited, isSized}
 use Rattle.calls.specs.Follow.{saidTo, nextOf, PhaseAt}
 use Rattle.calls.proofs.Agrees.{isOver, Agrees, not-refusal}
-use Rattle.calls.proofs.Low.{Low}
-use Rattle.calls.proofs.Turns.{Well, resume-well}
+use Rattle.calls.proofs.Turns.{resume-agrees}
 use Rattle.calls.proofs.Said.{says-node}
 use Rattle.calls.proofs.Phases.{phase-node}
 use Rattle.calls.proofs.Keeps.{over-or-not, unless, Runs, Keeps, Bounded, keeps-next}
@@ -80,11 +79,10 @@ module _ (g : Given) (a : Start) (run : Runs g a) where
   in-run : (l : RunState) → Reached l → InRun g l
   in-run l h = rw (h .1) (session-kept g a (run .ok) (h .0))
 
-  bounded : (l : RunState) → Reached l → Low 0 (l .st .c) → Bounded g a run l
-  bounded l h low = rw (h .1) (record {
+  bounded : (l : RunState) → Reached l → Bounded g a run l
+  bounded l h = rw (h .1) (record {
     closing = closing-after g a (run .ok) (h .0);
     counts = counts-after g a (run .ok) (h .0);
-    low = rw (h .1) at low;
   })
 
   pub record At (t : Play) (l : RunState) (x : Called) : Type 0 where
@@ -146,10 +144,8 @@ module _ (g : Given) (a : Start) (run : Runs g a) where
       running : isOver (l .phase) ≡ false
       running = not-over (l .phase) (kindOf (r .kind)) (length (r .numbers)) (g .s .n) is-taken
 
-      well : Well 0 m
-      well =
-          resume-well 0 g (l .st) (r .numbers) (r .time) (at .keeps .found running .ialth) (l .phase) (kindOf (r .kind))
-          is-taken
+      agrees : Agrees (m .question) (m .phase) (m .st .c)
+      agrees = resume-agrees g (l .phase) (l .st) (kindOf (r .kind)) (r .numbers) (r .time) is-taken
 
       stands : AtNode g (treeNext t (fedAs r)) m
       stands = replies g t l (fedAs r) (at .stands) asked
@@ -160,7 +156,7 @@ module _ (g : Given) (a : Start) (run : Runs g a) where
       keeps : Keeps g m (encodeOf (sessionFound g m) (x .lent .session))
       keeps =
           keeps-next g a run l (x .lent .session) (at .keeps) (fedAs r) (is-f64-fits _ time)
-          (bounded m reached (well .low)) (in-run m reached)
+          (bounded m reached) (in-run m reached)
 
       abbrev put : List Float
       put = questionOf (g .s) (m .phase) (m .st .c) (m .st .w) (r .question)
@@ -171,14 +167,14 @@ module _ (g : Given) (a : Start) (run : Runs g a) where
       }
       answered-taken =
           answered-is
-          ∙ reply-taken g a run l (x .lent .session) (at .keeps) r sized running (rw (known, is-taken)) well
+          ∙ reply-taken g a run l (x .lent .session) (at .keeps) r sized running (rw (known, is-taken)) agrees
 
       says-it : saidBy (replied x r) ≡ saidAt (g .s .n) (treeNext t (fedAs r)) (r .question)
       says-it =
           ap (λ (y : Called). saidBy y) answered-taken
-          ∙ says-node g (treeNext t (fedAs r)) m (r .question) stands well
+          ∙ says-node g (treeNext t (fedAs r)) m (r .question) stands agrees
           (λ e. unless (m .phase) e (in-run m reached) .ranges .orders .nq .1)
-          (omega (arith, keeps .lent .sized)) (eqb-true (length (r .question)) (14 * g .s .n + 6) sized)
+          (omega (arith, keeps .lent .sized)) (eqb-true (length (r .question)) (questionLength (g .s .n)) sized)
 
       went : Went t l x r
       went = record {
@@ -189,10 +185,10 @@ module _ (g : Given) (a : Start) (run : Runs g a) where
               work = refl;
               pivots = refl;
               keeps = keeps;
-              phased = phase-node g m (well .agrees) (treeNext t (fedAs r)) stands;
+              phased = phase-node g m agrees (treeNext t (fedAs r)) stands;
             });
         answer = ap (λ (y : Called). y .reply) answered-taken;
-        agrees = well .agrees;
+        agrees = agrees;
         said = says-it;
       }
 
@@ -285,7 +281,7 @@ module _ (p : Problem) (b : Buffers) (begins : Begins p b) where
   unfolding start beginning initialOf acceptedSettings
   begun-says =
       let n = length (p .y0) in
-      let zeros = replicate (n * n + 19 * n) zeroF in
-      let long : length zeros ≡ n * n + 19 * n = length-replicate _ _ in
-      let e = part-put (17 * n) n zeros (p .y0) (omega arith) refl in
+      let zeros = replicate (workLength n) zeroF in
+      let long : length zeros ≡ workLength n = length-replicate _ _ in
+      let e = part-put (yAt n) n zeros (p .y0) (omega arith) refl in
       ap (λ (y : Called). saidBy y) (begun-is p b (begins .formed)) ∙ rw e

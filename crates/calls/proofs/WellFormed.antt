@@ -13,16 +13,15 @@ use lib.Ieee as Ieee
 use lib.Ieee.{Float, nan}
 use lib.ListN.{length, getD}
 use borrow.Author.Tests.{eqb-true, eqb-false, eq-eqb, ne-eqb, lt-ltb}
-use Rattle.loops.specs.Test.{differs}
+use Rattle.loops.proofs.Test.{differs}
 use Rattle.numbers.specs.Float.{_⊖_, zeroF}
 use Rattle.numbers.specs.Sign.{signumOf, refused}
 use Rattle.refusals.specs.declared.Refusal.{Refusal}
 use Rattle.refusals.specs.Start.{isNegative, startRefusalOf}
-use Rattle.refusals.specs.Accepted.{Started}
 use Rattle.refusals.specs.FirstStep.{StepTaken}
 use Rattle.refusals.specs.Rows.{Row, NoneHolds}
 use Rattle.refusals.specs.Table.{NotOneOrN, WrongList, WrongSlice, LargeSetting, stepRow, startRows}
-use Rattle.refusals.proofs.Accepted.{accepted}
+use Rattle.refusals.proofs.Accepted.{Started, accepted}
 use Rattle.refusals.proofs.FirstStep.{step-taken, taken-not-refused}
 use Rattle.refusals.proofs.Rows.{none-holds}
 use Rattle.refusals.proofs.Table.{none-tolerances, first-row, at-most-eleven}

@@ -23,6 +23,7 @@ use Rattle.invariants.specs.Host.{IsF64}
 use Rattle.session.specs.Session.{decodeOf, rtolSlots, atolSlots}
 use Rattle.rules.specs.Play.{derivativeAt, jacobianAt, Report, Play, ret, ask, tell, say}
 use Rattle.common.specs.State.{Given}
+use Rattle.common.specs.Layout.{questionLength}
 use Rattle.rules.specs.Rules.{Start, start}
 use Rattle.rules.specs.Replies.{Reply as Fed}
 use Rattle.refinement.specs.Shown.{Shown, wantsDerivative, wantsJacobian, reports, ends, refusesStep, refusesWeight}
@@ -110,7 +111,7 @@ isAwaited n t r = isKind (r .kind) && asks n t (fedAs r)
 
 -- with a question slice of 14·n + 6 numbers
 abbrev pub isSized : ℕ → ReplyCall → Bool
-isSized n r = eqb (length (r .question)) (14 * n + 6)
+isSized n r = eqb (length (r .question)) (questionLength n)
 
 -- 3: question length; 14: a reply of another kind or length than asked, or the run has ended
 abbrev pub saidTo : ℕ → Play → ReplyCall → Said

@@ -11,7 +11,7 @@ use lib.ListN.{length}
 use lib.Ieee.{Float}
 use Rattle.numbers.specs.Float.{zeroF}
 use Rattle.common.specs.SessionWords.{sessionLength}
-use Rattle.common.specs.Layout.{workLength}
+use Rattle.common.specs.Layout.{workLength, questionLength}
 use Rattle.common.specs.Limits.{maxStates}
 use Rattle.questions.specs.declared.Phase.{Phase}
 use Rattle.questions.specs.declared.Phase.the-variants as Phase
@@ -63,7 +63,7 @@ replyRows kind numbers b =
     -- the session's length; a stored n that is no number of states; the lengths that need n
     row 3 (length (b .session) ≢ sessionLength)
     ∷ row 13 ((n ≡ 0) ⊎ (maxStates < n))
-    ∷ row 3 ((length (b .work) ≢ workLength n) ⊎ (length (b .pivots) ≢ n) ⊎ (length (b .question) ≢ 14 * n + 6))
+    ∷ row 3 ((length (b .work) ≢ workLength n) ⊎ (length (b .pivots) ≢ n) ⊎ (length (b .question) ≢ questionLength n))
     -- finished: the other values always pass 13
     ∷ row 14 (phaseWord (b .session) ≡ 10)
     -- a value out of range

@@ -10,7 +10,7 @@ use lib.Ieee as Ieee
 use lib.Ieee.{nan}
 use Rattle.numbers.specs.Float.{_⊖_, zeroF}
 use Rattle.common.specs.SessionWords.{sessionLength}
-use Rattle.common.specs.Layout.{workLength}
+use Rattle.common.specs.Layout.{workLength, questionLength}
 use Rattle.common.specs.Limits.{maxStates}
 use Rattle.refusals.specs.FirstStep.{StepTaken}
 use Rattle.answers.specs.Called.{Buffers}
@@ -26,7 +26,7 @@ pub record WellFormed (p : Problem) (b : Buffers) : Type 0 where
   pub work : length (b .work) ≡ workLength (length (p .y0))
   pub pivots : length (b .pivots) ≡ length (p .y0)
   pub session : length (b .session) ≡ sessionLength
-  pub question : length (b .question) ≡ 14 * length (p .y0) + 6
+  pub question : length (b .question) ≡ questionLength (length (p .y0))
   -- settings up to 1,000,000, four of them not 0
   pub maxsteps : (1 ≤ p .options .«max_steps») × (p .options .«max_steps» ≤ 1000000)
   pub mxordn : (1 ≤ p .options .mxordn) × (p .options .mxordn ≤ 1000000)

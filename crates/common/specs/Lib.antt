@@ -5,3 +5,4 @@ pub mod Initial
 pub mod Layout
 pub mod SessionWords
 pub mod State
+pub mod Ranges

@@ -22,6 +22,10 @@ pub const Y: usize = 17;
 pub const Y_FD: usize = 18;
 pub const MATRIX: usize = 19;
 
+// The question: y and the 13 columns of a snapshot, so many numbers of n, and the snapshot's header between them.
+pub const QUESTION: usize = 14;
+pub const HEADER: usize = 6;
+
 // made by tools/record.py: the words of a session
 // A session is a row of words of eight bytes: counts, flags and states, then floats, then MAX_STATES slots for each of
 // the two tolerance lists.

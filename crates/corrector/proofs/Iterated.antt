@@ -7,8 +7,8 @@ use mathlib.Core.List.{List}
 use Prim.Native.Nat.{ℕ}
 use lib.ListN.{length, length-set}
 use lib.Ieee.{Float}
-use Rattle.loops.specs.Stores.{length-for}
-use Rattle.loops.specs.Test.{chosen}
+use Rattle.loops.proofs.Stores.{length-for}
+use Rattle.loops.proofs.Test.{chosen}
 use Rattle.dense.specs.Solve.{solveOf}
 use Rattle.dense.proofs.Laws.{length-solve}
 use Rattle.common.specs.declared.MethodFamily.{MethodFamily}

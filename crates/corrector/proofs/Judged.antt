@@ -10,7 +10,7 @@ use borrow.Author.Tests.{eqb-false}
 use lib.Dec.{eqb, leb}
 use lib.Ieee as Ieee
 use lib.Ieee.{Float}
-use Rattle.loops.specs.Test.{chosen, chosen-by, differs}
+use Rattle.loops.proofs.Test.{chosen, chosen-by, differs}
 use Rattle.numbers.specs.Float.{_⊗_, oneF, uround, d2, d100}
 use Rattle.common.specs.declared.MethodFamily.{MethodFamily}
 use Rattle.common.specs.declared.MethodFamily.the-variants.{Adams, Bdf}

@@ -7,14 +7,14 @@ use Prim.Native.Nat.{ℕ, _≤_, _<_}
 use native.Mathlib.Omega.{arith}
 use lib.Ieee.{Float}
 use lib.Dec.{eqb}
-use Rattle.loops.specs.Test.{chosen}
-use Rattle.loops.specs.For.{within}
+use Rattle.loops.proofs.Test.{chosen}
+use Rattle.loops.proofs.For.{within}
 use Rattle.common.specs.declared.MethodFamily.{MethodFamily}
 use Rattle.common.specs.declared.MethodFamily.the-variants.{Adams, Bdf}
 use Rattle.common.specs.declared.Settings.{Settings}
 use Rattle.common.specs.declared.Common.{Common}
 use Rattle.common.specs.Record.{isBdf}
-use Rattle.history.specs.Steps.{StepInRange}
+use Rattle.common.specs.Ranges.{StepInRange}
 use Rattle.history.proofs.Laws.{same-range}
 use Rattle.corrector.specs.Iterate.{adamsOf, bdfOf, correctIn, correctOf}
 use Rattle.corrector.specs.Verdict.{ratedOf, knownRateOf}

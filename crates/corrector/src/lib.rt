@@ -5,7 +5,7 @@ ghost use Prim.Native.Nat.{ℕ, _≤_, _<_};
 ghost use lib.ListN.{length, getD, replicate};
 ghost use Rattle.numbers.specs.Float.{zeroF};
 ghost use Rattle.common.specs.Layout.{matrixAt, workLength};
-ghost use Rattle.history.specs.Steps.{StepInRange};
+ghost use Rattle.common.specs.Ranges.{StepInRange};
 ghost use Rattle.corrector.specs.Iterate.{openOf, adamsResidualOf, adamsUpdateOf, bdfResidualOf, bdfUpdateOf};
 ghost use Rattle.corrector.specs.Iterate.{Corrected, adamsOf, bdfOf, correctOf};
 ghost use Rattle.corrector.specs.Verdict.{ratedOf, knownRateOf, dconOf, estimatedOf, judgedFurther, giveUpOf};

@@ -13,9 +13,9 @@ use lib.ListN.{length, getD, set, length-set}
 use lib.Seq.{getD-set-other}
 use lib.Ieee as Ieee
 use lib.Ieee.{Float, nan}
-use Rattle.loops.specs.For.{keeps}
-use Rattle.loops.specs.Stores.{length-for}
-use Rattle.loops.specs.Test.{chosen}
+use Rattle.loops.proofs.For.{keeps}
+use Rattle.loops.proofs.Stores.{length-for}
+use Rattle.loops.proofs.Test.{chosen}
 use Rattle.numbers.specs.Float.{zeroF}
 use Rattle.numbers.specs.Sign.{absOf}
 use Rattle.dense.specs.declared.Pivot.{Pivot}

@@ -11,9 +11,11 @@ use lib.ListN.{length, getD, set, length-set, replicate, length-replicate}
 use lib.Seq.{getD-set-other}
 use lib.Ieee.{Float, nan}
 use borrow.Rule.Slice.PartMut.{same-len-mid}
-use Rattle.loops.specs.For.{for, keeps, always}
-use Rattle.loops.specs.Stores.{length-for}
-use Rattle.loops.specs.Part.{part, length-putPart}
+use Rattle.loops.specs.For.{for}
+use Rattle.loops.proofs.For.{keeps, always}
+use Rattle.loops.proofs.Stores.{length-for}
+use Rattle.loops.specs.Part.{part}
+use Rattle.loops.proofs.Part.{length-putPart}
 use Rattle.numbers.specs.Float.{_⊕_, _⊖_, _⊗_}
 use Rattle.common.specs.declared.Settings.{Settings}
 use Rattle.common.specs.declared.Common.{Common}
@@ -22,7 +24,8 @@ use Rattle.common.specs.Rules.{resetOf}
 use Rattle.history.specs.Columns.{predictColumnsOf, retractColumnsOf, timesAt, timesOf, Rescaled, rescaleAt}
 use Rattle.history.specs.Columns.{rescaleColumnsOf, addScaledAt, addScaledOf, correctAt, correctColumnsOf}
 use Rattle.history.specs.Columns.{copyAt, copyOf, slopeAt, slopeOf, fillOf, scalePartOf}
-use Rattle.history.specs.Steps.{StepInRange, adjustOf, predictedOf}
+use Rattle.common.specs.Ranges.{StepInRange}
+use Rattle.history.specs.Steps.{adjustOf, predictedOf}
 
 -- the passes of predict and retract: they differ in g, what a turn stores
 module _ (n nqnyh : ℕ) (g : ℕ → List Float → Float) where

@@ -18,14 +18,6 @@ use Rattle.common.specs.Record.{isBdf, with-h, with-rc, with-ialth, with-due, w
 use Rattle.common.specs.Limits.{maxStates, msbpOf}
 use Rattle.history.specs.Columns.{predictColumnsOf}
 
--- what a step's functions ask of the record: the ranges of its indices
-pub record StepInRange (s : Settings) (c : Common) : Type 0 where
-  pub n : (1 ≤ s .n) × (s .n ≤ maxStates)
-  pub order : (1 ≤ c .nq) × (c .nq ≤ 12)
-  pub table : c .table ≤ 2
-  pub used : (c .nq * s .n ≤ c .nqnyh) × (c .nqnyh ≤ 12 * s .n)
-  pub steps : (c .nslp < 2 ^ 62) × (s .msbp ≤ 1000000)
-
 -- hmin / |h|: the least factor that keeps a step at hmin or above
 abbrev pub leastOf : Common → Float
 leastOf c = c .hmin ⊘ absOf (c .h)

@@ -6,8 +6,8 @@ ghost use lib.ListN.{length, replicate};
 ghost use Rattle.common.specs.Layout.{matrixAt};
 ghost use Rattle.history.specs.Columns.{addRange, subRange, predictColumnsOf, retractColumnsOf, timesOf};
 ghost use Rattle.history.specs.Columns.{rescaleColumnsOf, addScaledOf, correctColumnsOf, copyOf, slopeOf};
-ghost use Rattle.history.specs.Steps.{StepInRange, leastOf, pdhOf, limitedOf, adjustOf, staleOf, predictedOf};
-ghost use Rattle.history.specs.Steps.{predictedWorkOf};
+ghost use Rattle.common.specs.Ranges.{StepInRange};
+ghost use Rattle.history.specs.Steps.{leastOf, pdhOf, limitedOf, adjustOf, staleOf, predictedOf, predictedWorkOf};
 ghost use Rattle.history.specs.Parts.{normAtOf, storedOf};
 
 use common::Common;

@@ -19,7 +19,7 @@ use lib.Ieee.Exact.{HasValue, round-exact}
 use lib.Ieee.Fits.{down-pos}
 use borrow.Author.Count.{below-none, below-more}
 use borrow.Author.Tests.{eq-eqb, eqb-true, ltb-false, le-ltb}
-use Rattle.loops.specs.For.{reaches}
+use Rattle.loops.proofs.For.{reaches}
 use Rattle.numbers.specs.Float.{whole}
 use Rattle.interpolation.specs.declared.Count.{Count}
 use Rattle.interpolation.specs.declared.Count.the-variants.{Is, NotWhole}

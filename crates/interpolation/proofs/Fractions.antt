@@ -11,7 +11,7 @@ use lib.IntN.{ℤ}
 use lib.Ieee as Ieee
 use lib.Ieee.{Float, nan, inf, fin, up, down}
 use lib.Ieee.Fits.{up-pos, down-pos}
-use Rattle.loops.specs.Test.{differs}
+use Rattle.loops.proofs.Test.{differs}
 use Rattle.numbers.specs.Float.{zeroF}
 use Rattle.interpolation.specs.Fraction.{Fraction, _≈_, _⊞_, _⊠_, one, Finite, exactOf}
 use Rattle.interpolation.specs.Published.{Exact}

@@ -16,8 +16,9 @@ use lib.Ieee as Ieee
 use lib.Ieee.{Float, nan}
 use borrow.Author.Count.{below-more}
 use borrow.Author.Tests.{eq-eqb}
-use Rattle.loops.specs.For.{for, keeps, reaches}
-use Rattle.loops.specs.Test.{chosen}
+use Rattle.loops.specs.For.{for}
+use Rattle.loops.proofs.For.{keeps, reaches}
+use Rattle.loops.proofs.Test.{chosen}
 use Rattle.numbers.specs.Float.{zeroF}
 use Rattle.common.specs.declared.Settings.{Settings}
 use Rattle.common.specs.declared.Common.{Common}

@@ -14,7 +14,8 @@ use lib.Seq.{getD-take, getD-drop}
 use lib.Ieee as Ieee
 use lib.Ieee.{Float, nan}
 use borrow.Author.Tests.{eq-eqb, ne-eqb, le-ltb}
-use Rattle.loops.specs.For.{reaches, for}
+use Rattle.loops.specs.For.{for}
+use Rattle.loops.proofs.For.{reaches}
 use Rattle.numbers.specs.Float.{_⊕_, _⊖_, _⊗_, _⊘_, zeroF}
 use Rattle.interpolation.specs.declared.Sizes.{Sizes}
 use Rattle.interpolation.specs.Header.{Reads}

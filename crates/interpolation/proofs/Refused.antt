@@ -12,7 +12,7 @@ use lib.ListN.{length, getD}
 use lib.Ieee as Ieee
 use lib.Ieee.{Float, nan}
 use borrow.Author.Tests.{eqb-true, eqb-false, ltb-true, eq-eqb, ne-eqb, lt-ltb}
-use Rattle.loops.specs.Test.{differs}
+use Rattle.loops.proofs.Test.{differs}
 use Rattle.numbers.specs.Float.{zeroF}
 use Rattle.interpolation.specs.declared.Count.{Count}
 use Rattle.interpolation.specs.declared.Count.the-variants.{Is, NotWhole}

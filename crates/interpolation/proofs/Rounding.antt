@@ -25,7 +25,7 @@ use lib.Ieee.Nearest.{closest}
 use lib.Ieee.Order.{kept, drop}
 use lib.Ieee.Scale.{grid, overflow}
 use borrow.Author.Tests.{ltb-true, ltb-false, ne-eqb}
-use Rattle.loops.specs.Test.{differs}
+use Rattle.loops.proofs.Test.{differs}
 use Rattle.numbers.specs.Float.{_⊘_}
 use Rattle.interpolation.specs.Fraction.{Fraction, _⊞_, _⊟_, _⊠_, Finite, exactOf}
 use Rattle.interpolation.specs.Rounding.{magnitudeOf, Small, SumNear, DifferenceNear, ProductNear, QuotientNear}

@@ -14,11 +14,12 @@ use lib.ListN.{length, getD, take, drop, length-append, length-drop}
 use lib.Seq.{length-take-le, take-at, drop-at, drop-drop, getD-append-add, getD-take, sets-eq, paste, paste-zero}
 use lib.Seq.{paste-suc}
 use lib.Ieee.{Float, nan}
-use Rattle.loops.specs.For.{reaches, within}
+use Rattle.loops.proofs.For.{reaches, within}
 use Rattle.loops.specs.Part.{part}
 use Rattle.numbers.specs.Float.{whole, uround}
 use Rattle.common.specs.declared.Settings.{Settings}
 use Rattle.common.specs.declared.Common.{Common}
+use Rattle.common.specs.Layout.{questionLength}
 use Rattle.interpolation.specs.Snapshot.{headerOf, snapshotAt, snapshotOf}
 use Rattle.interpolation.specs.Header.{Reads}
 use Rattle.interpolation.specs.Published.{numberAt}
@@ -32,7 +33,7 @@ abbrev pub size : Settings → Common → ℕ
 size s c = (c .nq + 1) * s .n
 
 module _ (s : Settings) (c : Common) (work question : List Float)
-    (order : c .nq ≤ 12) (history : 13 * s .n ≤ length work) (room : 14 * s .n + 6 ≤ length question) where
+    (order : c .nq ≤ 12) (history : 13 * s .n ≤ length work) (room : questionLength (s .n) ≤ length question) where
   fewer : size s c ≤ 13 * s .n
   fewer =
       let k : c .nq + 1 ≤ 13 = omega arith in

@@ -8,6 +8,7 @@ use Rattle.loops.specs.For.{for}
 use Rattle.numbers.specs.Float.{whole, uround}
 use Rattle.common.specs.declared.Settings.{Settings}
 use Rattle.common.specs.declared.Common.{Common}
+use Rattle.common.specs.Layout.{headerLength}
 
 unfoldable pub headerOf : Settings → Common → ℕ → List Float → List Float
 headerOf s c at to =
@@ -20,7 +21,7 @@ headerOf s c at to =
     (at + 5) uround
 
 abbrev pub snapshotAt : ℕ → List Float → ℕ → List Float → List Float
-snapshotAt n work i question = set question (n + 6 + i) (getD work i nan)
+snapshotAt n work i question = set question (n + headerLength + i) (getD work i nan)
 
 unfoldable pub snapshotOf : Settings → Common → List Float → List Float → List Float
 snapshotOf s c work question = for 0 ((c .nq + 1) * s .n) (snapshotAt (s .n) work) (headerOf s c (s .n) question)

@@ -3,7 +3,7 @@ ghost use mathlib.Core.Path.{_≡_};
 ghost use Prim.Native.Nat.{_+_, _*_, _≤_, _<_};
 ghost use lib.ListN.{length};
 ghost use Rattle.common.specs.Limits.{maxStates};
-ghost use Rattle.common.specs.Layout.{ewtAt};
+ghost use Rattle.common.specs.Layout.{ewtAt, headerLength, questionLength};
 ghost use Rattle.interpolation.specs.Snapshot.{headerOf, snapshotOf};
 ghost use Rattle.interpolation.specs.Header.{wholeCountOf, readHeaderOf};
 ghost use Rattle.interpolation.specs.Evaluate.{lastColumnOf, hornerOf, evaluateOf, Interpolated};
@@ -33,7 +33,7 @@ pub enum Header {
 
 // The header of a snapshot at `at`: n, nq, t, h, hu, 2^-52.
 fn put_header(s: Settings, c: Common, to: &mut [f64], at: usize)
-    requires { ⌜ (s .n ≤ maxStates) × (c .nq ≤ 12) × (at + 6 ≤ length (now to)) ⌝ }
+    requires { ⌜ (s .n ≤ maxStates) × (c .nq ≤ 12) × (at + headerLength ≤ length (now to)) ⌝ }
     ensures { λ _. ⌜ now (to .exit) ≡ headerOf s c at (now (to .entry)) ⌝ }
 {
     let n = s.n as u32;
@@ -49,13 +49,13 @@ fn put_header(s: Settings, c: Common, to: &mut [f64], at: usize)
 // The snapshot of the step just done, from n on in the question: the header, then the columns 0 to nq.
 pub fn snapshot_step(s: Settings, c: Common, work: &[f64], question: &mut [f64])
     requires { ⌜ (1 ≤ s .n) × (s .n ≤ maxStates) × (c .nq ≤ 12) × (ewtAt (s .n) ≤ length (now work))
-        × (14 * s .n + 6 ≤ length (now question)) ⌝ }
+        × (questionLength (s .n) ≤ length (now question)) ⌝ }
     ensures { λ _. ⌜ now (question .exit) ≡ snapshotOf s c (now (work .entry)) (now (question .entry)) ⌝ }
 {
     let n = s.n;
     put_header(s, c, question, n);
     for i in 0..(c.nq + 1) * n {
-        question[n + 6 + i] = work[i];
+        question[n + common::HEADER + i] = work[i];
     }
 }
 

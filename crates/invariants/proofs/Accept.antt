@@ -22,7 +22,7 @@ use Rattle.acceptance.specs.declared.order.Factors.{Factors}
 use Rattle.acceptance.specs.Order.{Settled, heldOf, atOrder, settleOf, raiseOf, lowerOf, sameLargest, chooseOf}
 use Rattle.acceptance.specs.Order.{forgottenOf, factorsOf, limitedFactorsOf, raisedLeftOf, chooseOrderOf}
 use Rattle.acceptance.specs.Accept.{correctedOf, countedDown, keepFamilyOf, testedOf, testFamilyOf, acceptOf}
-use Rattle.session.specs.Fields.{Fit}
+use Rattle.session.proofs.Fits.{Fit}
 use Rattle.invariants.proofs.Floats.{either, literal}
 use Rattle.invariants.proofs.Records.{CommonFits, put-hu, put-pdest, put-pdlast}
 use Rattle.invariants.proofs.Steps.{reset-fits, adjust-fits}

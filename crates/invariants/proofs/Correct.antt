@@ -7,6 +7,7 @@ use Prim.Native.Nat.{ℕ, _*_}
 use lib.Dec.{eqb}
 use lib.Ieee as Ieee
 use lib.Ieee.{Float}
+use Rattle.common.specs.Layout.{yAt, matrixAt}
 use Rattle.numbers.specs.Float.{_⊗_, zeroF, oneF, uround, d100, d1024}
 use Rattle.dense.specs.Solve.{solveOf}
 use Rattle.common.specs.declared.Settings.{Settings}
@@ -20,7 +21,7 @@ use Rattle.corrector.specs.declared.Verdict.{Verdict}
 use Rattle.corrector.specs.Verdict.{rmOf, ratedOf, dconOf, pdestOf, estimatedOf, judgedConverged, giveUpOf, strays}
 use Rattle.corrector.specs.Verdict.{judgedFurther, judgedTested, ratedVerdict, solvedVerdict, judgeOf}
 use Rattle.corrector.specs.Iterate.{openOf, Corrected, adamsOf, bdfOf, bdfResidualOf, correctIn, correctOf}
-use Rattle.session.specs.Fields.{Fit}
+use Rattle.session.proofs.Fits.{Fit}
 use Rattle.invariants.proofs.Floats.{either, literal, product, quotient, maximum}
 use Rattle.invariants.proofs.Sizes.{norm}
 use Rattle.invariants.proofs.Records.{CommonFits, put-rc, put-pdest, put-pdlast, put-pdnorm, put-convrate}
@@ -49,7 +50,7 @@ correct-in : (m : MethodFamily) (s : Settings) (c : Common) (ipiv : List ℕ) (w
 unfolding adamsOf bdfOf
 correct-in Adams s c ipiv work = norm _ _
 correct-in Bdf s c ipiv work =
-    let x = solveOf (s .n) (19 * s .n) ipiv (17 * s .n) (bdfResidualOf (s .n) (c .h) work) in
+    let x = solveOf (s .n) (matrixAt (s .n)) ipiv (yAt (s .n)) (bdfResidualOf (s .n) (c .h) work) in
     either (λ (r : Corrected). Fit (r .del)) (x .ok) _ _ (norm _ _) (literal _)
 
 pub size-fits : (s : Settings) (c : Common) (ipiv : List ℕ) (work : List Float) → Fit (correctOf s c ipiv work .del)

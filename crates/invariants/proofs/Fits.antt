@@ -24,7 +24,7 @@ use Rattle.machine.specs.Resume.{resumeOf}
 use Rattle.refusals.specs.declared.Options.{Options}
 use Rattle.refusals.specs.declared.Lengths.{Lengths}
 use Rattle.refusals.specs.Start.{largestOf, smallestOf, inverseOf, inverseLargestOf, acceptedSettings, givenStepOf}
-use Rattle.session.specs.Fields.{Fit, FloatsFit}
+use Rattle.session.proofs.Fits.{Fit, FloatsFit}
 use Rattle.invariants.specs.Next.{startedSession, sessionFound}
 use Rattle.invariants.proofs.Keeps.{Invariant, each, any, after-pass, Keeps}
 use Rattle.invariants.proofs.Walk.{resume-keeps}

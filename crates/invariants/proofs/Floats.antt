@@ -10,7 +10,7 @@ use lib.Ieee.Bits.{ofBits-fits}
 use Rattle.numbers.specs.Float.{_⊕_, _⊖_, _⊗_, _⊘_, lit}
 use Rattle.numbers.specs.Sign.{absOf, signumOf, copysignOf}
 use Rattle.numbers.specs.Order.{maxOf, minOf}
-use Rattle.session.specs.Fields.{Fit}
+use Rattle.session.proofs.Fits.{Fit}
 
 -- what holds of both holds of the one that a test chooses
 pub either : {A : Type 0} (P : A → Type 0) (b : Bool) (x y : A) → P x → P y → P (cond b x y)

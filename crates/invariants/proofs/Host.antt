@@ -7,7 +7,7 @@ use Prim.Native.Nat.{ℕ, _^_, _<_}
 use lib.Ieee as Ieee
 use lib.Ieee.{Float, binary64}
 use lib.Ieee.Bits.{ofBits-fits, ofBits-toBits, toBits-lt}
-use Rattle.session.specs.Fields.{Fit}
+use Rattle.session.proofs.Fits.{Fit}
 use Rattle.invariants.specs.Host.{IsF64}
 
 pub every-f64 : (b : ℕ) → b < 2 ^ 64 → Fit (Ieee.ofBits binary64 b)

@@ -10,7 +10,7 @@ use Rattle.common.specs.State.{Given, State}
 use Rattle.common.specs.Layout.{matrixAt}
 use Rattle.attempt.specs.Attempt.{noConvergenceOf, failedOf}
 use Rattle.between_steps.specs.declared.Kind.{Kind}
-use Rattle.between_steps.specs.Ranges.{Lent}
+use Rattle.common.specs.Ranges.{Lent}
 use Rattle.between_steps.proofs.Inside.{lent-length, lent-factored}
 use Rattle.questions.specs.declared.Phase.{Phase}
 use Rattle.machine.specs.Resume.{resumeOf}

@@ -8,7 +8,7 @@
 use mathlib.Core.List.{List}
 use mathlib.Core.Logic.{_⊎_, inl, inr}
 use mathlib.Core.Path.{_≡_}
-use Prim.Native.Nat.{ℕ, _*_, _^_, _≤_, _<_}
+use Prim.Native.Nat.{ℕ, _+_, _-_, _^_, _≤_, _<_}
 use native.Mathlib.Nat.{mod-self}
 use native.Mathlib.Omega.{arith}
 use lib.Ieee.{Float}
@@ -18,15 +18,15 @@ use Rattle.common.specs.declared.Common.{Common}
 use Rattle.common.specs.Limits.{mxncfOf}
 use Rattle.common.specs.State.{Given, State, given}
 use Rattle.common.specs.Rules.{icount20}
-use Rattle.history.specs.Steps.{StepInRange}
+use Rattle.common.specs.Ranges.{Accepted, Ranges, shapeOf, Orders, EndedCounters}
+use Rattle.common.proofs.Ranges.{wider}
 use Rattle.jacobian.specs.Jacobian.{beginOf}
 use Rattle.attempt.specs.declared.Next.{Next}
 use Rattle.attempt.specs.declared.Next.the-variants as Next
 use Rattle.attempt.specs.Attempt.{noConvergenceOf, failedOf}
 use Rattle.attempt.proofs.Laws.{Kept, unconverged, failed}
 use Rattle.between_steps.specs.declared.Kind.{Kind}
-use Rattle.between_steps.specs.Ranges.{Accepted, Ranges}
-use Rattle.between_steps.proofs.Within.{Core, coreOf, Within, range-of, within-open, within-judged, within-factored}
+use Rattle.between_steps.proofs.Within.{Core, coreOf, Within, kept-ialth, within-open, within-judged, within-factored}
 use Rattle.between_steps.proofs.Within.{within-column, within-unconverged, within-failed, failed-pass, failed-restep}
 use Rattle.between_steps.proofs.Within.{within-restep, within-restart, within-first, within-another, within-accept}
 use Rattle.questions.specs.declared.Phase.{Phase}
@@ -37,57 +37,44 @@ use Rattle.invariants.proofs.Walk.{resume-keeps}
 
 -- ---- where a run ends
 
-pub record Closing (s : Settings) (k : Core) : Type 0 where
-  pub nq : k .nq ≤ 12
-  pub lmax : k .lmax ≤ 13
-  pub nqnyh : k .nqnyh ≤ 12 * s .n
-  pub table : k .table ≤ 1
-  pub icount : k .icount ≤ icount20
-  pub kflag : k .kflag ≤ 10
-  pub ncf : k .ncf ≤ mxncfOf s
-  pub m : k .m < s .maxcor
-  pub column : k .column < s .n
+pub record Closing (s : Settings) (more : ℕ) (k : Core) : Type 0 where
+  pub orders : Orders s (k .shape)
+  pub counters : EndedCounters s (13 + more) (k .step)
 
-pub closing-of : {s : Settings} {base most under : ℕ} {k : Core} → Within s base most under k → Closing s k
+pub closing-of : {s : Settings} {base most more under : ℕ} {k : Core} → Within s base most more under k
+    → Closing s more k
 closing-of p = record {
-  nq = p .nq .1;
-  lmax = p .lmax .1;
-  nqnyh = p .nqnyh .2;
-  table = p .table;
-  icount = p .icount .1;
-  kflag = omega (arith, p .kflag);
-  ncf = omega (arith, p .ncf);
-  m = p .m;
-  column = p .column;
+  orders = p .orders;
+  counters = wider (omega arith) (omega arith) (omega arith) (omega arith) (p .counters);
 }
 
-module _ {s : Settings} (acc : Accepted s) {base most under : ℕ} (c : Common)
-    (p : Within s base most under (coreOf c)) (work : List Float) where
-  attempt-closing : (d : Common) → Kept c d → StepInRange s d → d .kflag ≤ 10 → d .ncf ≤ mxncfOf s
-      → Closing s (coreOf d)
-  attempt-closing d k r kflag ncf = record {
-    nq = r .order .1;
-    lmax = rw (k .lmax) (p .lmax .1);
-    nqnyh = r .used .1;
-    table = rw (k .table) (p .table);
-    icount = rw (k .icount) (p .icount .1);
-    kflag = kflag;
-    ncf = ncf;
-    m = rw (k .m) (p .m);
-    column = rw (k .column) (p .column);
+module _ {s : Settings} (acc : Accepted s) {base most more under : ℕ} (c : Common)
+    (p : Within s base most more under (coreOf c)) (work : List Float) where
+  attempt-closing : (d : Common) → Kept c d → Orders s (shapeOf d) → (1 ≤ d .ialth) × (d .ialth ≤ 13 + more)
+      → d .kflag ≤ 10 → d .ncf < mxncfOf s + 1 → Closing s more (coreOf d)
+  attempt-closing d k orders ialth kflag ncf = record {
+    orders = orders;
+    counters = record {
+      ialth = ialth;
+      icount = rw (k .icount) (omega arith, p .counters .icount .1);
+      kflag = kflag;
+      ncf = ncf;
+      m = rw (k .m) (p .counters .m);
+      column = rw (k .column) (p .counters .column);
+    };
   }
 
-  closing-unconverged : Closing s (coreOf (noConvergenceOf s c work .common))
+  closing-unconverged : Closing s more (coreOf (noConvergenceOf s c work .common))
   closing-unconverged =
       let u = unconverged s c work in
-      attempt-closing _ (u .kept) (u .in-range (range-of acc c p)) (omega (arith, u .kflag, p .kflag))
-      (omega (arith, u .ncf, p .ncf))
+      attempt-closing _ (u .kept) (u .orders (p .orders)) (kept-ialth acc c p (u .ialth))
+      (omega (arith, u .kflag, p .counters .kflag)) (omega (arith, u .ncf, p .counters .ncf))
 
-  closing-failed : (dsm : Float) → Closing s (coreOf (failedOf s c dsm work .common))
+  closing-failed : (dsm : Float) → Closing s more (coreOf (failedOf s c dsm work .common))
   closing-failed dsm =
       let u = failed s c dsm work in
-      attempt-closing _ (u .kept) (u .in-range (range-of acc c p)) (omega (arith, u .kflag, p .kflag))
-      (omega (arith, u .ncf, p .ncf))
+      attempt-closing _ (u .kept) (u .orders (p .orders)) (kept-ialth acc c p (u .ialth))
+      (omega (arith, u .kflag, p .counters .kflag)) (omega (arith, u .ncf, p .counters .ncf))
 
 -- ---- every reply
 
@@ -95,13 +82,13 @@ never : {v : Next} {X : Type 0} → (v ≡ Next.Pass) ⊎ (v ≡ Next.Poor) → 
 never (inl h) e = absurd (let z : _≡_ {A = ℕ} 0 1 = cc in omega arith)
 never (inr h) e = absurd (let z : _≡_ {A = ℕ} 0 1 = cc in omega arith)
 
-module _ (s : Settings) (base most : ℕ) where
+module _ (s : Settings) (base most more : ℕ) where
   -- with so many steps under way
   abbrev pub Ranged : ℕ → Invariant
-  Ranged under x = Within s base most under (coreOf (x .c))
+  Ranged under x = Within s base most more under (coreOf (x .c))
 
   abbrev pub ClosingAt : Invariant
-  ClosingAt x = Closing s (coreOf (x .c))
+  ClosingAt x = Closing s more (coreOf (x .c))
 
   module _ (acc : Accepted s) (enough : s .maxsteps ≤ most) (few : most ≤ 2 ^ 62) where
     pub ranges-keep : (rtol atol : List Float) (time : Float)
@@ -142,35 +129,39 @@ module _ (s : Settings) (base most : ℕ) where
 -- ---- the order after any reply
 
 within-ranges : (s : Settings) (c : Common) → Ranges s c → (under : ℕ) → under ≤ 1
-    → Within s 0 (2 ^ 62) under (coreOf c)
-within-ranges s c p under one =
-    let o = p .orders in
-    record {
-      nq = o .nq; lmax = o .lmax; nqnyh = o .nqnyh; table = o .table; ialth = o .ialth;
-      icount = (omega arith, o .icount .1); kflag = o .kflag; ncf = o .ncf; m = o .m; column = o .column;
-      nslp = omega (arith, p .counts .nslp); steps = omega (arith, p .counts .nst);
-    }
+    → Within s 0 (2 ^ 62) (2 ^ 64 - 14) under (coreOf c)
+within-ranges s c p under one = record {
+  orders = p .orders; counters = wider (omega arith) (omega arith) (omega arith) (omega arith) (p .counters);
+  nslp = omega (arith, p .counts .nslp); steps = omega (arith, p .counts .nst);
+}
 
 pub order-after : (g : Given) (phase : Phase) (x : State) (kind : Kind) (reply : List Float) (time : Float)
     → Ranges (g .s) (x .c) → resumeOf g phase x kind reply time .st .c .nq ≤ 12
 order-after g phase x kind reply time p =
     let s = g .s in
     let between = within-ranges s (x .c) p 0 (omega arith) in
-    let k = ranges-keep s 0 (2 ^ 62) (p .settings) (omega (arith, p .settings .maxsteps)) (omega arith) in
-    each (resumeOf g phase x kind reply time .phase) (λ h. h .nq .1) (λ h. h .nq .1) (λ h. h .nq)
+    let k = ranges-keep s 0 (2 ^ 62) (2 ^ 64 - 14) (p .settings) (omega (arith, p .settings .maxsteps)) (omega arith) in
+    each (resumeOf g phase x kind reply time .phase) (λ h. h .orders .nq .1) (λ h. h .orders .nq .1)
+    (λ h. h .orders .nq .1)
     (resume-keeps g phase x kind reply time (k (g .rtol) (g .atol) time)
     (any phase between (within-ranges s (x .c) p 1 (omega arith)) (closing-of between)))
 
 -- ---- the start
 
 pub within-initial : (s : Settings) → Accepted s → (x0 h hmin hmxi : Float)
-    → Within s icount20 (s .maxsteps) 0 (coreOf (initialOf s x0 h hmin hmxi))
+    → Within s icount20 (s .maxsteps) 0 0 (coreOf (initialOf s x0 h hmin hmxi))
 unfolding initialOf
 within-initial s acc x0 h hmin hmxi = record {
-  nq = omega arith;
-  lmax = (omega (arith, acc .mxordn), omega arith, omega (arith, acc .mxordn));
-  nqnyh = (mod-self (s .n), omega arith, omega arith);
-  table = omega arith; ialth = omega arith; icount = (omega arith, omega arith); kflag = omega arith; ncf = omega arith;
-  m = omega (arith, acc .maxcor); column = omega (arith, acc .n); nslp = omega arith;
+  orders = record {
+    nq = omega arith;
+    lmax = (omega (arith, acc .mxordn), omega arith, omega (arith, acc .mxordn));
+    nqnyh = (mod-self (s .n), omega arith, omega arith);
+    table = omega arith;
+  };
+  counters = record {
+    ialth = (omega arith, omega arith); icount = (omega arith, omega arith); kflag = omega arith; ncf = omega arith;
+    m = omega (arith, acc .maxcor); column = omega (arith, acc .n);
+  };
+  nslp = omega arith;
   steps = omega (arith, acc .maxsteps);
 }

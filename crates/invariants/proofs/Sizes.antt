@@ -8,7 +8,7 @@ use lib.ListN.{length, getD}
 use lib.Ieee as Ieee
 use lib.Ieee.{Float, nan, binary64, ofBits, fits}
 use lib.Ieee.Fits.{and-l, and-r, nan-fits}
-use Rattle.loops.specs.For.{keeps}
+use Rattle.loops.proofs.For.{keeps}
 use Rattle.numbers.specs.Float.{_⊖_, _⊗_, _⊘_, zeroF, oneF}
 use Rattle.numbers.specs.Sign.{absOf}
 use Rattle.numbers.specs.Order.{maxOf}
@@ -19,7 +19,7 @@ use Rattle.vectors.specs.FirstStep.{initialStepOf}
 use Rattle.common.specs.declared.Settings.{Settings}
 use Rattle.common.specs.declared.Common.{Common}
 use Rattle.between_steps.specs.Start.{firstSizeOf}
-use Rattle.session.specs.Fields.{Fit}
+use Rattle.session.proofs.Fits.{Fit}
 use Rattle.invariants.proofs.Floats.{either, literal, difference, product, quotient, absolute, copysign}
 use Rattle.invariants.proofs.Floats.{maximum, minimum}
 

@@ -52,7 +52,7 @@ use Rattle.passes.specs.Pass.{matrixDoneOf, askColumnOf, askJacobianAt, askJaco
 use Rattle.passes.specs.Pass.{jacobianReplyOf, columnReplyAt, columnReplyOf, furtherReplyOf, restepReplyOf}
 use Rattle.reports.specs.Reports.{sizedAt, sizedOf, weightedAt, firstDerivativeOf, afterFirstReportOf, firstModifiedOf}
 use Rattle.reports.specs.Reports.{afterReportOf, modifiedOf}
-use Rattle.machine.specs.Resume.{isAsked, unasked, dealtOf, resumeOf}
+use Rattle.machine.specs.Resume.{isAsked, unasked, resumeAt, resumeOf}
 use Rattle.machine.proofs.Replies.{derivative-length}
 use Rattle.invariants.proofs.Keeps.{Invariant, Holds, HoldsIn, After, Keeps}
 
@@ -278,8 +278,8 @@ module _ {g : Given} {time : Float} {B S O : Invariant} (k : Keeps g time B S O)
 module _ (g : Given) (phase : Phase) (x : State) (kind : Kind) (f : List Float) (time : Float) {B S O : Invariant}
     (k : Keeps g time B S O) where
   taken-keeps : (ph : Phase) (kd : Kind) → isAsked ph kd (length f) (g .s .n) ≡ true → Holds B S O ph x
-      → HoldsIn B S O (dealtOf g ph x kd f time)
-  unfolding dealtOf
+      → HoldsIn B S O (resumeAt g ph x kd f time)
+  unfolding resumeAt
   taken-keeps Phase.FirstDerivative kd e h = first-derivative k f (derivative-length _ _ kd e) x h
   taken-keeps Phase.FirstReport (Kind.Report a) e h =
       first-report k f (eqb-true (length f) (g .s .n) e) x a h
@@ -299,7 +299,7 @@ module _ (g : Given) (phase : Phase) (x : State) (kind : Kind) (f : List Float) 
   taken-keeps Phase.Finished kd e h = absurd (true≢false (sym e))
 
   resumed : (asked : Bool) → isAsked phase kind (length f) (g .s .n) ≡ asked → Holds B S O phase x
-      → HoldsIn B S O (cond asked (dealtOf g phase x kind f time) (unasked phase x))
+      → HoldsIn B S O (cond asked (resumeAt g phase x kind f time) (unasked phase x))
   resumed true e h = taken-keeps phase kind e h
   resumed false e h = h
 

@@ -12,7 +12,7 @@ use Prim.Native.Nat.{ℕ, _+_, _*_}
 use lib.ListN.{length, length-set}
 use lib.Ieee.{Float}
 use borrow.Rule.Slice.PartMut.{same-len-mid}
-use Rattle.loops.specs.Stores.{length-for}
+use Rattle.loops.proofs.Stores.{length-for}
 use Rattle.loops.specs.Part.{part}
 use Rattle.dense.proofs.Laws.{Below, length-factor-a, length-factor-ipiv, factor-below}
 use Rattle.common.specs.declared.Settings.{Settings}
@@ -20,7 +20,7 @@ use Rattle.common.specs.declared.Common.{Common}
 use Rattle.common.specs.Record.{with-nje, with-nslp, with-nlu, with-rc, with-pdest, with-pdlast, with-pdnorm}
 use Rattle.common.specs.Record.{with-convrate, with-rate, with-delp, with-m, with-due, with-jcur}
 use Rattle.common.specs.Layout.{matrix, matrixAt}
-use Rattle.history.specs.Steps.{StepInRange}
+use Rattle.common.specs.Ranges.{StepInRange}
 use Rattle.history.proofs.Laws.{same-range}
 use Rattle.jacobian.specs.Jacobian.{beginOf, minusHl0, perturbOf, differenceAt, differenceOf, restoreOf}
 use Rattle.jacobian.specs.Jacobian.{scaledAt, scaledOf, suppliedOf, identityAt, identityOf, identityFactorsOf}

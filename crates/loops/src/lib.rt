@@ -1,1 +1,1 @@
-// No code: specs/ has the `for` loop as a function, its laws, and the laws of a part of a lent slice.
+// No code: specs/ has the `for` loop as a function and a part of a lent slice, proofs/ their laws.

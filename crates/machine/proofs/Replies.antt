@@ -20,8 +20,7 @@ use Rattle.between_steps.proofs.Kind.{the-type as kinds}
 use Rattle.questions.specs.declared.Phase.{Phase}
 use Rattle.questions.specs.declared.Phase.the-variants as Phase
 use Rattle.questions.specs.Requires.{UnlessFinished}
-use Rattle.machine.specs.Resume.{isAsked, unasked, dealtOf, resumeOf}
-use Rattle.machine.specs.Resume.{firstAnsweredOf, answeredOf}
+use Rattle.machine.specs.Resume.{isAsked, unasked, resumeAt, resumeOf, firstAnsweredOf, answeredOf}
 
 module _ (len n : ℕ) where
   pub derivative-length : (k : Kind) → isDerivative k len n ≡ true → len ≡ n
@@ -52,7 +51,7 @@ module _ (g : Given) (phase : Phase) (x : State) (kind : Kind) (reply : List Flo
   asked = isAsked phase kind (length reply) (g .s .n)
 
   pub resume-asked : (p : Phase) → phase ≡ p → asked ≡ true
-      → resumeOf g phase x kind reply time ≡ dealtOf g p x kind reply time
+      → resumeOf g phase x kind reply time ≡ resumeAt g p x kind reply time
   unfolding resumeOf
   resume-asked p e h = rw (h, e)
 

@@ -49,19 +49,20 @@ answeredOf g x (Report a) y time = afterReportOf (g .s) x a y time
 answeredOf g x Derivative y time = unasked Phase.Report x
 answeredOf g x Jacobian y time = unasked Phase.Report x
 
-unfoldable pub dealtOf : Given → Phase → State → Kind → List Float → Float → RunState
-dealtOf g Phase.FirstDerivative x kind f time = firstDerivativeOf g x f
-dealtOf g Phase.FirstReport x kind f time = firstAnsweredOf g x kind f time
-dealtOf g Phase.FirstModified x kind f time = firstModifiedOf (g .s) x f
-dealtOf g Phase.Opened x kind f time = openedReplyOf g x f
-dealtOf g Phase.JacobianAsked x kind f time = jacobianReplyOf g x f
-dealtOf g Phase.DifferenceColumn x kind f time = columnReplyOf g x f
-dealtOf g Phase.FurtherDerivative x kind f time = furtherReplyOf g x f
-dealtOf g Phase.Restep x kind f time = restepReplyOf (g .s) x f
-dealtOf g Phase.Report x kind f time = answeredOf g x kind f time
-dealtOf g Phase.Modified x kind f time = modifiedOf (g .s) x f
-dealtOf g Phase.Finished x kind f time = unasked Phase.Finished x
+-- what a phase does with a reply that is what was asked
+unfoldable pub resumeAt : Given → Phase → State → Kind → List Float → Float → RunState
+resumeAt g Phase.FirstDerivative x kind f time = firstDerivativeOf g x f
+resumeAt g Phase.FirstReport x kind f time = firstAnsweredOf g x kind f time
+resumeAt g Phase.FirstModified x kind f time = firstModifiedOf (g .s) x f
+resumeAt g Phase.Opened x kind f time = openedReplyOf g x f
+resumeAt g Phase.JacobianAsked x kind f time = jacobianReplyOf g x f
+resumeAt g Phase.DifferenceColumn x kind f time = columnReplyOf g x f
+resumeAt g Phase.FurtherDerivative x kind f time = furtherReplyOf g x f
+resumeAt g Phase.Restep x kind f time = restepReplyOf (g .s) x f
+resumeAt g Phase.Report x kind f time = answeredOf g x kind f time
+resumeAt g Phase.Modified x kind f time = modifiedOf (g .s) x f
+resumeAt g Phase.Finished x kind f time = unasked Phase.Finished x
 
 unfoldable pub resumeOf : Given → Phase → State → Kind → List Float → Float → RunState
 resumeOf g phase x kind reply time =
-    cond (isAsked phase kind (length reply) (g .s .n)) (dealtOf g phase x kind reply time) (unasked phase x)
+    cond (isAsked phase kind (length reply) (g .s .n)) (resumeAt g phase x kind reply time) (unasked phase x)

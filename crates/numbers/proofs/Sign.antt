@@ -15,7 +15,7 @@ use lib.Ieee.Fits.{up-pos}
 use lib.Ieee.Bits.{toBits-lt}
 
 use borrow.Author.Tests.{lt-ltb, le-leb, lt-leb}
-use Rattle.loops.specs.Test.{differs}
+use Rattle.loops.proofs.Test.{differs}
 use Rattle.numbers.specs.Float.{zeroF, oneF}
 use Rattle.numbers.specs.Sign.{absOf, negative, signumOf, copysignOf}
 use Rattle.numbers.proofs.Unique.{round-own}

@@ -4,7 +4,7 @@ use mathlib.Core.Path.{_≡_}
 use mathlib.Core.Bool.{true}
 use lib.Dec.{leb}
 use borrow.Author.Tests.{leb-true}
-use Rattle.loops.specs.Test.{both}
+use Rattle.loops.proofs.Test.{both}
 use Rattle.probe.specs.Probe.{isOrder}
 
 pub order-within : (order last : ℕ) → isOrder order last ≡ true → (1 ≤ order) × (order ≤ last)

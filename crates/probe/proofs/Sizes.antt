@@ -9,7 +9,7 @@ use lib.Dec.{eqb, leb}
 use lib.ListN.{length}
 use lib.Ieee.{Float}
 use borrow.Author.Tests.{leb-true, eqb-true}
-use Rattle.loops.specs.Test.{both, one-of}
+use Rattle.loops.proofs.Test.{both, one-of}
 use Rattle.vectors.specs.Tolerance.{List1OrN}
 use Rattle.probe.specs.Leaves.{isMatrix, isToleranceList, isBehind, isWeighed, isSystem}
 

@@ -8,8 +8,9 @@ use lib.Dec.{eqb, leb}
 use lib.ListN.{length, getD}
 use lib.Ieee.{Float}
 use borrow.Author.Tests.{leb-true, ltb-true, eqb-true}
-use Rattle.loops.specs.Test.{both}
-use Rattle.history.specs.Steps.{StepInRange}
+use Rattle.common.specs.Layout.{ewtAt, matrixAt}
+use Rattle.loops.proofs.Test.{both}
+use Rattle.common.specs.Ranges.{StepInRange}
 use Rattle.probe.specs.Lent.{lentSettings, lentCommon, areColumns, inRange, areLimits, isUsable}
 
 pub columns-fit : (n nq nqnyh len : ℕ) → areColumns n nq nqnyh len ≡ true
@@ -24,7 +25,7 @@ pub record Usable (fs : List Float) (cs : List ℕ) (work : ℕ) : Type 0 where
   pub floats : length fs ≡ 11
   pub counts : length cs ≡ 14
   pub range : StepInRange (lentSettings fs cs) (lentCommon fs cs)
-  pub long : 19 * lentSettings fs cs .n ≤ work
+  pub long : matrixAt (lentSettings fs cs .n) ≤ work
   pub limits : (lentSettings fs cs .mxordn ≤ 1000000) × (lentSettings fs cs .mxords ≤ 1000000)
 
 pub usable : (fs : List Float) (cs : List ℕ) (work : ℕ) → isUsable fs cs work ≡ true → Usable fs cs work
@@ -41,8 +42,8 @@ usable fs cs work h =
     let r2 = both (leb n 64) _ (r1 .1) in
     let r3 = both (leb 1 (getD cs 5 0)) _ (r2 .1) in
     let r4 = both (leb (getD cs 10 0) 2) _ (r3 .1) in
-    let r5 = both (leb (19 * n) work) _ (r4 .1) in
-    let k = columns-fit n (getD cs 5 0) (getD cs 7 0) (13 * n) (r5 .1) in
+    let r5 = both (leb (matrixAt n) work) _ (r4 .1) in
+    let k = columns-fit n (getD cs 5 0) (getD cs 7 0) (ewtAt n) (r5 .1) in
     record {
       floats = eqb-true (length fs) 11 (p .0);
       counts = eqb-true (length cs) 14 (q .0);
@@ -53,6 +54,6 @@ usable fs cs work h =
         used = (k .1, omega (arith, k .2));
         steps = (ltb-true (getD cs 11 0) _ (l3 .1), leb-true (getD cs 3 0) 1000000 (l3 .0));
       };
-      long = leb-true (19 * n) work (r5 .0);
+      long = leb-true (matrixAt n) work (r5 .0);
       limits = (leb-true (getD cs 1 0) 1000000 (l1 .0), leb-true (getD cs 2 0) 1000000 (l2 .0));
     }

@@ -10,7 +10,7 @@ use Rattle.common.specs.declared.Settings.{Settings}
 use Rattle.common.specs.declared.Common.{Common}
 use Rattle.common.specs.Rules.{firstCallInitOf, resetOf}
 use Rattle.common.specs.Limits.{maxStates}
-use Rattle.common.specs.Layout.{matrixAt}
+use Rattle.common.specs.Layout.{matrixAt, questionLength}
 use Rattle.history.specs.Columns.{predictColumnsOf, retractColumnsOf, rescaleColumnsOf, correctColumnsOf}
 use Rattle.history.specs.Steps.{limitedOf, adjustOf, predictedOf, predictedWorkOf}
 use Rattle.interpolation.specs.Snapshot.{snapshotOf}
@@ -36,7 +36,7 @@ correctLeft fs cs work =
 
 unfoldable pub snapshotLeft : List Float → List ℕ → List Float → List Float → Columns
 snapshotLeft fs cs work question =
-    columnsLeft (isUsable fs cs (length work) && leb (14 * lentSettings fs cs .n + 6) (length question))
+    columnsLeft (isUsable fs cs (length work) && leb (questionLength (lentSettings fs cs .n)) (length question))
     (snapshotOf (lentSettings fs cs) (lentCommon fs cs) work question)
     question
 

@@ -342,7 +342,7 @@ pub extern "C" fn probe_snapshot_step(
         return 2;
     }
     let s = settings(floats, counts);
-    if question.len() < 14 * s.n + 6 {
+    if question.len() < common::QUESTION * s.n + common::HEADER {
         return 2;
     }
     interpolation::snapshot_step(s, common(floats, counts), work, question);

@@ -3,7 +3,7 @@ use mathlib.Core.List.{List}
 use Prim.Native.Nat.{ℕ, _-_}
 use lib.Ieee.{Float}
 use Rattle.vectors.specs.Tolerance.{List1OrN}
-use Rattle.between_steps.specs.Ranges.{Ranges, Lent}
+use Rattle.common.specs.Ranges.{Ranges, Lent}
 use Rattle.questions.specs.declared.Session.{Session}
 use Rattle.questions.specs.declared.Phase.{Phase}
 use Rattle.questions.specs.declared.Phase.the-variants as Phase

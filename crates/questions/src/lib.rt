@@ -5,7 +5,7 @@ ghost use Prim.Native.Nat.{ℕ, _^_, _≤_, _<_};
 ghost use lib.ListN.{length};
 ghost use Rattle.common.specs.Layout.{matrixAt};
 ghost use Rattle.common.specs.State.{state};
-ghost use Rattle.between_steps.specs.Ranges.{Inside};
+ghost use Rattle.common.specs.Ranges.{Inside};
 ghost use Rattle.questions.specs.Turns.{runState, askedOf, askedInStepOf, finishedOf};
 ghost use Rattle.questions.specs.Begin.{openPassOf, beganOf, goOnOf};
 

@@ -15,7 +15,7 @@ use Rattle.refusals.proofs.Accepted.{also-none, else-none, same, not-false}
 use Rattle.questions.specs.declared.Phase.{Phase}
 use Rattle.questions.specs.declared.Phase.the-variants as Phase
 use Rattle.questions.specs.Requires.{UnlessFinished}
-use Rattle.common.specs.Layout.{workLength}
+use Rattle.common.specs.Layout.{workLength, questionLength}
 use Rattle.common.specs.Limits.{maxStates}
 use Rattle.common.specs.SessionWords.{sessionLength}
 use Rattle.session.specs.Session.{storedN, finishedIn, inRangeOf}
@@ -27,7 +27,7 @@ pub record Taken (kind size : ℕ) (ipiv b : List ℕ) (asked : ℕ) : Type 0 wh
   pub n : (1 ≤ storedN b) × (storedN b ≤ maxStates)
   pub work : size ≡ workLength (storedN b)
   pub pivots : length ipiv ≡ storedN b
-  pub question : asked ≡ 14 * storedN b + 6
+  pub question : asked ≡ questionLength (storedN b)
   pub running : finishedIn b ≡ false
   pub ranges : inRangeOf b ipiv ≡ true
   pub known : isKind kind ≡ true

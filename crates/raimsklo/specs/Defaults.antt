@@ -3,7 +3,7 @@ use mathlib.Core.Bool.{cond}
 use Prim.Native.Nat.{ℕ, _+_, _*_}
 use lib.Dec.{ltb}
 use Rattle.numbers.specs.Float.{zeroF}
-use Rattle.common.specs.Layout.{workLength}
+use Rattle.common.specs.Layout.{workLength, questionLength}
 use Rattle.common.specs.Limits.{maxStates}
 use Rattle.refusals.specs.declared.Options.{Options}
 
@@ -19,4 +19,4 @@ unfoldable pub workLengthFor : ℕ → ℕ
 workLengthFor n = cond (ltb maxStates n) 0 (workLength n)
 
 unfoldable pub questionLengthFor : ℕ → ℕ
-questionLengthFor n = cond (ltb maxStates n) 0 (14 * n + 6)
+questionLengthFor n = cond (ltb maxStates n) 0 (questionLength n)

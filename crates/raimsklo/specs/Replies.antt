@@ -10,7 +10,7 @@ use lib.Ieee.{Float}
 use Rattle.loops.specs.Part.{part, putPart}
 use Rattle.common.specs.declared.Settings.{Settings}
 use Rattle.common.specs.declared.Common.{Common}
-use Rattle.common.specs.Layout.{yAt, yfdAt, workLength}
+use Rattle.common.specs.Layout.{yAt, yfdAt, workLength, questionLength}
 use Rattle.common.specs.Limits.{maxStates}
 use Rattle.common.specs.SessionWords.{sessionLength}
 use Rattle.common.specs.State.{given, state}
@@ -48,7 +48,7 @@ unfolding inOrder
 lengthsRefusal n work pivots question = inOrder none (
     when (not (eqb work (workLength n))) 3
     ∷ when (not (eqb pivots n)) 3
-    ∷ when (not (eqb question (14 * n + 6))) 3
+    ∷ when (not (eqb question (questionLength n))) 3
     ∷ [])
 
 -- 14: finished; 13: a value out of its range; 14: no kind
@@ -105,7 +105,7 @@ pub record Sized (n : ℕ) (work : List Float) (pivots : List ℕ) (question : L
   pub states : (1 ≤ n) × (n ≤ maxStates)
   pub sized : length work ≡ workLength n
   pub pivoted : length pivots ≡ n
-  pub asked : length question ≡ 14 * n + 6
+  pub asked : length question ≡ questionLength n
 
 -- what a turn leaves of session and question
 pub record TurnWritten : Type 0 where

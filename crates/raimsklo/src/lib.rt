@@ -77,7 +77,7 @@ pub extern "C" fn raimsklo_question_length(n: usize) -> usize
     if n > common::MAX_STATES {
         return 0;
     }
-    14 * n + 6
+    common::QUESTION * n + common::HEADER
 }
 
 // How many bytes a session has.

@@ -3,7 +3,7 @@ ghost use mathlib.Core.Path.{_≡_};
 ghost use mathlib.Core.Bool.{Bool, true};
 ghost use Prim.Native.Nat.{ℕ, _+_, _*_, _≤_, _<_};
 ghost use lib.ListN.{length};
-ghost use Rattle.common.specs.Layout.{matrixAt};
+ghost use Rattle.common.specs.Layout.{matrixAt, questionLength};
 ghost use Rattle.common.specs.Limits.{maxStates};
 ghost use Rattle.common.specs.SessionWords.{sessionLength};
 ghost use Rattle.session.specs.Session.{inRangeOf, storedCounts, decodeOf};
@@ -58,7 +58,7 @@ fn lengths(n: usize, work: usize, pivots: usize, question: usize) -> Refusal
 {
     let a = refusals::also(refusals::none(), work != n * n + common::MATRIX * n, 3);
     let b = refusals::also(a, pivots != n, 3);
-    refusals::also(b, question != 14 * n + 6, 3)
+    refusals::also(b, question != common::QUESTION * n + common::HEADER, 3)
 }
 
 // 14 or 13 of a session with its lengths: a finished one is judged by its n and phase alone.
@@ -117,7 +117,7 @@ fn show(n: usize, at: usize, work: &[f64], question: &mut [f64])
 // y stands first, the snapshot from n on; an end leaves the question as it was.
 fn write_question(s: Settings, c: Common, phase: Phase, work: &[f64], question: &mut [f64])
     requires { ⌜ (1 ≤ s .n) × (s .n ≤ maxStates) × (c .nq ≤ 12) ⌝ }
-    requires { ⌜ (matrixAt (s .n) ≤ length (now work)) × (14 * s .n + 6 ≤ length (now question)) ⌝ }
+    requires { ⌜ (matrixAt (s .n) ≤ length (now work)) × (questionLength (s .n) ≤ length (now question)) ⌝ }
     ensures { λ _. ⌜ now (question .exit) ≡ questionOf s phase c (now (work .entry)) (now (question .entry)) ⌝ }
 {
     let n = s.n;
@@ -157,7 +157,7 @@ fn is_unasked(q: Question) -> bool
 // The turn is kept in the session and its question written, unless the reply was not what was asked.
 fn write_turn(s: Settings, turn: Turn, work: &[f64], bytes: &mut [u8], question: &mut [f64]) -> Reply
     requires { ⌜ (1 ≤ s .n) × (s .n ≤ maxStates) × (turn .common .nq ≤ 12) ⌝ }
-    requires { ⌜ (matrixAt (s .n) ≤ length (now work)) × (14 * s .n + 6 ≤ length (now question)) ⌝ }
+    requires { ⌜ (matrixAt (s .n) ≤ length (now work)) × (questionLength (s .n) ≤ length (now question)) ⌝ }
     requires { ⌜ sessionLength ≤ length (now bytes) ⌝ }
     ensures { λ r. ⌜ _≡_ {A = TurnWritten}
         (record { reply = r; session = now (bytes .exit); question = now (question .exit) })

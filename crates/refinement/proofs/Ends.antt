@@ -12,7 +12,7 @@ use borrow.Author.Tests.{eq-eqb}
 use Rattle.numbers.specs.Float.{zeroF}
 use Rattle.common.specs.State.{Given}
 use Rattle.between_steps.specs.declared.Answer.the-variants.{Continue}
-use Rattle.between_steps.specs.Ranges.{Accepted}
+use Rattle.common.specs.Ranges.{Accepted}
 use Rattle.questions.specs.declared.Phase.{Phase}
 use Rattle.questions.specs.declared.Phase.the-variants as Phase
 use Rattle.questions.specs.Turns.{RunState}

@@ -14,7 +14,7 @@ use borrow.Author.Tests.{eqb-true}
 use Rattle.common.specs.State.{Given}
 use Rattle.between_steps.specs.declared.Kind.{Kind}
 use Rattle.between_steps.specs.declared.Kind.the-variants as Kind
-use Rattle.between_steps.specs.Ranges.{Accepted}
+use Rattle.common.specs.Ranges.{Accepted}
 use Rattle.questions.specs.Turns.{RunState}
 use Rattle.machine.specs.Resume.{unasked}
 use Rattle.rules.specs.Play.{End, derivativeAt, jacobianAt}
@@ -22,9 +22,8 @@ use Rattle.rules.specs.Play.{finished, stepRefused, weightRefused, exhausted, P
 use Rattle.rules.specs.Rules.{Start, start}
 use Rattle.rules.specs.Steps.{Step, noted, marked}
 use Rattle.rules.specs.Replies.{Reply, Progress, answerGiven, waits, fed}
-use Rattle.refinement.specs.Shown.{shownAs, shownBy, shownAt, asks, resumed, isTaken, treeNext}
-use Rattle.refinement.specs.Shown.{reachedAfter, heard, treeAnswers, notRefused, heardTaken}
-use Rattle.refinement.specs.Shown.{givenTaken}
+use Rattle.refinement.specs.Shown.{shownAs, shownBy, shownAt, asks, resumed, isTaken, treeNext, reachedAfter}
+use Rattle.refinement.specs.Shown.{heard, treeAnswers, notRefused, heardTaken, givenTaken}
 use Rattle.refinement.specs.AtNode.{SameState, Arrived, AtNode, startedAt}
 use Rattle.refinement.specs.Follows.{Unchanged, stateAt, Follows}
 use Rattle.refinement.proofs.Alive.{alive}

@@ -8,13 +8,13 @@ use Prim.Native.Nat.{ℕ, _-_, _^_}
 use native.Mathlib.Omega.{arith}
 use lib.Ieee.{Float}
 use lib.ListN.{length, replicate, length-replicate, getD-replicate}
-use Rattle.loops.specs.Part.{length-putPart}
+use Rattle.loops.proofs.Part.{length-putPart}
 use Rattle.numbers.specs.Float.{zeroF}
 use Rattle.common.specs.State.{Given}
 use Rattle.common.specs.Layout.{yAt, workLength}
 use Rattle.common.specs.Rules.{icount20}
-use Rattle.between_steps.specs.Ranges.{Counts, Lent}
-use Rattle.between_steps.proofs.Within.{coreOf, Within, orders-of}
+use Rattle.common.specs.Ranges.{Counts, Lent}
+use Rattle.between_steps.proofs.Within.{coreOf, Within, counters-of}
 use Rattle.questions.specs.declared.Phase.{Phase}
 use Rattle.questions.specs.declared.Phase.the-variants as Phase
 use Rattle.questions.specs.Requires.{Resumes, UnlessFinished}
@@ -79,15 +79,15 @@ module _ (g : Given) (a : Start) (ok : Accepts g a) where
 
   -- at most as many steps as may be, so icount is at least 20
   abbrev InRanges : RunState → Type 0
-  InRanges l = HoldsIn (Ranged (g .s) icount20 (g .s .maxsteps) 0) (Ranged (g .s) icount20 (g .s .maxsteps) 1)
-      (ClosingAt (g .s) icount20 (g .s .maxsteps)) l
+  InRanges l = HoldsIn (Ranged (g .s) icount20 (g .s .maxsteps) 0 0) (Ranged (g .s) icount20 (g .s .maxsteps) 0 1)
+      (ClosingAt (g .s) icount20 (g .s .maxsteps) 0) l
 
   kept-after : (rs : List Reply) → InRanges (reachedAfter g (startedAt g a) rs)
   unfolding beginning
   kept-after rs =
       after-keeps
-      (ranges-keep (g .s) icount20 (g .s .maxsteps) (ok .settings) (omega arith) (omega (arith, ok .settings .maxsteps))
-      (g .rtol) (g .atol))
+      (ranges-keep (g .s) icount20 (g .s .maxsteps) 0 (ok .settings) (omega arith)
+      (omega (arith, ok .settings .maxsteps)) (g .rtol) (g .atol))
       (startedAt g a) rs (within-initial (g .s) (ok .settings) (a .x0) (a .h) (a .hmin) (a .hmxi))
 
   lent-after : (rs : List Reply) → let l = reachedAfter g (startedAt g a) rs in Lent (g .s .n) (l .st .w) (l .st .p)
@@ -108,7 +108,7 @@ module _ (g : Given) (a : Start) (ok : Accepts g a) where
       counted (tell r x k) xs h = h
       counted (say e p) xs h = absurd h
 
-  pub closing-after : (rs : List Reply) → Closing (g .s) (coreOf (reachedAfter g (startedAt g a) rs .st .c))
+  pub closing-after : (rs : List Reply) → Closing (g .s) 0 (coreOf (reachedAfter g (startedAt g a) rs .st .c))
   closing-after rs =
       each (reachedAfter g (startedAt g a) rs .phase) (λ h. closing-of h) (λ h. closing-of h) (λ h. h)
         (kept-after rs)
@@ -119,14 +119,15 @@ module _ (g : Given) (a : Start) (ok : Accepts g a) where
       unless (l .phase) (λ h. resumes 0 h) (λ h. resumes 1 h) (λ h. tt) (kept-after rs)
     where
       resumes : (under : ℕ) → let l = reachedAfter g (startedAt g a) rs in
-          Within (g .s) icount20 (g .s .maxsteps) under (coreOf (l .st .c))
+          Within (g .s) icount20 (g .s .maxsteps) 0 under (coreOf (l .st .c))
           → Resumes (sessionFound g l) (g .rtol) (g .atol) (l .st .w) (l .st .p)
       resumes under h = record {
         ranges = record {
           settings = ok .settings;
           counts = counts-after rs;
-          orders = orders-of (ok .settings) (reachedAfter g (startedAt g a) rs .st .c) h
-            (omega (arith, ok .settings .maxsteps));
+          orders = h .orders;
+          counters = counters-of (ok .settings) (reachedAfter g (startedAt g a) rs .st .c) h
+            (omega (arith, ok .settings .maxsteps)) (omega arith);
         };
         relative = ok .relative;
         absolute = ok .absolute;

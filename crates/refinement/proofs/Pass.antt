@@ -20,7 +20,7 @@ use Rattle.passes.specs.Pass.{concludedAt, iterateOf, iterationsOf, errorTestOf
 use Rattle.passes.specs.Pass.{matrixDoneOf, askColumnOf, askJacobianAt, askJacobianOf}
 use Rattle.passes.specs.Pass.{openedReplyAt, openedReplyOf, jacobianReplyOf, columnReplyAt, columnReplyOf}
 use Rattle.passes.specs.Pass as Machine
-use Rattle.machine.specs.Resume.{dealtOf}
+use Rattle.machine.specs.Resume.{resumeAt}
 use Rattle.rules.specs.Play.{Play}
 use Rattle.rules.specs.Pass.{Outcome, converged, toRetry, unconverged, iterated, further, turns, iterations}
 use Rattle.rules.specs.Pass.{stored, factored, factoredState, factoredIn, afterMatrix, columnAsked, askColumns}
@@ -42,7 +42,7 @@ module _ (g : Given) where
   module _ (on : Outcome → Play) (after : Outcomes on) where
     pub turns-stand : (k : ℕ) (v : Pass) (del : Float) (x : State) → Alive (g .s .n) (turns k g on v del x)
         → AtNode g (turns k g on v del x) (concludedAt g x v del)
-    unfolding turns concludedAt askedInStepOf dealtOf furtherReplyOf iterateOf iterated
+    unfolding turns concludedAt askedInStepOf resumeAt furtherReplyOf iterateOf iterated
     turns-stand zero Converged del x a = after (converged del x) a
     turns-stand zero Retry del x a = after (toRetry x) a
     turns-stand zero NoConvergence del x a = after (unconverged x) a
@@ -75,7 +75,7 @@ module _ (g : Given) where
     -- column j, and k more
     columns-stand : (k j : ℕ) (x : State) → k + j + 1 ≡ g .s .n → Alive (g .s .n) (askColumns (suc k) j g on x)
         → AtNode g (askColumns (suc k) j g on x) (askColumnOf (g .s) x j)
-    unfolding askColumns askColumnOf askedInStepOf dealtOf columnReplyOf columnReplyAt
+    unfolding askColumns askColumnOf askedInStepOf resumeAt columnReplyOf columnReplyAt
     columns-stand zero j x e a =
         derivative-stands g (columnAsked g j x) _ Phase.DifferenceColumn (λ kind len n. refl)
         (λ f t h. let q : ltb (j + 1) (g .s .n) ≡ false = le-ltb (j + 1) (g .s .n) (omega arith) in
@@ -93,7 +93,7 @@ module _ (g : Given) where
 
       matrix-stands : (supplied : Bool) (x : State) → Alive (g .s .n) (askMatrix g on supplied x)
           → AtNode g (askMatrix g on supplied x) (askJacobianAt (g .s) x supplied)
-      unfolding askMatrix askJacobianAt dealtOf jacobianReplyOf
+      unfolding askMatrix askJacobianAt resumeAt jacobianReplyOf
       matrix-stands true x a = jacobian-stands g x _ (λ f t h. after-matrix-stands (matrixGiven g f x) (a f h))
       matrix-stands false x a = all-columns-stand (g .s .n) (unperturbed g x) refl a
 
@@ -107,7 +107,7 @@ module _ (g : Given) where
 
       pub pass-stands : (x : State) → Alive (g .s .n) (pass g on x)
           → AtNode g (pass g on x) (openPassOf (g .s .n) x)
-      unfolding pass openPassOf askedInStepOf dealtOf openedReplyOf
+      unfolding pass openPassOf askedInStepOf resumeAt openedReplyOf
       pass-stands x a =
           derivative-stands g (opened g x) _ Phase.Opened (λ kind len n. refl)
           (λ f t h. reply-stands (opened g x .c .due) (stored g f (opened g x)) (a f h))

@@ -21,18 +21,18 @@ use Rattle.questions.specs.declared.Question.the-variants as Machine
 use Rattle.questions.specs.declared.Phase.{Phase}
 use Rattle.questions.specs.declared.Phase.the-variants as Phase
 use Rattle.questions.specs.Turns.{RunState}
-use Rattle.machine.specs.Resume.{isAsked, unasked, dealtOf, resumeOf}
+use Rattle.machine.specs.Resume.{isAsked, unasked, resumeAt, resumeOf}
 use Rattle.rules.specs.Play.{derivativeAt, jacobianAt, Play, ask}
 use Rattle.rules.specs.Replies.{Reply}
 use Rattle.refinement.specs.Shown.{wantedAt, shownAs, resumed, isTaken}
 use Rattle.refinement.specs.AtNode.{derivative, jacobian, answer, AtNode}
 
 -- what the phase does with a reply
-abbrev pub dealt : Given → RunState → Reply → RunState
-dealt g l r = dealtOf g (l .phase) (l .st) (r .kind) (r .numbers) (r .time)
+abbrev pub resumedAt : Given → RunState → Reply → RunState
+resumedAt g l r = resumeAt g (l .phase) (l .st) (r .kind) (r .numbers) (r .time)
 
 module _ (g : Given) (l : RunState) where
-  pub takes : (r : Reply) → isTaken g l r ≡ true → resumed g l r ≡ dealt g l r
+  pub takes : (r : Reply) → isTaken g l r ≡ true → resumed g l r ≡ resumedAt g l r
   unfolding resumeOf
   takes r e = rw e
 
@@ -42,16 +42,16 @@ module _ (g : Given) (l : RunState) where
 
   module _ (f : List Float) (t : Float) where
     pub takes-derivative : ((k : ℕ) → isAsked (l .phase) Kind.Derivative k (g .s .n) ≡ eqb k (g .s .n))
-        → length f ≡ g .s .n → resumed g l (derivative f t) ≡ dealt g l (derivative f t)
+        → length f ≡ g .s .n → resumed g l (derivative f t) ≡ resumedAt g l (derivative f t)
     takes-derivative e h = takes (derivative f t) (rw (e (length f)) (eq-eqb (length f) (g .s .n) h))
 
     pub takes-jacobian : l .phase ≡ Phase.JacobianAsked → length f ≡ g .s .n * g .s .n
-        → resumed g l (jacobian f t) ≡ dealt g l (jacobian f t)
+        → resumed g l (jacobian f t) ≡ resumedAt g l (jacobian f t)
     takes-jacobian e h = takes (jacobian f t) (rw e (eq-eqb (length f) (g .s .n * g .s .n) h))
 
     pub takes-answer : (a : Answer)
         → ((k : ℕ) → isAsked (l .phase) (Kind.Report a) k (g .s .n) ≡ eqb k (g .s .n))
-        → length f ≡ g .s .n → resumed g l (answer a f t) ≡ dealt g l (answer a f t)
+        → length f ≡ g .s .n → resumed g l (answer a f t) ≡ resumedAt g l (answer a f t)
     takes-answer a e h = takes (answer a f t) (rw (e (length f)) (eq-eqb (length f) (g .s .n) h))
 
 -- ---- the machine at a question, from what its phase does with a reply
@@ -71,7 +71,7 @@ module _ (g : Given) (x : State) (k : List Float → Play) where
   pub derivative-stands : (phase : Phase)
       → ((kind : Kind) (len n : ℕ) → isAsked phase kind len n ≡ isDerivative kind len n)
       → ((f : List Float) (t : Float) → length f ≡ g .s .n
-      → AtNode g (k f) (dealt g (waiting phase x) (derivative f t)))
+      → AtNode g (k f) (resumedAt g (waiting phase x) (derivative f t)))
       → AtNode g (ask (derivativeAt (x .c .tn) (wantedAt (g .s .n) phase (x .w))) x k) (waiting phase x)
   unfolding shownAs
   derivative-stands phase e h = (
@@ -81,7 +81,7 @@ module _ (g : Given) (x : State) (k : List Float → Play) where
 
   pub jacobian-stands :
       ((f : List Float) (t : Float) → length f ≡ g .s .n * g .s .n
-      → AtNode g (k f) (dealt g (waitingJacobian x) (jacobian f t)))
+      → AtNode g (k f) (resumedAt g (waitingJacobian x) (jacobian f t)))
       → AtNode g (ask (jacobianAt (x .c .tn) (y (g .s .n) (x .w))) x k) (waitingJacobian x)
   unfolding shownAs
   jacobian-stands h = (

@@ -24,7 +24,7 @@ use Rattle.questions.specs.Begin.{goOnOf}
 use Rattle.common.specs.Initial.{initialOf}
 use Rattle.reports.specs.Reports.{sizedAt, sizedOf, weightedAt, firstDerivativeOf}
 use Rattle.reports.specs.Reports as Machine
-use Rattle.machine.specs.Resume.{dealtOf}
+use Rattle.machine.specs.Resume.{resumeAt}
 use Rattle.rules.specs.Rules.{Start, beginning, sizedState, firstModified, firstRestarted, firstAnswered, sized}
 use Rattle.rules.specs.Rules.{firstStep, weighted, firstWeights, started, start, timed, solve}
 use Rattle.refinement.specs.Shown.{shownAs}
@@ -41,7 +41,7 @@ module _ (g : Given) (some : 1 ≤ g .s .n) where
   first-answered-stands : (x : State) (a : Answer) (f : List Float) (t : Float)
       → Alive (g .s .n) (firstAnswered g x a f t)
       → AtNode g (firstAnswered g x a f t) (Machine.afterFirstReportOf (g .s) x a f t)
-  unfolding firstAnswered Machine.afterFirstReportOf askedOf dealtOf Machine.firstModifiedOf
+  unfolding firstAnswered Machine.afterFirstReportOf askedOf resumeAt Machine.firstModifiedOf
   first-answered-stands x Continue f t a = solved-stands (g .s .maxsteps) (timed t x) a
   first-answered-stands x Interrupt f t a = ended-stands g Status.Interrupted (timed t x)
   first-answered-stands x Modified f t a =
@@ -50,7 +50,7 @@ module _ (g : Given) (some : 1 ≤ g .s .n) where
 
   sized-stands : (refuses : Bool) (h : Float) (x : State) → Alive (g .s .n) (sized g refuses h x)
       → AtNode g (sized g refuses h x) (sizedAt (g .s) x h refuses)
-  unfolding sized sizedAt shownAs dealtOf
+  unfolding sized sizedAt shownAs resumeAt
   sized-stands true h x a =
       record { shows = refl; holds = record { same = refl; takes = λ r. refl } }
   sized-stands false h x a =
@@ -76,7 +76,7 @@ module _ (g : Given) (some : 1 ≤ g .s .n) where
 
   -- the machine's state after an accepted start stands at the tree of its run
   pub begins : (a : Start) → Alive (g .s .n) (start g a) → AtNode g (start g a) (startedAt g a)
-  unfolding start beginning initialOf dealtOf
+  unfolding start beginning initialOf resumeAt
   begins a alive =
       derivative-stands g (beginning g a) _ Phase.FirstDerivative (λ kind len n. refl)
       (λ f t h. started-stands f (beginning g a) (alive f h))

@@ -27,18 +27,15 @@ use Rattle.questions.specs.declared.Phase.the-variants as Phase
 use Rattle.questions.specs.Turns.{RunState, turnAt, askedOf, askedInStepOf, finishedOf}
 use Rattle.questions.specs.Begin.{openPassOf, beganOf, goOnAt, goOnOf}
 use Rattle.passes.specs.Pass.{attemptedAt, reportedOf, closedAt, endStepOf, acceptedAt, acceptedOf, errorTestAt}
-use Rattle.passes.specs.Pass.{errorTestOf}
-use Rattle.passes.specs.Pass.{passFailedOf}
+use Rattle.passes.specs.Pass.{errorTestOf, passFailedOf}
 use Rattle.passes.specs.Pass as Machine
 use Rattle.reports.specs.Reports.{afterReportOf, modifiedOf}
-use Rattle.machine.specs.Resume.{dealtOf}
+use Rattle.machine.specs.Resume.{resumeAt}
 use Rattle.rules.specs.Play.{Play, ret, finished}
 use Rattle.rules.specs.Pass.{converged, toRetry, unconverged}
-use Rattle.rules.specs.Rules.{endedAccepted, single, restepped, follow, attempted, tested}
-use Rattle.rules.specs.Rules.{errorAt, decide, attempts, reportedState, modified, restarted, afterReport, taken, timed}
-use Rattle.rules.specs.Rules.{closed, closing, isGap, afterAcceptance, acceptance, settledState, stepped, predicted}
-use Rattle.rules.specs.Rules.{step}
-use Rattle.rules.specs.Rules.{solveAt}
+use Rattle.rules.specs.Rules.{endedAccepted, single, restepped, follow, attempted, tested, errorAt, decide, attempts}
+use Rattle.rules.specs.Rules.{reportedState, modified, restarted, afterReport, taken, timed, closed, closing, isGap}
+use Rattle.rules.specs.Rules.{afterAcceptance, acceptance, settledState, stepped, predicted, step, solveAt}
 use Rattle.refinement.specs.Shown.{shownAs}
 use Rattle.refinement.specs.AtNode.{AtNode}
 use Rattle.refinement.proofs.Alive.{Alive}
@@ -71,7 +68,7 @@ module _ (g : Given) where
 
     answered-stands : (x : State) (a : Answer) (f : List Float) (t : Float) → Alive (g .s .n) (afterReport g on x a f t)
         → AtNode g (afterReport g on x a f t) (afterReportOf (g .s) x a f t)
-    unfolding afterReport afterReportOf askedOf dealtOf modifiedOf
+    unfolding afterReport afterReportOf askedOf resumeAt modifiedOf
     answered-stands x Continue f t a = onward (timed t (taken g f x)) a
     answered-stands x Interrupt f t a = ended-stands Status.Interrupted (timed t (taken g f x))
     answered-stands x Modified f t a =
@@ -80,7 +77,7 @@ module _ (g : Given) where
 
     closed-stands : (w : Weights) (x : State) → Alive (g .s .n) (closed g on w x)
         → AtNode g (closed g on w x) (closedAt (g .s .n) x w)
-    unfolding closed closedAt reportedOf shownAs dealtOf
+    unfolding closed closedAt reportedOf shownAs resumeAt
     closed-stands (Refused i) x a =
         record { shows = refl; holds = record { same = refl; takes = λ r. refl } }
     closed-stands Inverted x a =
@@ -120,7 +117,7 @@ module _ (g : Given) where
         (repeats : (x : State) → Alive (g .s .n) (again x) → AtNode g (again x) (opens x)) where
       follow-stands : (v : Next) (x : State) → Alive (g .s .n) (follow g again (stepped g on) v x)
           → AtNode g (follow g again (stepped g on) v x) (attemptedAt (g .s .n) x v)
-      unfolding follow stepped attemptedAt askedInStepOf dealtOf Machine.restepReplyOf
+      unfolding follow stepped attemptedAt askedInStepOf resumeAt Machine.restepReplyOf
       follow-stands Next.Pass x a = repeats x a
       follow-stands Next.Restep x a =
           derivative-stands g (single x) _ Phase.Restep (λ kind len n. refl)

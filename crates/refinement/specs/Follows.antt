@@ -14,8 +14,7 @@ use Rattle.rules.specs.Rules.{Start, start}
 use Rattle.rules.specs.Replies.{Reply, fed, AllAsked}
 use Rattle.rules.specs.Demands.{lastState, repliesOf}
 use Rattle.refinement.specs.Shown.{shownBy, shownAt, resumed, reachedAfter, heard, treeAnswers, isTaken}
-use Rattle.refinement.specs.Shown.{notRefused, heardTaken}
-use Rattle.refinement.specs.Shown.{givenTaken}
+use Rattle.refinement.specs.Shown.{notRefused, heardTaken, givenTaken}
 use Rattle.refinement.specs.AtNode.{SameState, AtNode, startedAt}
 
 -- a refused reply is answered 14 and leaves all as it was

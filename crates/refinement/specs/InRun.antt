@@ -7,7 +7,7 @@ use Prim.Native.Nat.{_-_}
 use lib.ListN.{length}
 use Rattle.vectors.specs.Tolerance.{List1OrN}
 use Rattle.common.specs.State.{Given}
-use Rattle.between_steps.specs.Ranges.{Accepted}
+use Rattle.common.specs.Ranges.{Accepted}
 use Rattle.questions.specs.Requires.{Resumes, UnlessFinished}
 use Rattle.questions.specs.Turns.{RunState}
 use Rattle.rules.specs.Rules.{Start}

@@ -19,9 +19,8 @@ use Rattle.questions.specs.declared.Question.{Question as MachineQuestion}
 use Rattle.questions.specs.declared.Question.the-variants as Machine
 use Rattle.questions.specs.Turns.{RunState}
 use Rattle.machine.specs.Resume.{isAsked, resumeOf}
-use Rattle.rules.specs.Play.{Question, derivativeAt, jacobianAt, Report}
-use Rattle.rules.specs.Play.{End as RulesEnd, finished, stepRefused, weightRefused, exhausted, Play, ret, ask, tell}
-use Rattle.rules.specs.Play.{say}
+use Rattle.rules.specs.Play.{Question, derivativeAt, jacobianAt, Report, End as RulesEnd, finished, stepRefused}
+use Rattle.rules.specs.Play.{weightRefused, exhausted, Play, ret, ask, tell, say}
 use Rattle.rules.specs.Replies.{Reply, answers, answersReport, answerGiven}
 
 -- ---- an answer, with its numbers

@@ -14,7 +14,7 @@ use lib.IntN.{pos}
 use lib.Ieee as Ieee
 use lib.Ieee.{Float, nan, inf, fin, up, down}
 use lib.Ieee.Fits.{up-pos}
-use Rattle.loops.specs.Test.{differs}
+use Rattle.loops.proofs.Test.{differs}
 use Rattle.numbers.specs.Float.{zeroF}
 use Rattle.numbers.specs.Sign.{negative, signumOf, refused}
 use Rattle.refusals.specs.FirstStep.{IsZero, StepRefused, StepTaken}

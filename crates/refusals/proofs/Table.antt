@@ -13,11 +13,12 @@ use lib.Dec.{eqb, ltb, lit<, lit≤}
 use lib.ListN.{length, getD}
 use lib.Ieee as Ieee
 use lib.Ieee.{Float, nan}
-use Rattle.loops.specs.Test.{differs}
-use Rattle.loops.specs.For.{times, stays-times}
+use Rattle.loops.proofs.Test.{differs}
+use Rattle.loops.specs.For.{times}
+use Rattle.loops.proofs.For.{stays-times}
 use Rattle.numbers.specs.Float.{_⊖_, zeroF}
 use Rattle.numbers.specs.Sign.{signumOf, refused}
-use Rattle.common.specs.Layout.{workLength}
+use Rattle.common.specs.Layout.{workLength, questionLength}
 use Rattle.common.specs.Limits.{maxStates}
 use Rattle.common.specs.SessionWords.{sessionLength}
 use Rattle.refusals.specs.declared.Options.{Options}
@@ -47,7 +48,7 @@ module _ (l : Lengths) where
   abbrev slices : Bool
   slices =
       not (eqb (l .work) (workLength (l .n))) || (not (eqb (l .pivots) (l .n))
-      || (not (eqb (l .session) sessionLength) || not (eqb (l .question) (14 * l .n + 6))))
+      || (not (eqb (l .session) sessionLength) || not (eqb (l .question) (questionLength (l .n)))))
 
   lists-are : lengthRefusal l (l .n) ≡ alsoOf (alsoOf none lists 2) slices 3
   unfolding lengthRefusal inOrder

@@ -1,6 +1,5 @@
 pub mod Refusal
 pub mod Start
-pub mod Accepted
 pub mod FirstStep
 pub mod Rows
 pub mod Table

@@ -12,7 +12,7 @@ use Rattle.loops.specs.For.{for}
 use Rattle.numbers.specs.Float.{_⊖_, _⊘_, zeroF, oneF}
 use Rattle.numbers.specs.Sign.{absOf, signumOf, refused}
 use Rattle.common.specs.declared.Settings.{Settings}
-use Rattle.common.specs.Layout.{workLength}
+use Rattle.common.specs.Layout.{workLength, questionLength}
 use Rattle.common.specs.Limits.{maxStates}
 use Rattle.common.specs.SessionWords.{sessionLength}
 use Rattle.refusals.specs.declared.Options.{Options}
@@ -33,7 +33,7 @@ lengthRefusal l n = inOrder none (
     ∷ when (not (eqb (l .work) (workLength n))) 3
     ∷ when (not (eqb (l .pivots) n)) 3
     ∷ when (not (eqb (l .session) sessionLength)) 3
-    ∷ when (not (eqb (l .question) (14 * n + 6))) 3
+    ∷ when (not (eqb (l .question) (questionLength n))) 3
     ∷ [])
 
 -- 1: n above the largest number of states, before all that needs n

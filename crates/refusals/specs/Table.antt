@@ -10,7 +10,7 @@ use lib.ListN.{length, getD}
 use lib.Ieee as Ieee
 use lib.Ieee.{Float, nan}
 use Rattle.numbers.specs.Float.{_⊖_, zeroF}
-use Rattle.common.specs.Layout.{workLength}
+use Rattle.common.specs.Layout.{workLength, questionLength}
 use Rattle.common.specs.Limits.{maxStates}
 use Rattle.common.specs.SessionWords.{sessionLength}
 use Rattle.refusals.specs.declared.Options.{Options}
@@ -28,7 +28,8 @@ WrongList l = NotOneOrN (l .rtol) (l .n) ⊎ NotOneOrN (l .atol) (l .n)
 
 abbrev pub WrongSlice : Lengths → Type 0
 WrongSlice l =
-    (l .work ≢ workLength (l .n)) ⊎ (l .pivots ≢ l .n) ⊎ (l .session ≢ sessionLength) ⊎ (l .question ≢ 14 * l .n + 6)
+    (l .work ≢ workLength (l .n)) ⊎ (l .pivots ≢ l .n) ⊎ (l .session ≢ sessionLength)
+    ⊎ (l .question ≢ questionLength (l .n))
 
 abbrev pub LargeSetting : Options → Type 0
 LargeSetting o =

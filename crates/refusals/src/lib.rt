@@ -98,7 +98,7 @@ fn lists(l: Lengths, n: usize) -> Refusal
     let c = also(b, l.work != n * n + common::MATRIX * n, 3);
     let d = also(c, l.pivots != n, 3);
     let e = also(d, l.session != common::SESSION_LENGTH, 3);
-    also(e, l.question != 14 * n + 6, 3)
+    also(e, l.question != common::QUESTION * n + common::HEADER, 3)
 }
 
 // 1, 2, 3.

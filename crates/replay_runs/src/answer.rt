@@ -1,6 +1,7 @@
 // A stored answer beside the one that a call gave. How it is read follows from the stored number alone.
 ghost use Prim.Native.Nat.{_+_, _*_, _≤_};
 ghost use lib.ListN.{length};
+ghost use Rattle.common.specs.Layout.{questionLength};
 ghost use Rattle.common.specs.Limits.{maxStates};
 use crate::words;
 use raimsklo::Reply;
@@ -17,9 +18,9 @@ pub fn is_asked(stored: &[u64], at: usize) -> bool {
 // How many numbers a report has: y, and the snapshot behind it.
 fn reported(order: usize, n: usize) -> usize
     requires { ⌜ (order ≤ 12) × (n ≤ maxStates) ⌝ }
-    ensures { λ r. ⌜ (n ≤ r) × (r ≤ 14 * n + 6) ⌝ }
+    ensures { λ r. ⌜ (n ≤ r) × (r ≤ questionLength n) ⌝ }
 {
-    n + 6 + (order + 1) * n
+    n + common::HEADER + (order + 1) * n
 }
 
 // How many words the stored answer has.
@@ -109,7 +110,7 @@ fn is_end(stored: &[u64], at: usize, r: Reply) -> bool
 
 // Whether the call answered what is stored.
 pub fn is_stored(stored: &[u64], at: usize, n: usize, r: Reply, question: &[f64]) -> bool
-    requires { ⌜ (at ≤ 1010000) × (n ≤ maxStates) × (14 * n + 6 ≤ length (now question)) ⌝ }
+    requires { ⌜ (at ≤ 1010000) × (n ≤ maxStates) × (questionLength n ≤ length (now question)) ⌝ }
 {
     if !words::is_count(stored, at, r.number) {
         return false;

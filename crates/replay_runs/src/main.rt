@@ -4,6 +4,7 @@ ghost use Prim.Native.Nat.{_+_, _*_, _≤_, _<_};
 ghost use mathlib.Core.Bool.{false};
 ghost use mathlib.Core.Path.{_≡_};
 ghost use lib.ListN.{length};
+ghost use Rattle.common.specs.Layout.{questionLength};
 ghost use Rattle.common.specs.Limits.{maxStates};
 
 mod answer;
@@ -12,6 +13,9 @@ mod words;
 
 use raimsklo::Reply;
 use refusals::Options;
+
+// The question of the most states.
+const QUESTION_LENGTH: usize = common::QUESTION * common::MAX_STATES + common::HEADER;
 
 // Where the next word stands, whether the run under way goes on there, and what was found so far.
 struct Found {
@@ -86,7 +90,7 @@ fn start(
 
 // Our answer beside the stored one.
 fn compared(stored: &[u64], n: usize, r: Reply, question: &[f64], f: Found) -> Found
-    requires { ⌜ (n ≤ maxStates) × (14 * n + 6 ≤ length (now question)) ⌝ }
+    requires { ⌜ (n ≤ maxStates) × (questionLength n ≤ length (now question)) ⌝ }
     requires { ⌜ (f .at ≤ 1010000) × (f .answers ≤ f .at) × (f .differ ≤ f .at) ⌝ }
     ensures { λ g. ⌜ (g .at ≤ f .at + 1000) × (g .answers ≤ g .at) × (g .differ ≤ g .at) × (g .runs ≡ f .runs) ⌝ }
 {
@@ -172,7 +176,7 @@ fn turn(
     session: &mut [u8],
     question: &mut [f64],
 ) -> Found
-    requires { ⌜ (n ≤ maxStates) × (squared ≤ 4096) × (14 * n + 6 ≤ length (now question)) ⌝ }
+    requires { ⌜ (n ≤ maxStates) × (squared ≤ 4096) × (questionLength n ≤ length (now question)) ⌝ }
     requires { ⌜ (f .at ≤ 1000000) × (f .answers ≤ f .at) × (f .differ ≤ f .at) ⌝ }
     ensures { λ g. ⌜ (g .at ≤ 1020000) × (g .answers ≤ g .at) × (g .differ ≤ g .at) × (g .runs ≡ f .runs) ⌝ }
 {
@@ -193,7 +197,8 @@ fn replay(
 ) -> Found
     requires { ⌜ (head .at ≤ 1000000) × (head .n ≤ maxStates) × (head .nrtol ≤ maxStates)
         × (head .natol ≤ maxStates) ⌝ }
-    requires { ⌜ (squared ≤ 4096) × (14 * head .n + 6 ≤ length (now question)) × (length (now stored) ≤ 1000000) ⌝ }
+    requires { ⌜ (squared ≤ 4096) × (questionLength (head .n) ≤ length (now question))
+        × (length (now stored) ≤ 1000000) ⌝ }
     requires { ⌜ (found .at ≤ 1010000) × (found .answers ≤ found .at) × (found .differ ≤ found .at) ⌝ }
     ensures { λ g. ⌜ (g .at ≤ 1020000) × (g .answers ≤ g .at) × (g .differ ≤ g .at) × (g .runs ≡ found .runs) ⌝ }
 {
@@ -237,11 +242,11 @@ fn run(stored: &[u64], f: Found) -> Found
     found.runs = f.runs + 1;
     let squared = square(n);
     let works = squared + common::MATRIX * n;
-    let asked = 14 * n + 6;
+    let asked = common::QUESTION * n + common::HEADER;
     let mut work = [0.0; 5312];
     let mut pivots = [0usize; common::MAX_STATES];
     let mut session = [0u8; common::SESSION_LENGTH];
-    let mut question = [0.0; 902];
+    let mut question = [0.0; QUESTION_LENGTH];
     replay(
         stored,
         head,

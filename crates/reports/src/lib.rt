@@ -6,7 +6,7 @@ ghost use lib.ListN.{length};
 ghost use Rattle.vectors.specs.Tolerance.{List1OrN};
 ghost use Rattle.common.specs.Layout.{matrixAt};
 ghost use Rattle.common.specs.State.{given, state};
-ghost use Rattle.between_steps.specs.Ranges.{Inside};
+ghost use Rattle.common.specs.Ranges.{Inside};
 ghost use Rattle.between_steps.specs.Start.{firstStepOf};
 ghost use Rattle.questions.specs.Turns.{runState};
 ghost use Rattle.reports.specs.Reports.{sizedOf, firstDerivativeOf, afterFirstReportOf, firstModifiedOf};

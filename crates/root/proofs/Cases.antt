@@ -12,7 +12,7 @@ use lib.Ieee.{Float, nan, inf, fin, binary64, up, down}
 use lib.Ieee.Fits.{up-pos}
 use lib.Ieee.Positive.{positive}
 use borrow.Author.Tests.{lt-ltb, ne-eqb, le-leb, lt-leb}
-use Rattle.loops.specs.Test.{differs}
+use Rattle.loops.proofs.Test.{differs}
 use Rattle.numbers.specs.Float.{lit, zeroF}
 use Rattle.root.specs.Root.{rootBits, rootValue, rootOf}
 use Rattle.root.specs.Largest.{infinityBits}

@@ -16,8 +16,9 @@ use lib.Dec.{T}
 use lib.Ieee.{Float, nan, inf, fin, binary64, ofBits, toBits, fits, mul, le, lt}
 use lib.Ieee.Bits.{is-true, ofBits-toBits}
 use lib.Ieee.Positive.{positive}
-use Rattle.loops.specs.Test.{differs}
-use Rattle.loops.specs.For.{times, stays}
+use Rattle.loops.proofs.Test.{differs}
+use Rattle.loops.specs.For.{times}
+use Rattle.loops.proofs.For.{stays}
 use Rattle.numbers.proofs.Bits.{past-infinity}
 use Rattle.root.specs.Root.{factor, powerOf, keepOf, bitTurn, rootBits, rootValue, rootOf}
 use Rattle.root.specs.Largest.{infinityBits, unsigned, productOf, Largest, LargestFloat}

@@ -13,7 +13,7 @@ use lib.Dec.{T}
 use lib.Pow.{pow-pos}
 use lib.Ieee.{Float, le}
 use lib.Ieee.Positive.{positive}
-use Rattle.loops.specs.Test.{differs}
+use Rattle.loops.proofs.Test.{differs}
 use Rattle.root.specs.Root.{keepOf}
 use Rattle.root.specs.Largest.{infinityBits, productOf}
 use Rattle.root.proofs.Monotone.{fails-beyond}

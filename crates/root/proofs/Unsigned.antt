@@ -18,7 +18,7 @@ use lib.Ieee.Bits.{is-true}
 use lib.Ieee.Order.{round-mono, kept, drop}
 use lib.Ieee.Positive.{positive, num, den, den-pos, le→cross}
 use borrow.Author.Tests.{leb-true, le-leb, ne-eqb}
-use Rattle.loops.specs.Test.{differs}
+use Rattle.loops.proofs.Test.{differs}
 use Rattle.numbers.proofs.Order.{Number, at-most, nan-or, total, lt-not-le}
 use Rattle.root.specs.Largest.{unsigned}
 

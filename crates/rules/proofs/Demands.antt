@@ -12,7 +12,7 @@ use Rattle.common.specs.declared.Settings.{Settings}
 use Rattle.common.specs.declared.Common.{Common}
 use Rattle.common.specs.Limits.{mxncfOf}
 use Rattle.common.specs.State.{Given}
-use Rattle.between_steps.specs.Ranges.{Accepted, Counts}
+use Rattle.common.specs.Ranges.{Accepted, Counts}
 use Rattle.rules.specs.Play.{Play, ret, ask, tell, say}
 use Rattle.rules.specs.Rules.{start}
 use Rattle.rules.specs.Steps.{Step}

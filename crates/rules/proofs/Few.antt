@@ -18,14 +18,13 @@ use Rattle.attempt.specs.declared.Next.{Next}
 use Rattle.attempt.specs.declared.Next.the-variants as Next
 use Rattle.between_steps.specs.declared.Answer.{Answer}
 use Rattle.between_steps.specs.declared.Answer.the-variants.{Continue, Interrupt, Modified}
-use Rattle.between_steps.specs.Ranges.{Accepted}
+use Rattle.common.specs.Ranges.{Accepted}
 use Rattle.rules.specs.Play.{Play}
 use Rattle.rules.specs.Pass.{Outcome, converged, toRetry, unconverged, furtherAllowed, turns, iterations}
 use Rattle.rules.specs.Pass.{factoredIn, afterMatrix, askColumns, askMatrix, passAt, pass}
 use Rattle.rules.specs.Rules.{Ended, endedAccepted, endedSmall, endedPoor, follow, attempted, tested, decide}
 use Rattle.rules.specs.Rules.{attempts, afterReport, closed, afterAcceptance, stepped, passesAllowed, step}
-use Rattle.rules.specs.Rules.{solveAt}
-use Rattle.rules.specs.Rules.{solve, Start, firstAnswered, sized, weighted, started, start}
+use Rattle.rules.specs.Rules.{solveAt, solve, Start, firstAnswered, sized, weighted, started, start}
 use Rattle.rules.specs.Demands.{repliesOf}
 use Rattle.rules.proofs.Paths.{EndsIn}
 

@@ -23,7 +23,7 @@ use Rattle.acceptance.specs.Accept.{acceptOf}
 use Rattle.acceptance.proofs.Laws.{accept-keeps}
 use Rattle.between_steps.specs.declared.Answer.{Answer}
 use Rattle.between_steps.specs.declared.Answer.the-variants.{Continue, Interrupt, Modified}
-use Rattle.between_steps.specs.Ranges.{Accepted}
+use Rattle.common.specs.Ranges.{Accepted}
 use Rattle.rules.specs.Play.{Question, Play, Ending, accepted, gap, tooSmall, poor}
 use Rattle.rules.specs.Pass.{asked}
 use Rattle.rules.specs.Rules.{reportedState, taken, timed, modified, restarted, afterReport, closed, closing}

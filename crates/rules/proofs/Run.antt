@@ -23,7 +23,7 @@ use Rattle.common.specs.State.{Given, State, put-c, put-w}
 use Rattle.history.specs.Steps.{adjustOf, predictedOf}
 use Rattle.between_steps.specs.declared.Answer.{Answer}
 use Rattle.between_steps.specs.declared.Answer.the-variants.{Continue, Interrupt, Modified}
-use Rattle.between_steps.specs.Ranges.{Accepted}
+use Rattle.common.specs.Ranges.{Accepted}
 use Rattle.between_steps.specs.Begin.{cutOf, setupOf, preparedAt, preparedOf, predictedAt}
 use Rattle.common.specs.Initial.{initialOf}
 use Rattle.rules.specs.Play.{Play}

@@ -10,7 +10,7 @@ use borrow.Author.Tests.{ltb-true, ltb-false, eqb-true, eqb-false, le-leb, lt-le
 use lib.Dec.{eqb, leb, ltb}
 use lib.Ieee as Ieee
 use lib.Ieee.{Float}
-use Rattle.loops.specs.Test.{chosen, differs}
+use Rattle.loops.proofs.Test.{chosen, differs}
 use Rattle.numbers.specs.Float.{_⊕_, _⊗_, oneF, uround, d0·25, d1·1, d2, d100}
 use Rattle.numbers.specs.Order.{maxOf}
 use Rattle.common.specs.declared.MethodFamily.{MethodFamily}

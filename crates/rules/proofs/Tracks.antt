@@ -17,7 +17,7 @@ use Rattle.common.specs.declared.Common.{Common}
 use Rattle.common.specs.Rules.{icount20}
 use Rattle.common.specs.State.{Given, State}
 use Rattle.jacobian.proofs.Laws.{SameStep}
-use Rattle.between_steps.specs.Ranges.{Accepted}
+use Rattle.common.specs.Ranges.{Accepted}
 use Rattle.rules.specs.Play.{Limits, Play}
 use Rattle.rules.specs.Rules.{limitsOf}
 use Rattle.rules.specs.Steps.{Tally, Step, isEnded, isEndedKeeping, number}

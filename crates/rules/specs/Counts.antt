@@ -7,7 +7,7 @@ use Rattle.common.specs.declared.Common.{Common}
 use Rattle.common.specs.declared.MethodFamily.the-variants.{Bdf}
 use Rattle.common.specs.Rules.{icount20}
 use Rattle.common.specs.State.{Given}
-use Rattle.between_steps.specs.Ranges.{Counts}
+use Rattle.common.specs.Ranges.{Counts}
 use Rattle.rules.specs.Play.{Play, ret, ask, tell, say}
 use Rattle.rules.specs.Rules.{limitsOf}
 use Rattle.rules.specs.Steps.{Step}

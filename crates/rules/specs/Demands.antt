@@ -10,9 +10,8 @@ use Rattle.common.specs.declared.Settings.{Settings}
 use Rattle.common.specs.Limits.{mxncfOf}
 use Rattle.common.specs.State.{Given, State}
 use Rattle.between_steps.specs.declared.Answer.{Answer}
-use Rattle.between_steps.specs.Ranges.{Accepted}
-use Rattle.rules.specs.Play.{End, finished, stepRefused, weightRefused, exhausted}
-use Rattle.rules.specs.Play.{Play, ret, ask, tell, say}
+use Rattle.common.specs.Ranges.{Accepted}
+use Rattle.rules.specs.Play.{End, finished, stepRefused, weightRefused, exhausted, Play, ret, ask, tell, say}
 use Rattle.rules.specs.Rules.{Start, start}
 use Rattle.rules.specs.Steps.{Step, noted, marked, isEnded, isEndedKeeping, number}
 use Rattle.rules.specs.Caps.{Capped, Every}

@@ -20,9 +20,8 @@ use Rattle.corrector.specs.declared.Pass.the-variants.{Converged, Retry, NoConv
 use Rattle.corrector.specs.Iterate.{openOf, correctOf}
 use Rattle.between_steps.specs.Start.{withDerivative}
 use Rattle.between_steps.specs.Pass.{verdictOf, isSupplied}
-use Rattle.rules.specs.Play.{Question, derivativeAt, jacobianAt}
-use Rattle.rules.specs.Play.{Source, byDifferences, supplied, opens, jacobian, retries}
-use Rattle.rules.specs.Play.{exhausted, Play, ret, ask, say}
+use Rattle.rules.specs.Play.{Question, derivativeAt, jacobianAt, Source, byDifferences, supplied, opens, jacobian}
+use Rattle.rules.specs.Play.{retries, exhausted, Play, ret, ask, say}
 
 -- ---- states
 

@@ -18,7 +18,7 @@ use Rattle.common.specs.declared.Settings.{Settings}
 use Rattle.common.specs.declared.Common.{Common}
 use Rattle.common.specs.Record.{isBdf, with-rmax}
 use Rattle.common.specs.Limits.{mxncfOf}
-use Rattle.common.specs.State.{Given, State}
+use Rattle.common.specs.State.{Given, State, Moved}
 use Rattle.history.specs.Columns.{retractColumnsOf}
 use Rattle.history.specs.Steps.{limitedOf}
 use Rattle.corrector.specs.declared.Pass.the-variants as Pass
@@ -26,7 +26,6 @@ use Rattle.corrector.specs.declared.Verdict.{Verdict}
 use Rattle.corrector.specs.declared.Correction.{Correction}
 use Rattle.corrector.specs.Verdict.{judgeOf}
 use Rattle.attempt.specs.declared.Next.the-variants.{Pass, Restep, TooSmall, Poor}
-use Rattle.common.specs.State.{Moved}
 use Rattle.attempt.specs.Attempt.{Attempt, noConvergenceOf, failedOf, restepOf}
 use Rattle.acceptance.specs.declared.Branch.the-variants.{CoefficientGap}
 use Rattle.acceptance.specs.Order.{Settled}

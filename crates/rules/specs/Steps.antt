@@ -5,9 +5,8 @@ use mathlib.Core.List.{List, [], _∷_}
 use mathlib.Core.Option.{Option, none, some}
 use Prim.Native.Nat.{ℕ, suc, _+_}
 use Rattle.common.specs.declared.MethodFamily.{MethodFamily}
-use Rattle.rules.specs.Play.{Question, derivativeAt, jacobianAt, Limits, Source, byDifferences, supplied}
-use Rattle.rules.specs.Play.{Ending, accepted, gap, tooSmall, poor}
-use Rattle.rules.specs.Play.{Event, begins, opens, jacobian, retries, ends}
+use Rattle.rules.specs.Play.{Question, derivativeAt, jacobianAt, Limits, Source, byDifferences, supplied, Ending}
+use Rattle.rules.specs.Play.{accepted, gap, tooSmall, poor, Event, begins, opens, jacobian, retries, ends}
 
 -- what a step has requested and begun; `paid` is what its difference Jacobians may cost
 pub record Tally : Type 0 where

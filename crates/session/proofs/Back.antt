@@ -23,9 +23,10 @@ use Rattle.questions.specs.declared.Phase.the-variants as Phase
 use Rattle.questions.specs.declared.Session.{Session}
 use Rattle.words.specs.Words.{word, float, floatsIn, slotOf, putCountsOf, putFloatsOf}
 use Rattle.session.specs.States.{phaseNumber}
-use Rattle.session.specs.Fields.{sessionOf, countsOf, floatsOf, Fit, Fits}
+use Rattle.session.specs.Fields.{sessionOf, countsOf, floatsOf}
 use Rattle.session.specs.Session.{encodeOf, decodeOf, putTolerancesOf, rtolSlots, atolSlots, storedCounts}
-use Rattle.session.specs.Session.{storedFloats, storedN, finishedIn, ListFits}
+use Rattle.session.specs.Session.{storedFloats, storedN, finishedIn}
+use Rattle.session.proofs.Fits.{Fit, Fits, ListFits}
 use Rattle.common.specs.Limits.{maxStates}
 use Rattle.common.specs.SessionWords.{countWords, floatWords, rtolAt, atolAt, sessionLength}
 use Rattle.words.proofs.Rows.{same-default, length-put-counts, length-put-floats, length-counts, counts-at}

@@ -10,7 +10,8 @@ use mathlib.Core.Logic.{⊎-elim}
 use Prim.Native.Nat.{ℕ, zero, suc, _+_, _-_, _≤_, _<_}
 use native.Mathlib.Omega.{arith}
 use native.Mathlib.Nat.{add-assoc, eq-or-lt-of-le}
-use Rattle.loops.specs.For.{for, times, turn, done, onward, ended, stays, keeps}
+use Rattle.loops.specs.For.{for, times}
+use Rattle.loops.proofs.For.{turn, done, onward, ended, stays, keeps}
 use Rattle.session.specs.Session.{every, andAt}
 
 none : (i k : ℕ) → i ≤ k → k < i + 0 → ⊥

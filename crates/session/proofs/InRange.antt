@@ -12,7 +12,7 @@ use lib.ListN.{length}
 use lib.Ieee as Ieee
 use lib.Ieee.{Float}
 use borrow.Author.Tests.{ltb-true, not-true}
-use Rattle.loops.specs.Test.{both}
+use Rattle.loops.proofs.Test.{both}
 use Rattle.numbers.specs.Float.{zeroF}
 use Rattle.common.specs.Limits.{maxStates}
 use Rattle.common.specs.SessionWords.{countWords, rtolAt, atolAt}

@@ -1,4 +1,5 @@
 pub mod StateNumbers
+pub mod Fits
 pub mod Every
 pub mod Within
 pub mod Listed

@@ -1,6 +1,6 @@
 -- The laws that name every field of a session.
 --     counts-small, floats-fit       what the bytes can keep, of the lists of words
---     counts-fit                     the ranges keep every count below 2^64, but for ialth, which has no upper end
+--     counts-fit                     the ranges keep every count below 2^64
 --     record-back                    the record from its own words
 --     words-listed                   the counts in the bytes, one by one
 --     word-ranges, words-between     what passes word by word, by the fields' names, and back
@@ -23,10 +23,9 @@ use Rattle.numbers.specs.Float.{zeroF}
 use Rattle.common.specs.Limits.{maxStates}
 use Rattle.common.specs.SessionWords.{countWords}
 use Rattle.questions.specs.declared.Session.{Session}
-use Rattle.between_steps.specs.Ranges.{Accepted, Counts, Ranges}
+use Rattle.common.specs.Ranges.{Accepted, Counts, shapeOf, stepNumbersOf, Orders, EndedCounters, Ranges}
 use Rattle.words.specs.Words.{countsOver}
 use Rattle.session.specs.Fields.{countsOf, floatsOf, settingsOf, commonOf, sessionOf, lowest, highest}
-use Rattle.session.specs.Fields.{CountsFit, FloatsFit, Fit, Fits}
 use Rattle.session.specs.Names.{phaseWord, nWord, maxstepsWord, mxordnWord, mxordsWord, maxcorWord, msbpWord}
 use Rattle.session.specs.Names.{mxncfWord, suppliedWord, givenWord, nrtolWord, natolWord, methWord, nqWord}
 use Rattle.session.specs.Names.{lmaxWord, nqnyhWord, ialthWord, icountWord, tableWord, nslpWord, nstWord}
@@ -34,6 +33,7 @@ use Rattle.session.specs.Names.{nfeWord, njeWord, nluWord, rejectedWord,
 use Rattle.session.specs.Names.{ncfWord, mWord, columnWord, dueWord, jcurWord, setupWord}
 use Rattle.session.specs.WordRanges.{WordRanges}
 use Rattle.session.specs.Session.{storedCounts, every, wordInRange, OneOrN}
+use Rattle.session.proofs.Fits.{CountsFit, FloatsFit, Fit}
 use Rattle.session.proofs.StateNumbers.{flag-from, family-from, phase-from}
 use Rattle.session.proofs.StateNumbers.{flag-small, family-small, phase-small}
 use Rattle.session.proofs.StateNumbers.{flag-back, family-back, phase-back}
@@ -74,13 +74,11 @@ floats-fit x f i =
     f .rmax ▸ f .pdest ▸ f .pdlast ▸ f .pdnorm ▸ f .convrate ▸ f .pnorm ▸ f .rate ▸ f .delp ▸ none)
     i
 
-pub counts-fit : (x : Session) → Ranges (x .settings) (x .common)
-    → OneOrN (x .settings .n) (x .settings .nrtol) → OneOrN (x .settings .n) (x .settings .natol)
-    → x .common .ialth < 2 ^ 64 → CountsFit x
-counts-fit x r rtol atol ialth =
-    let s = r .settings in
-    let k = r .counts in
-    let o = r .orders in
+-- whether the run is over or not
+pub counts-fit : (x : Session) → Accepted (x .settings) → Counts (x .common) (2 ^ 62 - 1)
+    → Orders (x .settings) (shapeOf (x .common)) → EndedCounters (x .settings) (2 ^ 64 - 1) (stepNumbersOf (x .common))
+    → OneOrN (x .settings .n) (x .settings .nrtol) → OneOrN (x .settings .n) (x .settings .natol) → CountsFit x
+counts-fit x s k o t rtol atol =
     record {
       n = omega arith;
       maxsteps = omega arith;
@@ -94,7 +92,7 @@ counts-fit x r rtol atol ialth =
       nq = omega arith;
       lmax = omega arith;
       nqnyh = omega arith;
-      ialth = ialth;
+      ialth = omega arith;
       icount = omega arith;
       table = omega arith;
       nslp = omega arith;
@@ -249,12 +247,13 @@ record-between x f r =
     let s = r .settings in
     let k = r .counts in
     let o = r .orders in
+    let t = r .counters in
       phase-from (x .phase) ▹ (s .n .0, s .n .1) ▹ (s .maxsteps .0, s .maxsteps .1) ▹ (s .mxordn .0, s .mxordn .1)
       ▹ (s .mxords .0, s .mxords .1) ▹ (s .maxcor .0, s .maxcor .1) ▹ upto (s .msbp) ▹ upto (s .mxncf)
       ▹ flag-from (x .settings .supplied) ▹ flag-from (x .settings .given) ▹ upto (upto-64 (f .nrtol))
       ▹ upto (upto-64 (f .natol)) ▹ family-from (x .common .meth) ▹ (o .nq .0, o .nq .1) ▹ (o .lmax .0, o .lmax .1)
-      ▹ upto (upto-64 (f .nqnyh)) ▹ (o .ialth, upto-64 (f .ialth)) ▹ (o .icount .0, o .icount .1) ▹ upto (o .table)
-      ▹ upto (k .nslp) ▹ upto (k .nst) ▹ upto (k .nfe) ▹ upto (k .nje) ▹ upto (k .nlu) ▹ upto (k .rejected)
-      ▹ upto (k .total) ▹ upto (k .count) ▹ upto (o .kflag) ▹ upto (upto-64 (f .ncf)) ▹ upto (upto-64 (f .m))
-      ▹ upto (upto-64 (f .column)) ▹ flag-from (x .common .due) ▹ flag-from (x .common .jcur)
-      ▹ flag-from (x .common .setup) ▹ between-none
+      ▹ upto (upto-64 (f .nqnyh)) ▹ (t .ialth .0, upto-64 (f .ialth)) ▹ (t .icount .0, t .icount .1)
+      ▹ upto (o .table) ▹ upto (k .nslp) ▹ upto (k .nst) ▹ upto (k .nfe) ▹ upto (k .nje) ▹ upto (k .nlu)
+      ▹ upto (k .rejected) ▹ upto (k .total) ▹ upto (k .count) ▹ upto (t .kflag) ▹ upto (upto-64 (f .ncf))
+      ▹ upto (upto-64 (f .m)) ▹ upto (upto-64 (f .column)) ▹ flag-from (x .common .due)
+      ▹ flag-from (x .common .jcur) ▹ flag-from (x .common .setup) ▹ between-none

@@ -12,15 +12,16 @@ use lib.ListN.{length, getD}
 use lib.Ieee as Ieee
 use lib.Ieee.{Float, nan, binary64, ofBits}
 use borrow.Author.Tests.{lt-ltb}
-use Rattle.loops.specs.Test.{both}
+use Rattle.loops.proofs.Test.{both}
 use Rattle.numbers.specs.Float.{zeroF}
 use Rattle.common.specs.declared.Settings.{Settings}
 use Rattle.questions.specs.declared.Phase.the-variants as Phase
 use Rattle.questions.specs.declared.Session.{Session}
-use Rattle.between_steps.specs.Ranges.{Ranges}
+use Rattle.common.specs.Ranges.{Ranges}
 use Rattle.words.specs.Words.{word, float, slotOf}
-use Rattle.session.specs.Fields.{countsOf, Fits}
-use Rattle.session.specs.Session.{encodeOf, decodeOf, putTolerancesOf, ListFits, storedCounts, wordInRange}
+use Rattle.session.specs.Fields.{countsOf}
+use Rattle.session.specs.Session.{encodeOf, decodeOf, putTolerancesOf, storedCounts, wordInRange}
+use Rattle.session.proofs.Fits.{Fits, ListFits}
 use Rattle.session.specs.Session.{OneOrN, fieldsInRange, notNegativeAt, notNegative, tolerancesInRange}
 use Rattle.session.specs.Session.{pivotBelow, pivotsBelow, inRangeOf}
 use Rattle.common.specs.Limits.{maxStates}
@@ -39,6 +40,7 @@ module _ (x : Session) (fits : Fits x) (r : Ranges (x .settings) (x .common)) wh
       → fieldsInRange (countsOf x) (x .settings) (x .common) ≡ true
   fields-in-range rtol atol =
       let o = r .orders in
+      let k = r .counters in
       relates (countsOf x) (x .settings) (x .common)
       (every-all (wordInRange (countsOf x)) countWords (λ i h. between (record-between x (fits .counts) r) i h))
       (record {
@@ -48,9 +50,9 @@ module _ (x : Session) (fits : Fits x) (r : Ranges (x .settings) (x .common)) wh
         whole = o .nqnyh .0;
         least = o .nqnyh .1;
         most = o .nqnyh .2;
-        ncf = o .ncf;
-        m = o .m;
-        column = o .column;
+        ncf = k .ncf;
+        m = k .m;
+        column = k .column;
       })
 
 -- the test on a record, of its parts

@@ -19,7 +19,7 @@ use Rattle.common.specs.Layout.{workLength}
 use Rattle.common.specs.Limits.{maxStates}
 use Rattle.common.specs.SessionWords.{countWords, rtolAt, atolAt}
 use Rattle.vectors.specs.Tolerance.{List1OrN}
-use Rattle.between_steps.specs.Ranges.{Ranges}
+use Rattle.common.specs.Ranges.{Ranges}
 use Rattle.questions.specs.Requires.{Resumes}
 use Rattle.words.specs.Words.{floatsIn}
 use Rattle.session.specs.Fields.{countsOf, settingsOf, commonOf}
@@ -66,7 +66,9 @@ in-ranges b pivots f r =
         lmax = (w .lmax .0, w .lmax .1, r .l);
         nqnyh = r .nqnyh;
         table = w .table;
-        ialth = w .ialth .0;
+      };
+      counters = record {
+        ialth = (w .ialth .0, omega (arith, w .ialth));
         icount = w .icount;
         kflag = w .kflag;
         ncf = r .ncf;

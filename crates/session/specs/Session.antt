@@ -9,7 +9,7 @@ use Prim.Native.Nat.{ℕ, _+_, _*_, _%_, _<_}
 use lib.Dec.{eqb, ltb, leb}
 use lib.ListN.{length, getD}
 use lib.Ieee as Ieee
-use lib.Ieee.{Float, nan}
+use lib.Ieee.{Float}
 use Rattle.loops.specs.For.{for}
 use Rattle.loops.specs.Part.{part}
 use Rattle.numbers.specs.Float.{zeroF}
@@ -18,7 +18,7 @@ use Rattle.common.specs.declared.Common.{Common}
 use Rattle.common.specs.Limits.{mxncfOf, maxStates}
 use Rattle.questions.specs.declared.Session.{Session}
 use Rattle.words.specs.Words.{float, countsIn, putCountsOf, floatsIn, putFloatsOf, floatsOver}
-use Rattle.session.specs.Fields.{sessionOf, countsOf, floatsOf, lowest, highest, Fit}
+use Rattle.session.specs.Fields.{sessionOf, countsOf, floatsOf, lowest, highest}
 use Rattle.common.specs.SessionWords.{countWords, floatWords, rtolAt, atolAt}
 use Rattle.session.specs.Names.{phaseWord, nWord}
 
@@ -64,10 +64,6 @@ rtolOf bytes = part 0 (decodeOf bytes .settings .nrtol) (rtolSlots bytes)
 
 abbrev pub atolOf : List ℕ → List Float
 atolOf bytes = part 0 (decodeOf bytes .settings .natol) (atolSlots bytes)
-
--- every entry of a list is a float of the format
-abbrev pub ListFits : List Float → Type 0
-ListFits list = (i : ℕ) → i < length list → Fit (getD list i nan)
 
 -- ---- the ranges of 13
 

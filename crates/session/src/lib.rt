@@ -7,9 +7,8 @@ ghost use Prim.Native.Nat.{_≤_};
 ghost use lib.ListN.{length};
 ghost use Rattle.common.specs.Limits.{maxStates};
 ghost use Rattle.common.specs.SessionWords.{sessionLength};
-ghost use Rattle.session.specs.Session.{encodeCountsOf, encodeFloatsOf, storedCounts, decodeOf};
-ghost use Rattle.session.specs.Session.{putTolerancesOf, rtolFirst, atolFirst};
-ghost use Rattle.session.specs.Session.{storedN, finishedIn, inRangeOf};
+ghost use Rattle.session.specs.Session.{encodeCountsOf, encodeFloatsOf, storedCounts, decodeOf, putTolerancesOf};
+ghost use Rattle.session.specs.Session.{rtolFirst, atolFirst, storedN, finishedIn, inRangeOf};
 
 mod fields;
 mod ranges;

@@ -16,7 +16,7 @@ use lib.Ieee.{Float, nan, inf, fin, binary64, up, down, top, ofBits, toBits}
 use lib.Ieee.Fits.{up-pos}
 use lib.Ieee.Bits.{ofBits-toBits, toBits-lt}
 use borrow.Author.Tests.{ne-eqb, lt-ltb}
-use Rattle.loops.specs.Test.{differs}
+use Rattle.loops.proofs.Test.{differs}
 use Rattle.numbers.specs.Float.{zeroF}
 use Rattle.numbers.proofs.Bits.{past-infinity}
 use Rattle.sqrt.specs.Sqrt.{sqrtBits, sqrtOf}

@@ -12,7 +12,8 @@ use native.Mathlib.Numerals.{add-one}
 use native.Mathlib.Omega.{arith}
 use lib.Dec.{leb}
 use borrow.Author.Tests.{leb-true, leb-false}
-use Rattle.loops.specs.For.{for, reaches}
+use Rattle.loops.specs.For.{for}
+use Rattle.loops.proofs.For.{reaches}
 use Rattle.sqrt.specs.declared.Digits.{Digits}
 use Rattle.sqrt.specs.Sqrt.{hidden, digitOf, digitTurn, digitsOf}
 

@@ -16,8 +16,9 @@ use lib.ListN.{length, getD}
 use lib.Ieee as Ieee
 use lib.Ieee.{Float, nan}
 use lib.Ieee.Compare.{differs-from-itself, nan-differs}
-use Rattle.loops.specs.Test.{differs}
-use Rattle.loops.specs.For.{for, reaches}
+use Rattle.loops.proofs.Test.{differs}
+use Rattle.loops.specs.For.{for}
+use Rattle.loops.proofs.For.{reaches}
 use Rattle.numbers.specs.Float.{_⊗_, zeroF, uround}
 use Rattle.numbers.specs.Sign.{absOf}
 use Rattle.numbers.specs.Order.{maxOf}

@@ -17,10 +17,12 @@ use lib.ListN.{length, getD, set, length-set}
 use lib.Seq.{getD-set-same, getD-set-other}
 use lib.Ieee as Ieee
 use lib.Ieee.{Float, nan}
-use Rattle.loops.specs.Test.{differs}
-use Rattle.loops.specs.For.{for, reaches}
-use Rattle.loops.specs.Stores.{length-stores, stores}
-use Rattle.loops.specs.Part.{part, length-part, getD-part}
+use Rattle.loops.proofs.Test.{differs}
+use Rattle.loops.specs.For.{for}
+use Rattle.loops.proofs.For.{reaches}
+use Rattle.loops.proofs.Stores.{length-stores, stores}
+use Rattle.loops.specs.Part.{part}
+use Rattle.loops.proofs.Part.{length-part, getD-part}
 use Rattle.numbers.specs.Float.{_⊕_, _⊗_, _⊘_, zeroF, oneF, uround}
 use Rattle.numbers.specs.Sign.{absOf}
 use Rattle.numbers.specs.Order.{maxOf}

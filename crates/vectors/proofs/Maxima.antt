@@ -15,8 +15,9 @@ use lib.Ieee as Ieee
 use lib.Ieee.{Float, nan, binary64}
 use lib.Ieee.Compare.{nan-differs}
 use lib.Ieee.Fits.{mul-fits}
-use Rattle.loops.specs.Test.{differs}
-use Rattle.loops.specs.For.{for, again-four}
+use Rattle.loops.proofs.Test.{differs}
+use Rattle.loops.specs.For.{for}
+use Rattle.loops.proofs.For.{again-four}
 use Rattle.numbers.specs.Float.{zeroF}
 use Rattle.numbers.specs.Order.{maxOf}
 use Rattle.vectors.specs.declared.Four.{Four}

@@ -15,7 +15,8 @@ use lib.ListN.{length, getD, set, replicate, length-set, length-replicate}
 use lib.Seq.{getD-set-same, getD-set-other, getD-take, ext-getD}
 use lib.Ieee.{Float, binary64, toBits, ofBits}
 use Rattle.loops.specs.For.{times}
-use Rattle.loops.specs.Part.{part, length-part}
+use Rattle.loops.specs.Part.{part}
+use Rattle.loops.proofs.Part.{length-part}
 use Rattle.numbers.specs.Float.{zeroF}
 use Rattle.words.specs.Words.{putWord, word, float, countsOver, countsIn, putCountsOf, floatsOver, floatsIn}
 use Rattle.words.specs.Words.{slotOf, putFloatsOf}

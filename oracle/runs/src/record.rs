@@ -11,7 +11,6 @@ use crate::report::{Report, Tally};
 use crate::sides::{Answer, pattern};
 use crate::theirs;
 use std::collections::BTreeSet;
-use std::fmt::Write;
 use std::path::PathBuf;
 
 const SEED: u64 = 3;
@@ -19,6 +18,8 @@ const RUNS: usize = 30;
 const WORDS: usize = 6000;
 /// Of one run.
 const LONGEST: usize = 1500;
+/// Of a row of words.
+const WIDTH: usize = 120;
 /// How many runs the sample is chosen from.
 const DRAWN: usize = 20_000;
 
@@ -49,19 +50,22 @@ pub fn words() -> Vec<u64> {
 
 pub fn text(words: &[u64]) -> String {
     let mut text = format!("{HEAD}\npub const RUNS: [u64; {}] = [\n", words.len());
-    for row in words.chunks(6) {
-        text.push_str("   ");
-        for word in row {
-            // Counts as they are, patterns in base sixteen.
-            match word {
-                0..10_000 => write!(text, " {word},"),
-                _ => write!(text, " 0x{word:016x},"),
-            }
-            .unwrap();
+    let mut row = String::from("   ");
+    for word in words {
+        // Counts as they are, patterns in base sixteen.
+        let word = match word {
+            0..10_000 => format!(" {word},"),
+            _ => format!(" 0x{word:016x},"),
+        };
+        if row.len() + word.len() > WIDTH {
+            text.push_str(&row);
+            text.push('\n');
+            row.truncate(3);
         }
-        text.push('\n');
+        row.push_str(&word);
     }
-    text.push_str("];\n");
+    text.push_str(&row);
+    text.push_str("\n];\n");
     text
 }
 

@@ -3,6 +3,7 @@ use mathlib.Core.Path.{_≡_}
 use Prim.Native.Nat.{_-_, _*_}
 use native.Mathlib.Omega.{arith}
 use borrow.Author.Needs.{needs}
+use Rattle.common.specs.Layout.{ewtAt, savfAt}
 use Rattle.between_steps.proofs.state_weights.Statement.{statement}
 use Rattle.between_steps.proofs.state_weights.Tie as tie
 
@@ -10,7 +11,7 @@ returns : tie.Need-returns
 returns c =
     let i = c .before .before in
     let n = i .before .before .before .before .before .before .before .args .n in
-    let weights : 14 * n - 13 * n ≡ n = omega arith in
+    let weights : savfAt n - ewtAt n ≡ n = omega arith in
     rw (i .invert-weights .ensures .0, weights, i .before .before .before .before .ewset-scalar-like .ensures)
 
 pub state-weights-spec : {M : Type 1} → statement M

@@ -5,7 +5,7 @@ use mathlib.Core.Path.{_∙_}
 use native.Mathlib.Omega.{arith}
 use borrow.Author.Needs.{needs}
 use lib.ListN.{length-set}
-use Rattle.loops.specs.For.{within}
+use Rattle.loops.proofs.For.{within}
 use Rattle.dense.specs.Solve.{backwardOf, backwardStepOf}
 use Rattle.dense.proofs.backward_step.Statement.{statement}
 use Rattle.dense.proofs.backward_step.Tie as tie

@@ -7,7 +7,8 @@ use lib.ListN.{length}
 use mathlib.Core.Bool.{true}
 use borrow.Author.Needs.{needs}
 use borrow.Author.Tests.{not-true, not-false}
-use Rattle.loops.specs.For.{for, onward, ended, stays}
+use Rattle.loops.specs.For.{for}
+use Rattle.loops.proofs.For.{onward, ended, stays}
 use Rattle.dense.specs.Factor.{Factors, stepOf, factorOf}
 use Rattle.dense.specs.Solve.{outcomeOf}
 use Rattle.dense.proofs.dense_lu_factor.Statement.{statement}

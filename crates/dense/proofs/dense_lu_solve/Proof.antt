@@ -9,7 +9,8 @@ use mathlib.Core.Bool.{Bool, true, false}
 use mathlib.Core.List.{List}
 use borrow.Author.Needs.{needs}
 use borrow.Author.Tests.{not-true, not-false}
-use Rattle.loops.specs.For.{for, onward, ended, stays}
+use Rattle.loops.specs.For.{for}
+use Rattle.loops.proofs.For.{onward, ended, stays}
 use Rattle.dense.specs.Solve.{Solution, forwardAllOf, backwardStepOf, solveOf, outcomeOf}
 use Rattle.dense.proofs.dense_lu_solve.Statement.{statement}
 use Rattle.dense.proofs.dense_lu_solve.Tie as tie

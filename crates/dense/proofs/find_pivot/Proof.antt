@@ -5,7 +5,8 @@ use mathlib.Core.Path.{_≡_}
 use mathlib.Core.Logic.{⊎-elim}
 use native.Mathlib.Omega.{arith}
 use borrow.Author.Needs.{needs}
-use Rattle.loops.specs.For.{for, onward, ended}
+use Rattle.loops.specs.For.{for}
+use Rattle.loops.proofs.For.{onward, ended}
 use Rattle.dense.specs.Factor.{pickRow, pivotOf}
 use Rattle.dense.proofs.find_pivot.Statement.{statement}
 use Rattle.dense.proofs.find_pivot.Tie as tie

@@ -3,7 +3,8 @@ use Prim.Native.Nat.{_-_}
 use mathlib.Core.Path.{_≡_, refl, _∙_}
 use native.Mathlib.Omega.{arith}
 use lib.ListN.{length}
-use Rattle.loops.specs.For.{for, again, ended, within}
+use Rattle.loops.specs.For.{for}
+use Rattle.loops.proofs.For.{again, ended, within}
 use Rattle.dense.specs.Solve.{forwardStepOf, forwardAllOf}
 use Rattle.dense.proofs.forward_all.Statement.{statement}
 use Rattle.dense.proofs.forward_all.Tie as tie

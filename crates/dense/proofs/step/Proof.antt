@@ -2,7 +2,7 @@
 -- Assumes nothing.
 use native.Mathlib.Omega.{arith}
 use borrow.Author.Needs.{needs}
-use Rattle.loops.specs.For.{within}
+use Rattle.loops.proofs.For.{within}
 use Rattle.dense.specs.Factor.{stepOf}
 use Rattle.dense.proofs.step.Statement.{statement}
 use Rattle.dense.proofs.step.Tie as tie

@@ -5,7 +5,8 @@ use mathlib.Core.Path.{_≡_, refl, ap, _∙_}
 use native.Mathlib.Omega.{arith}
 use lib.ListN.{length}
 use borrow.Author.Needs.{needs}
-use Rattle.loops.specs.For.{for, again, ended, within}
+use Rattle.loops.specs.For.{for}
+use Rattle.loops.proofs.For.{again, ended, within}
 use Rattle.numbers.specs.Float.{_⊗_, oneF}
 use Rattle.history.specs.Columns.{scalePartOf, Rescaled, rescaleAt, rescaleColumnsOf}
 use Rattle.history.proofs.Laws.{length-scale-part}

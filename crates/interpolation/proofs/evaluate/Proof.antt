@@ -4,8 +4,9 @@ use Prim.Native.Nat.{_+_, _-_, _*_, _≤_}
 use mathlib.Core.Path.{_≡_, refl, sym}
 use native.Mathlib.Omega.{arith}
 use lib.ListN.{length}
-use Rattle.loops.specs.For.{for, onward, ended, within}
-use Rattle.loops.specs.Part.{length-part}
+use Rattle.loops.specs.For.{for}
+use Rattle.loops.proofs.For.{onward, ended, within}
+use Rattle.loops.proofs.Part.{length-part}
 use Rattle.common.proofs.Laws.{small-product}
 use Rattle.interpolation.specs.Evaluate.{hornerTurn, evaluateOf}
 use Rattle.interpolation.proofs.evaluate.Statement.{statement}

@@ -3,7 +3,8 @@ use Prim.Native.Nat.{_-_}
 use mathlib.Core.Path.{_≡_, refl}
 use native.Mathlib.Omega.{arith}
 use lib.ListN.{length, length-set}
-use Rattle.loops.specs.For.{for, again, ended}
+use Rattle.loops.specs.For.{for}
+use Rattle.loops.proofs.For.{again, ended}
 use Rattle.interpolation.specs.Evaluate.{hornerAt, hornerOf}
 use Rattle.interpolation.proofs.horner.Statement.{statement}
 use Rattle.interpolation.proofs.horner.Tie as tie

@@ -6,7 +6,8 @@ use native.Mathlib.Nat.{mul-le-mul, mul-le-mul-right}
 use native.Mathlib.Omega.{arith}
 use lib.ListN.{length, length-set}
 use borrow.Author.Needs.{needs}
-use Rattle.loops.specs.For.{for, again, ended}
+use Rattle.loops.specs.For.{for}
+use Rattle.loops.proofs.For.{again, ended}
 use Rattle.interpolation.specs.Snapshot.{snapshotAt, snapshotOf}
 use Rattle.interpolation.proofs.snapshot_step.Statement.{statement}
 use Rattle.interpolation.proofs.snapshot_step.Tie as tie

@@ -4,7 +4,8 @@ use Prim.Native.Nat.{_+_, _-_}
 use mathlib.Core.Path.{_≡_, refl, sym, _∙_}
 use native.Mathlib.Omega.{arith}
 use borrow.Author.Needs.{needs}
-use Rattle.loops.specs.For.{for, onward, ended, stays}
+use Rattle.loops.specs.For.{for}
+use Rattle.loops.proofs.For.{onward, ended, stays}
 use Rattle.interpolation.specs.declared.Count.the-variants.{Is, NotWhole}
 use Rattle.interpolation.specs.Header.{wholeCountAt, wholeCountOf}
 use Rattle.interpolation.proofs.whole_count.Statement.{statement}

@@ -4,7 +4,8 @@ use Prim.Native.Nat.{_-_}
 use mathlib.Core.Path.{_≡_, refl}
 use native.Mathlib.Omega.{arith}
 use lib.ListN.{length, length-set}
-use Rattle.loops.specs.For.{for, again, ended, within}
+use Rattle.loops.specs.For.{for}
+use Rattle.loops.proofs.For.{again, ended, within}
 use Rattle.jacobian.specs.Jacobian.{identityAt, identityOf}
 use Rattle.jacobian.proofs.add_identity.Statement.{statement}
 use Rattle.jacobian.proofs.add_identity.Tie as tie

@@ -1,7 +1,7 @@
 -- `store_column` meets its contract: the column with the factor, then one store. Assumes nothing.
 use native.Mathlib.Omega.{arith}
 use borrow.Author.Needs.{needs}
-use Rattle.loops.specs.For.{within}
+use Rattle.loops.proofs.For.{within}
 use Rattle.jacobian.specs.Jacobian.{restoreOf}
 use Rattle.jacobian.proofs.store_column.Statement.{statement}
 use Rattle.jacobian.proofs.store_column.Tie as tie

@@ -9,7 +9,7 @@ use Rattle.between_steps.specs.declared.Kind.{Kind}
 use Rattle.between_steps.proofs.Inside.{inside-ranges}
 use Rattle.questions.specs.declared.Phase.{Phase}
 use Rattle.questions.specs.declared.Phase.the-variants as Phase
-use Rattle.machine.specs.Resume.{unasked, firstAnsweredOf, answeredOf, dealtOf}
+use Rattle.machine.specs.Resume.{unasked, firstAnsweredOf, answeredOf, resumeAt}
 use denote.Ref.{now}
 use Rattle.machine.proofs.Replies.{derivative-length, jacobian-length, answer-length, held, asked-in}
 use Rattle.machine.proofs.Replies.{resume-asked, resume-unasked, first-unasked, report-unasked}
@@ -146,7 +146,7 @@ modified-requires c κs =
     (inside-ranges (r .ranges), (l, omega (arith, r .lent .sized)))
 
 returns-2 : tie.Need-returns-2
-unfolding dealtOf
+unfolding resumeAt
 returns-2 c =
     let e = c .before .before .before .before in
     let i = e .before .before in
@@ -155,7 +155,7 @@ returns-2 c =
     ∙ sym (resume-asked _ _ _ _ _ _ Phase.FirstDerivative (e .enum-told .given .1) yes)
 
 returns-3 : tie.Need-returns-3
-unfolding dealtOf
+unfolding resumeAt
 returns-3 c =
     let e = c .before .before .before .before .before .before .before in
     let i = e .before .before in
@@ -169,7 +169,7 @@ returns-3 c =
     ∙ sym (resume-asked _ _ _ _ _ _ Phase.FirstReport (e .enum-told2 .given .1) yes)
 
 returns-4 : tie.Need-returns-4
-unfolding dealtOf
+unfolding resumeAt
 returns-4 c =
     let e = c .before in
     let i = e .before .before in
@@ -182,7 +182,7 @@ returns-4 c =
     ∙ sym (resume-asked _ _ _ _ _ _ Phase.FirstReport (e .enum-told2 .given .1) yes)
 
 returns-5 : tie.Need-returns-5
-unfolding dealtOf
+unfolding resumeAt
 returns-5 c =
     let e = c .before .before .before .before in
     let i = e .before .before in
@@ -191,7 +191,7 @@ returns-5 c =
     ∙ sym (resume-asked _ _ _ _ _ _ Phase.FirstModified (e .enum-told3 .given .1) yes)
 
 returns-6 : tie.Need-returns-6
-unfolding dealtOf
+unfolding resumeAt
 returns-6 c =
     let e = c .before .before .before .before .before in
     let i = e .before .before in
@@ -200,7 +200,7 @@ returns-6 c =
     ∙ sym (resume-asked _ _ _ _ _ _ Phase.Opened (e .enum-told4 .given .1) yes)
 
 returns-7 : tie.Need-returns-7
-unfolding dealtOf
+unfolding resumeAt
 returns-7 c =
     let e = c .before .before .before .before .before .before .before in
     let i = e .before .before in
@@ -209,7 +209,7 @@ returns-7 c =
     ∙ sym (resume-asked _ _ _ _ _ _ Phase.JacobianAsked (e .enum-told5 .given .1) yes)
 
 returns-8 : tie.Need-returns-8
-unfolding dealtOf
+unfolding resumeAt
 returns-8 c =
     let e = c .before .before .before .before .before .before .before in
     let i = e .before .before in
@@ -218,7 +218,7 @@ returns-8 c =
     ∙ sym (resume-asked _ _ _ _ _ _ Phase.DifferenceColumn (e .enum-told6 .given .1) yes)
 
 returns-9 : tie.Need-returns-9
-unfolding dealtOf
+unfolding resumeAt
 returns-9 c =
     let e = c .before .before .before .before .before in
     let i = e .before .before in
@@ -227,7 +227,7 @@ returns-9 c =
     ∙ sym (resume-asked _ _ _ _ _ _ Phase.FurtherDerivative (e .enum-told7 .given .1) yes)
 
 returns-10 : tie.Need-returns-10
-unfolding dealtOf
+unfolding resumeAt
 returns-10 c =
     let e = c .before .before .before .before in
     let i = e .before .before in
@@ -236,7 +236,7 @@ returns-10 c =
     ∙ sym (resume-asked _ _ _ _ _ _ Phase.Restep (e .enum-told8 .given .1) yes)
 
 returns-11 : tie.Need-returns-11
-unfolding dealtOf
+unfolding resumeAt
 returns-11 c =
     let e = c .before .before .before .before .before .before .before in
     let i = e .before .before in
@@ -250,7 +250,7 @@ returns-11 c =
     ∙ sym (resume-asked _ _ _ _ _ _ Phase.Report (e .enum-told9 .given .1) yes)
 
 returns-12 : tie.Need-returns-12
-unfolding dealtOf
+unfolding resumeAt
 returns-12 c =
     let e = c .before in
     let i = e .before .before in
@@ -263,7 +263,7 @@ returns-12 c =
     ∙ sym (resume-asked _ _ _ _ _ _ Phase.Report (e .enum-told9 .given .1) yes)
 
 returns-13 : tie.Need-returns-13
-unfolding dealtOf
+unfolding resumeAt
 returns-13 c =
     let e = c .before .before .before .before in
     let i = e .before .before in
@@ -272,7 +272,7 @@ returns-13 c =
     ∙ sym (resume-asked _ _ _ _ _ _ Phase.Modified (e .enum-told10 .given .1) yes)
 
 returns-14 : tie.Need-returns-14
-unfolding dealtOf
+unfolding resumeAt
 returns-14 c =
     let e = c in
     let i = e .before .before in

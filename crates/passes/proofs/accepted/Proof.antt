@@ -13,7 +13,7 @@ use Rattle.acceptance.specs.declared.Branch.the-variants.{Unchanged, SmallGain,
 use Rattle.acceptance.specs.declared.Branch.the-variants.{HeldBySm1, FamilyChanged, CoefficientGap}
 use Rattle.acceptance.proofs.Branch.{the-type}
 use Rattle.acceptance.proofs.Laws.{accept-keeps}
-use Rattle.between_steps.proofs.Inside.{ready}
+use Rattle.common.proofs.Ranges.{step-in-range}
 use Rattle.passes.specs.Pass.{endStepOf, acceptedOf, acceptedAt}
 use Rattle.passes.proofs.accepted.Statement.{statement}
 use Rattle.passes.proofs.accepted.Tie as tie
@@ -42,7 +42,7 @@ end-step-requires c κs =
     let x = a .args in
     let k = rw (← e .accept .ensures) at (accept-keeps (x .s) (x .c) (x .dsm) (x .work .now)) in
     (
-      k .ready (ready p) .range,
+      step-in-range _ (p .settings) (k .orders (p .settings) (p .orders)) (omega (arith, k .nslp, p .steps)),
       (
         p .orders .nq,
         (

@@ -11,19 +11,19 @@ use Rattle.passes.proofs.column_reply.Tie as tie
 store-column-requires : tie.Need-store-column-requires
 store-column-requires c κs =
     let p = c .before .before .before .before .before .before .before .before .before .before .before .pre in
-    (p .0 .settings .n .1, omega (arith, p .1 .1 .1 .1 .1 .sized), p .0 .orders .column)
+    (p .0 .settings .n .1, omega (arith, p .1 .1 .1 .1 .1 .sized), p .0 .counters .column)
 
 add-if1 : tie.Need-add-if1
 add-if1 c =
     let p = c .before .before .before .before .before .before .before .before .before .before .before .before .before
       .before .pre .0 in
-    omega (arith, p .settings .n, p .orders .column)
+    omega (arith, p .settings .n, p .counters .column)
 
 add-ask-column : tie.Need-add-ask-column
 add-ask-column c =
     let p = c .before .before .before .before .before .before .before .before .before .before .before .before .before
       .before .before .before .pre .0 in
-    omega (arith, p .settings .n, p .orders .column)
+    omega (arith, p .settings .n, p .counters .column)
 
 ask-column-requires : tie.Need-ask-column-requires
 ask-column-requires c κs =

@@ -6,7 +6,7 @@ use lib.ListN.{length}
 use borrow.Author.Needs.{needs}
 use Rattle.corrector.specs.Iterate.{Corrected}
 use Rattle.corrector.proofs.Iterated.{length-iteration}
-use Rattle.between_steps.specs.Ranges.{Inside}
+use Rattle.common.specs.Ranges.{Inside}
 use Rattle.between_steps.proofs.Inside.{in-range, inside-judged}
 use Rattle.passes.specs.Pass.{iterateOf, concludedAt}
 use Rattle.passes.proofs.iterate.Statement.{statement}

@@ -3,8 +3,9 @@
 use native.Mathlib.Omega.{arith}
 use mathlib.Core.Path.{_≡_}
 use Prim.Native.Nat.{_-_, _*_}
-use Rattle.loops.specs.Part.{length-part}
+use Rattle.loops.proofs.Part.{length-part}
 use borrow.Author.Needs.{needs}
+use Rattle.common.specs.Layout.{acorAt, yAt}
 use Rattle.history.specs.Columns.{fillOf}
 use Rattle.between_steps.proofs.Inside.{inside-open, lent-length}
 use Rattle.passes.specs.Pass.{iterationsOf}
@@ -27,8 +28,8 @@ returns c =
     let o = c .before .before .before .before .before .before in
     let a = o .before .before .before .before .before .before in
     let n = a .args .s .n in
-    let size : 17 * n - 16 * n ≡ n = omega arith in
-    let long = length-part (16 * n) n (a .args .work .now) (omega (arith, a .pre .1 .1 .1 .sized)) in
+    let size : yAt n - acorAt n ≡ n = omega arith in
+    let long = length-part (acorAt n) n (a .args .work .now) (omega (arith, a .pre .1 .1 .1 .sized)) in
     let opened = o .open-iterations .ensures in
     rw (opened .0, opened .1, size, long) at (c .before .before .iterate .ensures)
 

@@ -4,6 +4,7 @@ use mathlib.Core.Path.{_≡_}
 use Prim.Native.Nat.{_+_, _-_, _*_}
 use lib.ListN.{length}
 use borrow.Author.Needs.{needs}
+use Rattle.common.specs.Layout.{matrixAt}
 use Rattle.between_steps.proofs.Inside.{lent-length}
 use Rattle.passes.specs.Pass.{jacobianReplyOf}
 use Rattle.passes.proofs.jacobian_reply.Statement.{statement}
@@ -49,7 +50,7 @@ unfolding jacobianReplyOf
 returns c =
     let o = c .before .before .before .before .before .before .before .before .before in
     let x = o .before .before .before .before .before .before .before .before .args in
-    let k : 19 * x .s .n + length (x .f .now) - 19 * x .s .n ≡ length (x .f .now) = omega arith in
+    let k : matrixAt (x .s .n) + length (x .f .now) - matrixAt (x .s .n) ≡ length (x .f .now) = omega arith in
     rw (o .store-jacobian .ensures, k) at (c .before .before .before .before .matrix-done .ensures)
 
 pub jacobian-reply-spec : {M : Type 1} → statement M

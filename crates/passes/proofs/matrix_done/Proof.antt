@@ -33,10 +33,11 @@ pass-failed-requires c κs =
     let a = f .before .before .before .before .before .before .before in
     let p = a .pre in
     let x = a .args in
-    let l = p .1 .1 .1 .1 .sized in
     let inside = rw (← f .finish-jacobian .ensures) at
       (inside-factored (p .0) (x .work .now) (x .ipiv .now)) in
-    (inside, omega arith)
+    let lent = rw (← f .finish-jacobian .ensures) at
+      (lent-factored (x .s) (x .c) (x .work .now) (x .ipiv .now) (p .1 .1 .1 .1)) in
+    (inside, omega (arith, lent .sized))
 
 returns-2 : tie.Need-returns-2
 unfolding matrixDoneOf matrixDoneAt

@@ -8,7 +8,8 @@ use native.Mathlib.Omega.{arith}
 use lib.ListN.{getD}
 use borrow.Author.Count.{below-none, below-more}
 use borrow.Author.Tests.{lt-ltb, le-ltb}
-use Rattle.loops.specs.For.{for, onward, ended, stays}
+use Rattle.loops.specs.For.{for}
+use Rattle.loops.proofs.For.{onward, ended, stays}
 use Rattle.probe.specs.Leaves.{pivotAt, arePivots}
 use Rattle.probe.proofs.are_pivots.Statement.{statement}
 use Rattle.probe.proofs.are_pivots.Tie as tie

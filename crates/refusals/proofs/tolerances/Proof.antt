@@ -3,7 +3,8 @@ use Prim.Native.Nat.{_-_}
 use mathlib.Core.Path.{_≡_}
 use native.Mathlib.Omega.{arith}
 use borrow.Author.Needs.{needs}
-use Rattle.loops.specs.For.{for, again, ended}
+use Rattle.loops.specs.For.{for}
+use Rattle.loops.proofs.For.{again, ended}
 use Rattle.refusals.specs.Start.{toleranceAt, toleranceRefusal}
 use Rattle.refusals.proofs.tolerances.Statement.{statement}
 use Rattle.refusals.proofs.tolerances.Tie as tie

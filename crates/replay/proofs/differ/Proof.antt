@@ -4,7 +4,8 @@ use Prim.Native.Nat.{_-_, _≤_, _/_}
 use mathlib.Core.Path.{_≡_, refl, sym}
 use native.Mathlib.Omega.{arith}
 use lib.ListN.{length}
-use Rattle.loops.specs.For.{for, onward, ended}
+use Rattle.loops.specs.For.{for}
+use Rattle.loops.proofs.For.{onward, ended}
 use Rattle.loops.specs.Count.{countedAt, differing}
 use Rattle.replay.specs.Replay.{isStored, casesDiffer}
 use Rattle.replay.proofs.differ.Statement.{statement}

@@ -4,14 +4,16 @@ use mathlib.Core.Path.{_≡_}
 use native.Mathlib.Omega.{arith}
 use borrow.Author.Needs.{needs}
 use lib.ListN.{length}
+use Rattle.common.specs.Layout.{questionLength}
+use Rattle.common.specs.Limits.{maxStates}
 use Rattle.replay_runs.proofs.replay.Statement.{statement}
 use Rattle.replay_runs.proofs.replay.Tie as tie
 
 abbrev Inv-loop : tie.InvT-loop
 Inv-loop stored squared work₀ pivots₀ session₀ question₀ n f₀ _ end work pivots session question f counter =
-    (counter ≤ end) × (n ≤ 64) × (squared ≤ 4096) × (length stored ≤ 1000000)
+    (counter ≤ end) × (n ≤ maxStates) × (squared ≤ 4096) × (length stored ≤ 1000000)
     × (f .at ≤ 1020000) × (f .answers ≤ f .at) × (f .differ ≤ f .at) × (f .runs ≡ f₀ .runs)
-    × (14 * n + 6 ≤ length question) × (length question ≡ length question₀)
+    × (questionLength n ≤ length question) × (length question ≡ length question₀)
     × (length work ≡ length work₀) × (length pivots ≡ length pivots₀) × (length session ≡ length session₀)
 
 abbrev μ-loop : tie.MeasureT-loop

@@ -4,6 +4,7 @@ use mathlib.Core.Path.{_≡_}
 use Prim.Native.Nat.{_-_, _*_}
 use native.Mathlib.Omega.{arith}
 use borrow.Author.Needs.{needs}
+use Rattle.common.specs.Layout.{ewtAt, savfAt}
 use Rattle.reports.specs.Reports.{weightedAt, firstDerivativeOf}
 use Rattle.reports.proofs.first_derivative.Statement.{statement}
 use Rattle.reports.proofs.first_derivative.Tie as tie
@@ -29,7 +30,7 @@ returns c p =
     let e = i .before .before .before .before in
     let k = e .before .before .before .before in
     let n = k .before .before .before .before .before .before .args .s .n in
-    let weights : 14 * n - 13 * n ≡ n = omega arith in
+    let weights : savfAt n - ewtAt n ≡ n = omega arith in
     let w = rw weights at (i .invert-weights .ensures) in
     rw (weights, ← k .take-first .ensures, ← e .ewset .ensures, ← w .0, ← w .1, c .before .k .given .1)
 
@@ -40,7 +41,7 @@ returns-2 c p =
     let e = i .before .before .before .before in
     let k = e .before .before .before .before in
     let n = k .before .before .before .before .before .before .args .s .n in
-    let weights : 14 * n - 13 * n ≡ n = omega arith in
+    let weights : savfAt n - ewtAt n ≡ n = omega arith in
     let w = rw weights at (i .invert-weights .ensures) in
     let g = rw weights at (c .before .before .weighted .ensures p) in
     rw (← k .take-first .ensures, ← e .ewset .ensures, ← w .0, ← w .1,

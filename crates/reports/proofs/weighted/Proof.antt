@@ -6,11 +6,11 @@ use Prim.Native.Nat.{ℕ, _-_, _*_}
 use native.Mathlib.Omega.{arith}
 use lib.Ieee.{Float}
 use borrow.Author.Needs.{needs}
-use Rattle.loops.specs.Part.{length-part}
+use Rattle.loops.proofs.Part.{length-part}
 use Rattle.vectors.specs.FirstStep.{initialStepOf}
 use Rattle.common.specs.declared.Settings.{Settings}
 use Rattle.common.specs.declared.Common.{Common}
-use Rattle.common.specs.Layout.{column, ewt, savf}
+use Rattle.common.specs.Layout.{column, ewt, savf, ewtAt, savfAt, ftemAt}
 use Rattle.common.specs.State.{state}
 use Rattle.between_steps.specs.Start.{firstStepOf}
 use Rattle.reports.specs.Reports.{sizedOf}
@@ -42,11 +42,11 @@ initial-step-size-requires c κs =
     let n = a .args .s .n in
     let w = a .args .work .now in
     let y = length-part 0 n w (omega arith) in
-    let f = length-part (14 * n) n w (omega arith) in
-    let e = length-part (13 * n) n w (omega arith) in
+    let f = length-part (savfAt n) n w (omega arith) in
+    let e = length-part (ewtAt n) n w (omega arith) in
     let size : n - 0 ≡ n = omega arith in
-    let slope : 15 * n - 14 * n ≡ n = omega arith in
-    let weights : 14 * n - 13 * n ≡ n = omega arith in
+    let slope : ftemAt n - savfAt n ≡ n = omega arith in
+    let weights : savfAt n - ewtAt n ≡ n = omega arith in
     rw (size, slope, weights, y, f, e) (a .pre .1 .0, (a .pre .1 .1 .0, omega arith))
 
 returns-2 : tie.Need-returns-2
@@ -56,8 +56,8 @@ returns-2 c p =
     let n = x .s .n in
     let first : 0 * n ≡ 0 = omega arith in
     let size : n - 0 ≡ n = omega arith in
-    let slope : 15 * n - 14 * n ≡ n = omega arith in
-    let weights : 14 * n - 13 * n ≡ n = omega arith in
+    let slope : ftemAt n - savfAt n ≡ n = omega arith in
+    let weights : savfAt n - ewtAt n ≡ n = omega arith in
     let h = rw (size, slope, weights) at (i .initial-step-size .ensures) in
     let given = step-at (x .s) (x .c) (now (x .rtol)) (now (x .atol)) (now (x .work)) p false
       (c .before .before .before .before .before .before .before .before .before .if1 .left) in

@@ -2,7 +2,8 @@
 use Prim.Native.Nat.{_-_}
 use mathlib.Core.Path.{_≡_, refl}
 use native.Mathlib.Omega.{arith}
-use Rattle.loops.specs.For.{for, again, ended}
+use Rattle.loops.specs.For.{for}
+use Rattle.loops.proofs.For.{again, ended}
 use Rattle.root.specs.Root.{factor, powerOf}
 use Rattle.root.proofs.power.Statement.{statement}
 use Rattle.root.proofs.power.Tie as tie

@@ -3,7 +3,8 @@
 use Prim.Native.Nat.{_-_}
 use mathlib.Core.Path.{_≡_, refl, ap}
 use native.Mathlib.Omega.{arith}
-use Rattle.loops.specs.For.{for, again, ended}
+use Rattle.loops.specs.For.{for}
+use Rattle.loops.proofs.For.{again, ended}
 use Rattle.root.specs.Root.{Candidate, bitTurn, rootBits}
 use Rattle.root.proofs.Room.{Room, first, candidate, next}
 use Rattle.root.proofs.root_bits.Statement.{statement}

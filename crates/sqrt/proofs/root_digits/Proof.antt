@@ -4,7 +4,8 @@ use Prim.Native.Nat.{_-_, _≤_, _^_}
 use mathlib.Core.Path.{_≡_, refl, sym, ap}
 use native.Mathlib.Omega.{arith}
 use lib.Pow.{pow-mono}
-use Rattle.loops.specs.For.{for, onward, ended}
+use Rattle.loops.specs.For.{for}
+use Rattle.loops.proofs.For.{onward, ended}
 use Rattle.sqrt.specs.Sqrt.{digitTurn, digitsOf}
 use Rattle.sqrt.proofs.Turns.{Kept, starts, turned}
 use Rattle.sqrt.proofs.root_digits.Statement.{statement}

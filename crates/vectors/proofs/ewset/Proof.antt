@@ -5,7 +5,8 @@ use native.Mathlib.Omega.{arith}
 use borrow.Author.Needs.{needs}
 use denote.Ref.{now}
 use lib.ListN.{length, length-set}
-use Rattle.loops.specs.For.{for, again, ended}
+use Rattle.loops.specs.For.{for}
+use Rattle.loops.proofs.For.{again, ended}
 use Rattle.vectors.specs.Weights.{ewsetAt, ewsetOf}
 use Rattle.vectors.proofs.Laws.{serves}
 use Rattle.vectors.proofs.ewset.Statement.{statement}

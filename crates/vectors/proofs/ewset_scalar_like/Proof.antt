@@ -4,7 +4,8 @@ use mathlib.Core.Path.{_≡_, refl}
 use native.Mathlib.Omega.{arith}
 use borrow.Author.Needs.{needs}
 use lib.ListN.{length, length-set}
-use Rattle.loops.specs.For.{for, again, ended}
+use Rattle.loops.specs.For.{for}
+use Rattle.loops.proofs.For.{again, ended}
 use Rattle.vectors.specs.Weights.{ewsetLikeAt, ewsetLikeOf}
 use Rattle.vectors.proofs.ewset_scalar_like.Statement.{statement}
 use Rattle.vectors.proofs.ewset_scalar_like.Tie as tie

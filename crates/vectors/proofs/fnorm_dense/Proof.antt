@@ -5,7 +5,8 @@ use mathlib.Core.Path.{_≡_, refl, ap}
 use native.Mathlib.Omega.{arith}
 use borrow.Author.Needs.{needs}
 use lib.Ieee.{Float}
-use Rattle.loops.specs.For.{for, again, again-four, ended}
+use Rattle.loops.specs.For.{for}
+use Rattle.loops.proofs.For.{again, again-four, ended}
 use Rattle.vectors.specs.Norm.{fnormTurn, fnormOf}
 use Rattle.numbers.proofs.Order.{Number}
 use Rattle.vectors.proofs.Largest.{max-larger, zero-number}

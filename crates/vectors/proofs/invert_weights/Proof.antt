@@ -8,7 +8,8 @@ use native.Mathlib.Omega.{arith}
 use lib.ListN.{length, getD, set, length-set}
 use lib.Ieee as Ieee
 use lib.Ieee.{Float, nan}
-use Rattle.loops.specs.For.{for, onward, ended, stays}
+use Rattle.loops.specs.For.{for}
+use Rattle.loops.proofs.For.{onward, ended, stays}
 use Rattle.numbers.specs.Float.{_⊘_, zeroF, oneF}
 use Rattle.vectors.specs.Weights.{Inversion, invertAt, invertOf, weightsOutcome}
 use Rattle.vectors.proofs.invert_weights.Statement.{statement}

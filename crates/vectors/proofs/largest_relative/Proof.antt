@@ -5,7 +5,8 @@ use mathlib.Core.Path.{_≡_, refl}
 use native.Mathlib.Omega.{arith}
 use denote.Ref.{now}
 use lib.ListN.{length}
-use Rattle.loops.specs.For.{for, again, ended}
+use Rattle.loops.specs.For.{for}
+use Rattle.loops.proofs.For.{again, ended}
 use Rattle.vectors.specs.FirstStep.{relativeAt, relativeOf}
 use Rattle.vectors.proofs.Laws.{serves}
 use Rattle.vectors.proofs.largest_relative.Statement.{statement}

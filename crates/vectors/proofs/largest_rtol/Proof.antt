@@ -4,7 +4,8 @@ use mathlib.Core.Path.{_≡_, refl}
 use native.Mathlib.Omega.{arith}
 use borrow.Author.Needs.{needs}
 use denote.Ref.{now}
-use Rattle.loops.specs.For.{for, again, ended}
+use Rattle.loops.specs.For.{for}
+use Rattle.loops.proofs.For.{again, ended}
 use Rattle.vectors.specs.FirstStep.{largestRtolAt, largestRtolOf}
 use Rattle.vectors.proofs.Laws.{serves}
 use Rattle.vectors.proofs.largest_rtol.Statement.{statement}

@@ -2,7 +2,8 @@
 use Prim.Native.Nat.{_-_}
 use mathlib.Core.Path.{_≡_, refl}
 use native.Mathlib.Omega.{arith}
-use Rattle.loops.specs.For.{for, again, ended, within}
+use Rattle.loops.specs.For.{for}
+use Rattle.loops.proofs.For.{again, ended, within}
 use Rattle.vectors.specs.Norm.{rowAt, rowOf}
 use Rattle.vectors.proofs.row_sum.Statement.{statement}
 use Rattle.vectors.proofs.row_sum.Tie as tie

@@ -6,7 +6,8 @@ use native.Mathlib.Omega.{arith}
 use borrow.Author.Needs.{needs}
 use lib.ListN.{length}
 use lib.Ieee.{Float}
-use Rattle.loops.specs.For.{for, again, ended}
+use Rattle.loops.specs.For.{for}
+use Rattle.loops.proofs.For.{again, ended}
 use Rattle.vectors.specs.Norm.{normTurn, vmnormOf}
 use Rattle.vectors.specs.Maxima.{topOf}
 use Rattle.numbers.proofs.Order.{Number}

@@ -4,7 +4,8 @@ use mathlib.Core.Path.{_≡_, refl, sym, ap, _∙_}
 use Prim.Native.Nat.{_-_}
 use native.Mathlib.Omega.{arith}
 use lib.ListN.{length}
-use Rattle.loops.specs.For.{for, onward, ended}
+use Rattle.loops.specs.For.{for}
+use Rattle.loops.proofs.For.{onward, ended}
 use Rattle.words.specs.Words.{putCountAt, putCountsOf}
 use Rattle.words.proofs.Eight.{length-put}
 use Rattle.words.proofs.put_counts.Statement.{statement}

@@ -5,7 +5,8 @@ use Prim.Native.Nat.{_-_}
 use native.Mathlib.Omega.{arith}
 use lib.ListN.{length}
 use borrow.Author.Needs.{needs}
-use Rattle.loops.specs.For.{for, onward, ended}
+use Rattle.loops.specs.For.{for}
+use Rattle.loops.proofs.For.{onward, ended}
 use Rattle.words.specs.Words.{putFloatAt, putFloatsOf}
 use Rattle.words.proofs.Eight.{length-put}
 use Rattle.words.proofs.put_floats.Statement.{statement}

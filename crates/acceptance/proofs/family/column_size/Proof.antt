@@ -1,6 +1,6 @@
 -- `column_size` meets its contract: column j lies in the history. Assumes nothing.
 use native.Mathlib.Omega.{arith}
-use Rattle.loops.specs.For.{within}
+use Rattle.loops.proofs.For.{within}
 use Rattle.acceptance.proofs.family.column_size.Statement.{statement}
 use Rattle.acceptance.proofs.family.column_size.Tie as tie
 

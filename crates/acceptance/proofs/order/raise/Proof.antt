@@ -3,7 +3,7 @@
 use native.Mathlib.Omega.{arith}
 use borrow.Author.Needs.{needs}
 use borrow.Author.Tests.{eq-eqb, ne-eqb}
-use Rattle.loops.specs.For.{within}
+use Rattle.loops.proofs.For.{within}
 use Rattle.acceptance.specs.Order.{raiseOf}
 use Rattle.acceptance.proofs.order.raise.Statement.{statement}
 use Rattle.acceptance.proofs.order.raise.Tie as tie

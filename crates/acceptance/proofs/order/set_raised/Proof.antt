@@ -4,7 +4,8 @@ use Prim.Native.Nat.{_-_}
 use mathlib.Core.Path.{refl, _≡_}
 use native.Mathlib.Omega.{arith}
 use lib.ListN.{length, length-set}
-use Rattle.loops.specs.For.{for, again, ended, within}
+use Rattle.loops.specs.For.{for}
+use Rattle.loops.proofs.For.{again, ended, within}
 use Rattle.acceptance.specs.Order.{raisedAt, raisedWorkOf}
 use Rattle.acceptance.proofs.order.set_raised.Statement.{statement}
 use Rattle.acceptance.proofs.order.set_raised.Tie as tie

@@ -4,6 +4,7 @@ use Prim.Native.Nat.{_*_}
 use native.Mathlib.Omega.{arith}
 use borrow.Author.Needs.{needs}
 use borrow.Author.Tests.{le-leb, lt-leb}
+use Rattle.common.specs.Layout.{matrixAt}
 use Rattle.probe.specs.Lent.{inRange}
 use Rattle.probe.proofs.steps.in_range.Statement.{statement}
 use Rattle.probe.proofs.steps.in_range.Tie as tie
@@ -53,7 +54,7 @@ returns-5 c =
       le-leb (a .n) 64 (omega arith),
       le-leb 1 (a .nq) (omega arith),
       le-leb (a .table) 2 (omega arith),
-      lt-leb (19 * a .n) (a .work) (omega arith),
+      lt-leb (matrixAt (a .n)) (a .work) (omega arith),
     )
 
 returns-6 : tie.Need-returns-6
@@ -65,7 +66,7 @@ returns-6 c =
       le-leb (a .n) 64 (omega arith),
       le-leb 1 (a .nq) (omega arith),
       le-leb (a .table) 2 (omega arith),
-      le-leb (19 * a .n) (a .work) (omega arith),
+      le-leb (matrixAt (a .n)) (a .work) (omega arith),
     )
     (c .are-columns .ensures)
 

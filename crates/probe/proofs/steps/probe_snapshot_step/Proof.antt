@@ -7,7 +7,7 @@ use borrow.Author.Needs.{needs}
 use lib.ListN.{length}
 use borrow.Author.Tests.{le-leb, lt-leb, not-true, not-false}
 use Rattle.common.specs.Limits.{maxStates}
-use Rattle.common.specs.Layout.{ewtAt}
+use Rattle.common.specs.Layout.{ewtAt, questionLength}
 use Rattle.probe.specs.Lent.{lentSettings}
 use Rattle.probe.specs.Left.{snapshotLeft}
 use Rattle.probe.proofs.Usable.{usable}
@@ -47,7 +47,7 @@ returns-2 c =
     let w = s .before .before in
     let a = c .before .before .before .before .before .before .before .before .before .args in
     let n = lentSettings (a .floats .now) (a .counts .now) .n in
-    let short : length (a .question .now) < 14 * n + 6 = rw (← s .settings .ensures) (c .if2 .taken) in
+    let short : length (a .question .now) < questionLength n = rw (← s .settings .ensures) (c .if2 .taken) in
     rw (← w .is-usable .ensures, not-false (w .is-usable .result) (s .before .if1 .left), lt-leb _ _ short)
 
 common-requires : tie.Need-common-requires
@@ -79,7 +79,7 @@ returns-3 c =
     let u = c .before .before .before .before .before .before .before in
     let a = u .before .before .before .before .before .before .before .args in
     let n = lentSettings (a .floats .now) (a .counts .now) .n in
-    let long : 14 * n + 6 ≤ length (a .question .now) = rw (← s .settings .ensures) (b .before .if2 .left) in
+    let long : questionLength n ≤ length (a .question .now) = rw (← s .settings .ensures) (b .before .if2 .left) in
     rw (
       ← w .is-usable .ensures,
       not-false (w .is-usable .result) (s .before .if1 .left),

@@ -7,7 +7,8 @@ use native.Mathlib.Omega.{arith}
 use lib.ListN.{length}
 use borrow.Author.Needs.{needs}
 use borrow.Author.Tests.{eq-eqb, ne-eqb}
-use Rattle.loops.specs.For.{for, onward, ended, stays}
+use Rattle.loops.specs.For.{for}
+use Rattle.loops.proofs.For.{onward, ended, stays}
 use Rattle.replay_leaves.specs.Leaf.{isFloatAt, areFloats}
 use Rattle.replay_leaves.proofs.leaf.are_floats.Statement.{statement}
 use Rattle.replay_leaves.proofs.leaf.are_floats.Tie as tie

@@ -5,7 +5,8 @@ use mathlib.Core.Path.{_≡_, refl}
 use native.Mathlib.Omega.{arith}
 use lib.ListN.{length, length-set}
 use borrow.Author.Needs.{needs}
-use Rattle.loops.specs.For.{for, onward, ended}
+use Rattle.loops.specs.For.{for}
+use Rattle.loops.proofs.For.{onward, ended}
 use Rattle.replay_leaves.specs.Leaf.{storedCountAt, leafCounts}
 use Rattle.replay_leaves.proofs.leaf.get_counts.Statement.{statement}
 use Rattle.replay_leaves.proofs.leaf.get_counts.Tie as tie

@@ -11,7 +11,8 @@ use native.Mathlib.Omega.{arith}
 use lib.ListN.{length, getD, set, length-set}
 use lib.Seq.{getD-set-same, getD-set-other}
 use borrow.Author.Count.{below-more}
-use Rattle.loops.specs.For.{for, reaches, always}
+use Rattle.loops.specs.For.{for}
+use Rattle.loops.proofs.For.{reaches, always}
 
 pub length-for : {A : Type 0} (f : ℕ → List A → List A) (i e : ℕ) (l : List A)
     → ((k : ℕ) (s : List A) → length (f k s) ≡ length s) → length (for i e f l) ≡ length l

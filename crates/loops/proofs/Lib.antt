@@ -1,0 +1,4 @@
+pub mod For
+pub mod Stores
+pub mod Part
+pub mod Test
