@@ -2,7 +2,7 @@
 --     length-accept, length-closed     the length of the work is kept
 --     accept-keeps                     what an accepted step keeps of the record, and the ranges that it stays in
 -- Assumes nothing.
-use mathlib.Core.Path.{_≡_, refl, ap, _∙_}
+use mathlib.Core.Path.{_≡_, ap, _∙_}
 use mathlib.Core.List.{List}
 use mathlib.Core.Logic.{_⊎_}
 use Prim.Native.Nat.{ℕ, _+_, _-_, _≤_, max}

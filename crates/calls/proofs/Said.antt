@@ -5,7 +5,7 @@
 use mathlib.Core.Bool.{false}
 use mathlib.Core.List.{List, [], _++_, append-assoc}
 use mathlib.Core.Path.{_≡_, refl, sym, ap, _∙_}
-use Prim.Native.Nat.{ℕ, _+_, _*_, _≤_}
+use Prim.Native.Nat.{ℕ, _+_, _≤_}
 use native.Mathlib.Omega.{arith}
 use native.Mathlib.Nat.{mul-le-mul-right, add-assoc}
 use lib.Ieee.{Float}

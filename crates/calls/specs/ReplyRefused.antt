@@ -6,7 +6,7 @@ use mathlib.Core.Bool.{false}
 use mathlib.Core.List.{List, [], _∷_}
 use mathlib.Core.Logic.{_⊎_, _≢_, _↔_}
 use mathlib.Core.Path.{_≡_}
-use Prim.Native.Nat.{ℕ, _+_, _*_, _<_}
+use Prim.Native.Nat.{ℕ, _*_, _<_}
 use lib.ListN.{length}
 use lib.Ieee.{Float}
 use Rattle.numbers.specs.Float.{zeroF}

@@ -4,7 +4,7 @@
 use mathlib.Core.Bool.{false}
 use mathlib.Core.Logic.{_⊎_}
 use mathlib.Core.Path.{_≡_}
-use Prim.Native.Nat.{ℕ, _+_, _*_, _≤_, _<_}
+use Prim.Native.Nat.{ℕ, _≤_, _<_}
 use lib.ListN.{length, getD}
 use lib.Ieee as Ieee
 use lib.Ieee.{nan}

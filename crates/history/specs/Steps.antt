@@ -4,7 +4,7 @@
 -- Nothing is claimed of the sizes: h may become 0, a NaN or infinite.
 use mathlib.Core.Bool.{Bool, cond, _||_}
 use mathlib.Core.List.{List}
-use Prim.Native.Nat.{_+_, _*_, _^_, _≤_, _<_}
+use Prim.Native.Nat.{_+_}
 use lib.Dec.{leb}
 use lib.Ieee as Ieee
 use lib.Ieee.{Float}
@@ -15,7 +15,7 @@ use Rattle.coefficients.specs.Table.{sm1Of}
 use Rattle.common.specs.declared.Settings.{Settings}
 use Rattle.common.specs.declared.Common.{Common}
 use Rattle.common.specs.Record.{isBdf, with-h, with-rc, with-ialth, with-due, with-tn}
-use Rattle.common.specs.Limits.{maxStates, msbpOf}
+use Rattle.common.specs.Limits.{msbpOf}
 use Rattle.history.specs.Columns.{predictColumnsOf}
 
 -- hmin / |h|: the least factor that keeps a step at hmin or above

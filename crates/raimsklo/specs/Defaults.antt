@@ -1,6 +1,6 @@
 -- The Rust's own options, and the lengths of what the host lends.
 use mathlib.Core.Bool.{cond}
-use Prim.Native.Nat.{ℕ, _+_, _*_}
+use Prim.Native.Nat.{ℕ}
 use lib.Dec.{ltb}
 use Rattle.numbers.specs.Float.{zeroF}
 use Rattle.common.specs.Layout.{workLength, questionLength}

@@ -3,7 +3,7 @@
 use mathlib.Core.Bool.{Bool, true, false, cond, not, _&&_}
 use mathlib.Core.List.{List, [], _∷_}
 use mathlib.Core.Path.{_≡_}
-use Prim.Native.Nat.{ℕ, _+_, _*_, _≤_}
+use Prim.Native.Nat.{ℕ, _≤_}
 use lib.Dec.{eqb, ltb, leb}
 use lib.ListN.{length}
 use lib.Ieee.{Float}

@@ -2,14 +2,13 @@
 --     step-decides    it holds exactly where the step is refused
 --     step-taken      and fails exactly where it is taken
 -- Assumes nothing.
-use mathlib.Core.Bool.{Bool, true, false, not, _||_}
+use mathlib.Core.Bool.{Bool, true, false}
 use mathlib.Core.Logic.{_⊎_, inl, inr, _≢_, _↔_}
-use mathlib.Core.Path.{_≡_, refl, sym, ap, _∙_}
-use Prim.Native.Nat.{ℕ, zero, suc, _*_, _<_}
-use native.Mathlib.Nat.{zero-mul, mul-one, mul-pos, zero-lt-suc}
+use mathlib.Core.Path.{_≡_, refl, sym}
+use Prim.Native.Nat.{ℕ, zero, suc, _*_}
+use native.Mathlib.Nat.{zero-mul, mul-pos, zero-lt-suc}
 use native.Mathlib.Omega.{arith}
 use borrow.Author.Tests.{ne-eqb}
-use lib.Dec.{eqb}
 use lib.IntN.{pos}
 use lib.Ieee as Ieee
 use lib.Ieee.{Float, nan, inf, fin, up, down}
@@ -18,7 +17,7 @@ use Rattle.loops.proofs.Test.{differs}
 use Rattle.numbers.specs.Float.{zeroF}
 use Rattle.numbers.specs.Sign.{negative, signumOf, refused}
 use Rattle.refusals.specs.FirstStep.{IsZero, StepRefused, StepTaken}
-use Rattle.refusals.proofs.Decides.{Decides, decided, either}
+use Rattle.refusals.proofs.Decides.{Decides, either}
 
 zero-decides : (h : Float) → Decides (Ieee.eq h zeroF) (IsZero h)
 unfolding Ieee.eq Ieee.ofBits

@@ -3,7 +3,7 @@
 -- 12 is not here: it needs the first derivative (crate reports).
 use mathlib.Core.Bool.{Bool, false, cond, not, _||_}
 use mathlib.Core.List.{List, [], _∷_}
-use Prim.Native.Nat.{ℕ, _+_, _*_}
+use Prim.Native.Nat.{ℕ}
 use lib.Dec.{eqb, ltb}
 use lib.ListN.{length, getD}
 use lib.Ieee as Ieee

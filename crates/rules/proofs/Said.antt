@@ -2,8 +2,8 @@
 -- Assumes nothing.
 use mathlib.Core.Bool.{Bool, true, false, cond, not, _&&_, _||_}
 use mathlib.Core.List.{List}
-use mathlib.Core.Logic.{_⊎_, _↔_, inl, inr}
-use mathlib.Core.Path.{_≡_, refl, ap, _∙_}
+use mathlib.Core.Logic.{_⊎_, _↔_, inl, inr, ⊎-elim}
+use mathlib.Core.Path.{_≡_, refl, sym, ap, _∙_}
 use Prim.Native.Nat.{ℕ, zero, suc, _+_, _-_, _≤_, _<_}
 use native.Mathlib.Omega.{arith}
 use borrow.Author.Tests.{ltb-true, ltb-false, eqb-true, eqb-false, le-leb, lt-leb}
@@ -50,15 +50,8 @@ use Rattle.rules.specs.Rules.{step, solveAt, solve, predicted}
 use Rattle.rules.specs.Said.{Tiny, floorOf, Old, NoConvergenceSaid, ErrorSaid, SingleSaid, GapSaid, BetweenSaid}
 use Rattle.rules.specs.Said.{OpenedSaid, StepSaid}
 
--- ---- small laws
-
 never : (t : Bool) → t ≡ false → t ≡ true → ⊥
-never true e f = differs (cc)
-never false e f = differs (cc)
-
-neither : {A B : Type 0} → (A → ⊥) → (B → ⊥) → A ⊎ B → ⊥
-neither p q (inl a) = p a
-neither p q (inr b) = q b
+never t e f = differs (sym e ∙ f)
 
 -- ---- retry
 
@@ -148,7 +141,7 @@ module _ (s : Settings) (c : Common) (work : List Float) where
       let large : Tiny c → ⊥ = never (tinyOf c) e in
       let fewer : c .ncf + 1 ≡ mxncfOf s → ⊥ = eqb-false (c .ncf + 1) (mxncfOf s) l in
       record {
-        poor = ((λ p. differs (cc)), (λ p. absurd (neither large fewer p)));
+        poor = ((λ p. differs (cc)), (λ p. absurd (⊎-elim large fewer p)));
         again = ((λ p. (large, fewer)), (λ p. refl));
         time = λ p. differs (cc);
         retracted = λ p. differs (cc);
@@ -185,8 +178,8 @@ module _ (s : Settings) (c : Common) (dsm : Float) (work : List Float) (few : c 
   stopped why =
       record {
         small = ((λ p. why), (λ p. refl));
-        single = ((λ p. differs (cc)), (λ p. absurd (neither (p .0) (λ t. omega (arith, p .2)) why)));
-        again = ((λ p. differs (cc)), (λ p. absurd (neither (p .0) (λ t. omega (arith, p .1)) why)));
+        single = ((λ p. differs (cc)), (λ p. absurd (⊎-elim (p .0) (λ t. omega (arith, p .2)) why)));
+        again = ((λ p. differs (cc)), (λ p. absurd (⊎-elim (p .0) (λ t. omega (arith, p .1)) why)));
         count = refl;
         rejected = refl;
         order = refl;
@@ -204,7 +197,7 @@ module _ (s : Settings) (c : Common) (dsm : Float) (work : List Float) (few : c 
       let large : Tiny c → ⊥ = never (tinyOf c) e in
       let early = ltb-true (c .kflag + 1) 3 b in
       record {
-        small = ((λ p. differs (cc)), (λ p. absurd (neither large (λ t. omega arith) p)));
+        small = ((λ p. differs (cc)), (λ p. absurd (⊎-elim large (λ t. omega arith) p)));
         single = ((λ p. differs (cc)), (λ p. absurd (omega (arith, p .1))));
         again = ((λ p. (large, early)), (λ p. refl));
         count = refl;
@@ -221,7 +214,7 @@ module _ (s : Settings) (c : Common) (dsm : Float) (work : List Float) (few : c 
       let third = ltb-false (c .kflag + 1) 3 b in
       let other = eqb-false (c .kflag + 1) 10 l in
       record {
-        small = ((λ p. differs (cc)), (λ p. absurd (neither large other p)));
+        small = ((λ p. differs (cc)), (λ p. absurd (⊎-elim large other p)));
         single = ((λ p. (large, omega arith, omega (arith, other))), (λ p. refl));
         again = ((λ p. differs (cc)), (λ p. absurd (omega (arith, p .1))));
         count = refl;

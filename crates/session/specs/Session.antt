@@ -5,7 +5,7 @@ use mathlib.Core.Bool.{Bool, true, not, _&&_, _||_}
 use mathlib.Core.List.{List}
 use mathlib.Core.Logic.{_⊎_}
 use mathlib.Core.Path.{_≡_}
-use Prim.Native.Nat.{ℕ, _+_, _*_, _%_, _<_}
+use Prim.Native.Nat.{ℕ, _+_, _*_, _%_}
 use lib.Dec.{eqb, ltb, leb}
 use lib.ListN.{length, getD}
 use lib.Ieee as Ieee

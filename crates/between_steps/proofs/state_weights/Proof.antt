@@ -1,6 +1,6 @@
 -- `state_weights` meets its contract: the weights are written, then inverted in their part. Assumes nothing.
 use mathlib.Core.Path.{_≡_}
-use Prim.Native.Nat.{_-_, _*_}
+use Prim.Native.Nat.{_-_}
 use native.Mathlib.Omega.{arith}
 use borrow.Author.Needs.{needs}
 use Rattle.common.specs.Layout.{ewtAt, savfAt}

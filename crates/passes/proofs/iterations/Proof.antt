@@ -2,7 +2,7 @@
 -- Assumes nothing.
 use native.Mathlib.Omega.{arith}
 use mathlib.Core.Path.{_≡_}
-use Prim.Native.Nat.{_-_, _*_}
+use Prim.Native.Nat.{_-_}
 use Rattle.loops.proofs.Part.{length-part}
 use borrow.Author.Needs.{needs}
 use Rattle.common.specs.Layout.{acorAt, yAt}

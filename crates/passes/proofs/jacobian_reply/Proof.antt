@@ -1,7 +1,7 @@
 -- `jacobian_reply` meets its contract: the reply is stored as the matrix, then factored. Assumes nothing.
 use native.Mathlib.Omega.{arith}
 use mathlib.Core.Path.{_≡_}
-use Prim.Native.Nat.{_+_, _-_, _*_}
+use Prim.Native.Nat.{_+_, _-_}
 use lib.ListN.{length}
 use borrow.Author.Needs.{needs}
 use Rattle.common.specs.Layout.{matrixAt}

@@ -1,7 +1,7 @@
 -- `first_derivative` meets its contract: the derivative, column 0 and the weights, then 12 or the first step.
 -- Assumes nothing.
 use mathlib.Core.Path.{_≡_}
-use Prim.Native.Nat.{_-_, _*_}
+use Prim.Native.Nat.{_-_}
 use native.Mathlib.Omega.{arith}
 use borrow.Author.Needs.{needs}
 use Rattle.common.specs.Layout.{ewtAt, savfAt}

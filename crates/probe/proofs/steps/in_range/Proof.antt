@@ -1,6 +1,5 @@
 -- `in_range` meets its contract: each way returns what `inRange` says under the tests that led there.
 -- Assumes nothing.
-use Prim.Native.Nat.{_*_}
 use native.Mathlib.Omega.{arith}
 use borrow.Author.Needs.{needs}
 use borrow.Author.Tests.{le-leb, lt-leb}
