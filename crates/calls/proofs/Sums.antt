@@ -119,8 +119,8 @@ ended-said n order q refuses h = absurd (true≢false (sym h))
 ended-said n order q stuck h = absurd (true≢false (sym h))
 
 -- what is computed of a row: it is accepted, each of its replies is asked for, and how it ends
-abbrev pub Accepted : Single → Type 0
-Accepted c =
+abbrev pub SingleAccepted : Single → Type 0
+SingleAccepted c =
     startRefusalOf zeroF (c .xend) (optionsOf c) sizes (c .rtol ∷ []) (c .atol ∷ []) .number ≡ 0
 
 record Ends (r : SumRow) : Type 0 where
@@ -129,15 +129,15 @@ record Ends (r : SumRow) : Type 0 where
   reply : saidAlone (shownBy 1 (leftOf r)) ≡ r .result .reply
   y : column 1 0 (leftOf r .st .w) ≡ r .result .y
 
-pub begins-single : (c : Single) → Accepted c → FloatsGiven (problemOf c) → (b : Buffers)
+pub begins-single : (c : Single) → SingleAccepted c → FloatsGiven (problemOf c) → (b : Buffers)
     → lengthsOf (problemOf c) b ≡ sizes → Begins (problemOf c) b
 unfolding startOf startAt acceptedStartOf
 begins-single c accepted floats b lengths =
     let e = eq-eqb _ 0 accepted in
     record { formed = well-formed (problemOf c) b .1 (rw (lengths, e)); floats = floats }
 
-module _ (r : SumRow) (accepted : Accepted (r .problem)) (floats : FloatsGiven (problemOf (r .problem))) (x : Ends r)
-    (b : Buffers) (q : ℕ → List Float) (l : LentOne b q) where
+module _ (r : SumRow) (accepted : SingleAccepted (r .problem)) (floats : FloatsGiven (problemOf (r .problem)))
+    (x : Ends r) (b : Buffers) (q : ℕ → List Float) (l : LentOne b q) where
   abbrev p : Problem
   p = problemOf (r .problem)
 
@@ -233,7 +233,7 @@ floats-11 = given-floats problem11 (literal _, literal _, literal _, literal _, 
 floats-12 : FloatsGiven (problemOf problem12)
 floats-12 = given-floats problem12 (literal _, literal _, literal _, literal _, literal _)
 
-pub accepted : Accepted problem8 × Accepted problem10 × Accepted problem11 × Accepted problem12
+pub accepted : SingleAccepted problem8 × SingleAccepted problem10 × SingleAccepted problem11 × SingleAccepted problem12
 unfolding startRefusalOf orElse alsoOf inOrder Refusals.sizeRefusal Refusals.lengthRefusal Refusals.largeRefusal
     Refusals.limitRefusal
     Refusals.toleranceRefusal Refusals.stepRefusal times refused signumOf negative sub lt eq ne ofBits

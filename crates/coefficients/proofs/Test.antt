@@ -10,7 +10,7 @@ use native.Mathlib.Nat.{eq-or-lt-of-le}
 use native.Mathlib.Omega.{arith}
 use lib.Dec.{T, leb, ltb, leb→le, ltb→lt}
 use lib.Ieee.{Float, nan, inf, fin, binary64, up, down, ofBits, toBits}
-use Rattle.coefficients.specs.Published.{Ratio, _over_, bottom, AtMost, AtLeast, Within}
+use Rattle.coefficients.specs.Published.{Ratio, _over_, bottom, AtMost, AtLeast, WithinUnits}
 
 abbrev pub both : Bool → Bool → Bool
 both true b = b
@@ -70,7 +70,7 @@ module _ (n : ℕ) (x : Float) (f : Ratio) where
   abbrev within : Bool
   within = both (ltb 0 (bottom f)) (both below above)
 
-  is-within : T within → Within n x f
+  is-within : T within → WithinUnits n x f
   is-within t =
       let u = both-right (ltb 0 (bottom f)) (both below above) t in record {
         proper = ltb→lt 0 (bottom f) (both-left (ltb 0 (bottom f)) (both below above) t);
@@ -86,7 +86,7 @@ module _ (n m : ℕ) (first last : ℕ → ℕ) (table : ℕ → ℕ → Float) 
   abbrev pub near : Bool
   near = all m 1 row
 
-  pub entry : T near → (q i : ℕ) → 1 ≤ q → q ≤ m → first q ≤ i → i ≤ last q → Within n (table q i) (formula q i)
+  pub entry : T near → (q i : ℕ) → 1 ≤ q → q ≤ m → first q ≤ i → i ≤ last q → WithinUnits n (table q i) (formula q i)
   entry t q i l h f g =
       is-within n (table q i) (formula q i)
       (all-at (last q + 1 - first q) (first q) (λ j. within n (table q j) (formula q j))

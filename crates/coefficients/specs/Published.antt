@@ -115,7 +115,7 @@ AtLeast (fin true m e) f = ⊥
 AtLeast (fin false m e) (a over b) = a * down e ≤ m * up e * b
 
 -- the fraction lies between the n-th float below x and the n-th above it: x is right to n units in the last place
-pub record Within (n : ℕ) (x : Float) (f : Ratio) : Type 0 where
+pub record WithinUnits (n : ℕ) (x : Float) (f : Ratio) : Type 0 where
   pub proper : 0 < bottom f
   pub low : AtMost (Ieee.ofBits binary64 (Ieee.toBits binary64 x - n)) f
   pub high : AtLeast (Ieee.ofBits binary64 (Ieee.toBits binary64 x + n)) f

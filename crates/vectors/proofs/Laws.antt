@@ -98,7 +98,7 @@ pub record Stopped (before : List Float) (k : ℕ) (after : List Float) : Type 0
   pub done : Inverted before k after
 
 module _ (ewt : List Float) where
-  record State (k : ℕ) (s : Inversion) : Type 0 where
+  record InvertedTo (k : ℕ) (s : Inversion) : Type 0 where
     going : s .refused ≡ false → Inverted ewt k (s .ewt)
     halted : s .refused ≡ true → Stopped ewt (s .index) (s .ewt)
 
@@ -120,11 +120,11 @@ module _ (ewt : List Float) where
         rest = λ i b. other i (λ q. omega arith) ∙ p .rest i (omega arith);
       }
 
-  one-turn : (k : ℕ) (s : Inversion) → k < length ewt → State k s → State (k + 1) (invertAt k s)
+  one-turn : (k : ℕ) (s : Inversion) → k < length ewt → InvertedTo k s → InvertedTo (k + 1) (invertAt k s)
   one-turn k s h p = go (s .refused) refl (Ieee.le (getD (s .ewt) k nan) zeroF) refl
     where
       go : (t : Bool) → s .refused ≡ t → (u : Bool) → Ieee.le (getD (s .ewt) k nan) zeroF ≡ u
-          → State (k + 1)
+          → InvertedTo (k + 1)
           (cond t s
           (cond u
           (record { ewt = s .ewt; refused = true; index = k })
@@ -143,7 +143,7 @@ module _ (ewt : List Float) where
             halted = λ q. differs q;
           }
 
-  ends : State (length ewt) (invertOf ewt)
+  ends : InvertedTo (length ewt) (invertOf ewt)
   unfolding invertOf
   ends =
       let none : Inverted ewt 0 ewt =
@@ -154,7 +154,7 @@ module _ (ewt : List Float) where
         rest = λ i b. refl;
       }
       in
-      reaches State invertAt (length ewt) one-turn 0 _ (omega arith)
+      reaches InvertedTo invertAt (length ewt) one-turn 0 _ (omega arith)
       (record { going = λ q. none; halted = λ q. differs q })
 
   -- an inversion that refuses nothing inverts every weight
