@@ -17,9 +17,7 @@ use Rattle.attempt.specs.Attempt.{noConvergenceOf, failedOf}
 use Rattle.between_steps.specs.declared.Kind.{Kind}
 use Rattle.between_steps.specs.Begin.{isCut, cutOf, setupOf, preparedAt, preparedOf, predictedAt, firstPredictionOf}
 use Rattle.between_steps.specs.Start.{firstStepOf as stepOf}
-use Rattle.questions.specs.declared.Session.{Session}
 use Rattle.questions.specs.Turns.{RunState}
-use Rattle.common.specs.Initial.{initialOf}
 use Rattle.machine.specs.Resume.{resumeOf}
 use Rattle.refusals.specs.declared.Options.{Options}
 use Rattle.refusals.specs.declared.Lengths.{Lengths}
@@ -30,27 +28,11 @@ use Rattle.invariants.proofs.Keeps.{Invariant, each, any, after-pass, K
 use Rattle.invariants.proofs.Walk.{resume-keeps}
 use Rattle.invariants.proofs.Floats.{either, literal, sum, quotient, absolute, signum}
 use Rattle.invariants.proofs.Sizes.{norm, initial-step, first-size}
-use Rattle.invariants.proofs.Records.{CommonFits, put-tn, put-h, put-told, put-pnorm}
+use Rattle.invariants.proofs.Records.{CommonFits, put-tn, put-h, put-told, put-pnorm, commons, floats, initial-fits}
 use Rattle.invariants.proofs.Steps.{first-call-fits, reset-fits, adjust-fits, predicted-fits, failed-fits}
 use Rattle.invariants.proofs.Steps.{no-convergence-fits, restep-fits}
 use Rattle.invariants.proofs.Correct.{begin-fits, finished-fits, open-fits, size-fits, judge-fits}
 use Rattle.invariants.proofs.Accept.{accept-fits}
-
-commons : (x : Session) → FloatsFit x → CommonFits (x .common)
-commons x f = record {
-  hmin = f .hmin; hmxi = f .hmxi;
-  tn = f .tn; h = f .h; hu = f .hu; told = f .told; rc = f .rc; el0 = f .el0; conit = f .conit; rmax = f .rmax;
-  pdest = f .pdest; pdlast = f .pdlast; pdnorm = f .pdnorm; convrate = f .convrate; pnorm = f .pnorm; rate = f .rate;
-  delp = f .delp;
-}
-
-floats : (x : Session) → Fit (x .settings .xend) → Fit (x .settings .direction) → CommonFits (x .common) → FloatsFit x
-floats x xend direction c = record {
-  xend = xend; direction = direction; hmin = c .hmin; hmxi = c .hmxi;
-  tn = c .tn; h = c .h; hu = c .hu; told = c .told; rc = c .rc; el0 = c .el0; conit = c .conit; rmax = c .rmax;
-  pdest = c .pdest; pdlast = c .pdlast; pdnorm = c .pdnorm; convrate = c .convrate; pnorm = c .pnorm; rate = c .rate;
-  delp = c .delp;
-}
 
 -- ---- a reply
 
@@ -138,16 +120,6 @@ inverse-largest-fits x0 xend o = inverse-fits (largestOf o (xend ⊖ x0))
 first-step-fits : (o : Options) → Fit (o .«first_step») → Fit (givenStepOf o)
 unfolding givenStepOf
 first-step-fits o p = either Fit (eqb (o .«has_first_step») 0) zeroF _ (literal _) p
-
-initial-fits : (s : Settings) (x0 h hmin hmxi : Float) → Fit x0 → Fit h → Fit hmin → Fit hmxi
-    → CommonFits (initialOf s x0 h hmin hmxi)
-unfolding initialOf
-initial-fits s x0 h hmin hmxi p q m i = record {
-  hmin = m; hmxi = i;
-  tn = p; h = q; hu = literal _; told = p; rc = literal _; el0 = literal _; conit = literal _; rmax = literal _;
-  pdest = literal _; pdlast = literal _; pdnorm = literal _; convrate = literal _; pnorm = literal _; rate = literal _;
-  delp = literal _;
-}
 
 pub start-fits : (x0 xend : Float) (o : Options) (l : Lengths) → Fit x0 → Fit xend → Fit (o .«min_step»)
     → Fit (o .«first_step») → FloatsFit (startedSession x0 xend o l)
