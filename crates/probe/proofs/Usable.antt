@@ -1,7 +1,7 @@
 -- What the tests of sizes and of a lent record tell: what the callees require. Assumes nothing.
 use Prim.Native.Nat.{ℕ, _+_, _*_, _≤_}
-use mathlib.Core.Path.{_≡_}
-use mathlib.Core.Bool.{true}
+use mathlib.Core.Path.{_≡_, sym, _∙_}
+use mathlib.Core.Bool.{Bool, true}
 use mathlib.Core.List.{List}
 use native.Mathlib.Omega.{arith}
 use lib.Dec.{eqb, leb}
@@ -22,13 +22,12 @@ columns-fit n nq nqnyh len h =
     (leb-true nq 12 (p .0), leb-true (nq * n) nqnyh (q .0), leb-true (nqnyh + n) len (q .1))
 
 pub record Usable (fs : List Float) (cs : List ℕ) (work : ℕ) : Type 0 where
-  pub floats : length fs ≡ 11
-  pub counts : length cs ≡ 14
+  pub lists : (length fs ≡ 11) × (length cs ≡ 14)
   pub range : StepInRange (lentSettings fs cs) (lentCommon fs cs)
   pub long : matrixAt (lentSettings fs cs .n) ≤ work
   pub limits : (lentSettings fs cs .mxordn ≤ 1000000) × (lentSettings fs cs .mxords ≤ 1000000)
 
-pub usable : (fs : List Float) (cs : List ℕ) (work : ℕ) → isUsable fs cs work ≡ true → Usable fs cs work
+usable : (fs : List Float) (cs : List ℕ) (work : ℕ) → isUsable fs cs work ≡ true → Usable fs cs work
 unfolding isUsable lentSettings lentCommon areLimits inRange
 usable fs cs work h =
     let p = both (eqb (length fs) 11) _ h in
@@ -45,8 +44,7 @@ usable fs cs work h =
     let r5 = both (leb (matrixAt n) work) _ (r4 .1) in
     let k = columns-fit n (getD cs 5 0) (getD cs 7 0) (ewtAt n) (r5 .1) in
     record {
-      floats = eqb-true (length fs) 11 (p .0);
-      counts = eqb-true (length cs) 14 (q .0);
+      lists = (eqb-true (length fs) 11 (p .0), eqb-true (length cs) 14 (q .0));
       range = record {
         n = (leb-true 1 n (r1 .0), leb-true n 64 (r2 .0));
         order = (leb-true 1 (getD cs 5 0) (r3 .0), k .0);
@@ -57,3 +55,7 @@ usable fs cs work h =
       long = leb-true (matrixAt n) work (r5 .0);
       limits = (leb-true (getD cs 1 0) 1000000 (l1 .0), leb-true (getD cs 2 0) 1000000 (l2 .0));
     }
+
+pub usable-by : {fs : List Float} {cs : List ℕ} {work : ℕ} {r : Bool} → r ≡ isUsable fs cs work → r ≡ true
+    → Usable fs cs work
+usable-by e h = usable _ _ _ (sym e ∙ h)

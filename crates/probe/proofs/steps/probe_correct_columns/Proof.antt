@@ -1,27 +1,16 @@
 -- `probe_correct_columns` meets its contract: each way returns what `correctLeft` says under the tests that led there.
 -- Assumes nothing.
-use mathlib.Core.Path.{sym, _∙_}
 use borrow.Author.Needs.{needs}
 use Rattle.probe.specs.Left.{correctLeft}
-use Rattle.probe.proofs.Usable.{usable}
+use Rattle.probe.proofs.Usable.{usable-by}
 use Rattle.probe.proofs.steps.probe_correct_columns.Statement.{statement}
 use Rattle.probe.proofs.steps.probe_correct_columns.Tie as tie
-
-settings-requires : tie.Need-settings-requires
-settings-requires c κs =
-    let t = usable _ _ _ (sym (c .before .is-usable .ensures) ∙ c .if1 .taken) in
-    (t .floats, t .counts)
-
-common-requires : tie.Need-common-requires
-common-requires c κs =
-    let t = usable _ _ _ (sym (c .before .before .is-usable .ensures) ∙ c .before .if1 .taken) in
-    (t .floats, t .counts)
 
 correct-columns-requires : tie.Need-correct-columns-requires
 correct-columns-requires c κs =
     let b = c .before in
     let a = b .before in
-    let t = usable _ _ _ (sym (a .before .before .is-usable .ensures) ∙ a .before .if1 .taken) in
+    let t = usable-by (a .before .before .is-usable .ensures) (a .before .if1 .taken) in
     rw (b .common .ensures, a .settings .ensures) (t .range, t .long)
 
 returns : tie.Need-returns
@@ -46,5 +35,7 @@ pub probe-correct-columns-spec : {M : Type 1} → statement M
 probe-correct-columns-spec =
     tie.close
     (tie.spec
-    (λ c κs. search needs) settings-requires common-requires correct-columns-requires (λ c. search needs) returns
-    returns-2)
+    (λ c κs. search needs)
+    (λ c κs. usable-by (c .before .is-usable .ensures) (c .if1 .taken) .lists)
+    (λ c κs. usable-by (c .before .before .is-usable .ensures) (c .before .if1 .taken) .lists)
+    correct-columns-requires (λ c. search needs) returns returns-2)

@@ -1,7 +1,6 @@
 -- `probe_snapshot_step` meets its contract: each way returns what `snapshotLeft` says under the tests that led there.
 -- Assumes nothing.
-use Prim.Native.Nat.{_≤_, _<_}
-use mathlib.Core.Path.{sym, _∙_}
+use Prim.Native.Nat.{_+_, _*_, _≤_, _<_}
 use native.Mathlib.Omega.{arith}
 use borrow.Author.Needs.{needs}
 use lib.ListN.{length}
@@ -10,7 +9,7 @@ use Rattle.common.specs.Limits.{maxStates}
 use Rattle.common.specs.Layout.{ewtAt, questionLength}
 use Rattle.probe.specs.Lent.{lentSettings}
 use Rattle.probe.specs.Left.{snapshotLeft}
-use Rattle.probe.proofs.Usable.{usable}
+use Rattle.probe.proofs.Usable.{usable-by}
 use Rattle.probe.proofs.steps.probe_snapshot_step.Statement.{statement}
 use Rattle.probe.proofs.steps.probe_snapshot_step.Tie as tie
 
@@ -18,17 +17,11 @@ returns : tie.Need-returns
 unfolding snapshotLeft
 returns c = rw (← c .before .is-usable .ensures, not-true (c .before .is-usable .result) (c .if1 .taken))
 
-settings-requires : tie.Need-settings-requires
-settings-requires c κs =
-    let w = c .before in
-    let t = usable _ _ _ (sym (w .is-usable .ensures) ∙ not-false (w .is-usable .result) (c .if1 .left)) in
-    (t .floats, t .counts)
-
 mul-if2 : tie.Need-mul-if2
 mul-if2 c =
     let s = c .before in
     let w = s .before .before in
-    let t = usable _ _ _ (sym (w .is-usable .ensures) ∙ not-false (w .is-usable .result) (s .before .if1 .left)) in
+    let t = usable-by (w .is-usable .ensures) (not-false _ (s .before .if1 .left)) in
     let small : s .settings .result .n ≤ maxStates = rw (s .settings .ensures) (t .range .n .1) in
     omega arith
 
@@ -36,7 +29,7 @@ add-if2 : tie.Need-add-if2
 add-if2 c =
     let s = c .before in
     let w = s .before .before in
-    let t = usable _ _ _ (sym (w .is-usable .ensures) ∙ not-false (w .is-usable .result) (s .before .if1 .left)) in
+    let t = usable-by (w .is-usable .ensures) (not-false _ (s .before .if1 .left)) in
     let small : s .settings .result .n ≤ maxStates = rw (s .settings .ensures) (t .range .n .1) in
     omega arith
 
@@ -50,19 +43,12 @@ returns-2 c =
     let short : length (a .question .now) < questionLength n = rw (← s .settings .ensures) (c .if2 .taken) in
     rw (← w .is-usable .ensures, not-false (w .is-usable .result) (s .before .if1 .left), lt-leb _ _ short)
 
-common-requires : tie.Need-common-requires
-common-requires c κs =
-    let i = c .before .before .before in
-    let w = i .before in
-    let t = usable _ _ _ (sym (w .is-usable .ensures) ∙ not-false (w .is-usable .result) (i .if1 .left)) in
-    (t .floats, t .counts)
-
 snapshot-step-requires : tie.Need-snapshot-step-requires
 snapshot-step-requires c κs =
     let b = c .before in
     let s = c .before .before .before .before in
     let w = s .before .before in
-    let t = usable _ _ _ (sym (w .is-usable .ensures) ∙ not-false (w .is-usable .result) (s .before .if1 .left)) in
+    let t = usable-by (w .is-usable .ensures) (not-false _ (s .before .if1 .left)) in
     let a = w .before .before .before .before .before .args in
     let range = rw (← s .settings .ensures) at (t .range .n) in
     let long : ewtAt (s .settings .result .n) ≤ length (a .work .now) =
@@ -93,5 +79,9 @@ pub probe-snapshot-step-spec : {M : Type 1} → statement M
 probe-snapshot-step-spec =
     tie.close
     (tie.spec
-    (λ c κs. search needs) returns settings-requires mul-if2 add-if2 returns-2 common-requires snapshot-step-requires
-    (λ c. search needs) returns-3)
+    (λ c κs. search needs) returns
+    (λ c κs. usable-by (c .before .is-usable .ensures) (not-false _ (c .if1 .left)) .lists)
+    mul-if2 add-if2 returns-2
+    (λ c κs. usable-by (c .before .before .before .before .is-usable .ensures)
+      (not-false _ (c .before .before .before .if1 .left)) .lists)
+    snapshot-step-requires (λ c. search needs) returns-3)
