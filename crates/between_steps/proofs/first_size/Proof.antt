@@ -12,41 +12,32 @@ use lib.Ieee as Ieee
 use Rattle.between_steps.proofs.first_size.Statement.{statement}
 use Rattle.between_steps.proofs.first_size.Tie as tie
 
+first : (j : tie.Joined1) → let a = j .before .before .args in
+    j .if1 .h1 ≡ cond (Ieee.ne (a .c .hmxi) zeroF) (a .h ⊘ maxOf (absOf (a .h) ⊗ a .c .hmxi) oneF) (a .h)
+first j =
+    ⊎-elim (λ w. w .4 ∙ rw (w .0 .taken, w .3 .ensures, w .1 .ensures)) (λ w. w .1 ∙ rw (w .0 .left)) (j .if1 .came)
+
+second : (k : tie.Joined2) → let j = k .before .before .before .before .before in let a = j .before .before .args in
+    let d = a .s .xend ⊖ a .c .tn in
+    k .if2 .h2 ≡ cond (Ieee.lt (absOf d) (absOf (j .if1 .h1))) d (j .if1 .h1)
+second k =
+    let end = k .before .abs3 .ensures in
+    let size = k .before .before .before .before .abs2 .ensures in
+    ⊎-elim (λ w. w .3 ∙ rw (← end, ← size, w .0 .taken)) (λ w. w .1 ∙ rw (← end, ← size, w .0 .left)) (k .if2 .came)
+
 returns : tie.Need-returns
 unfolding firstSizeOf
 returns c =
     let k = c .before .before .before .before .before in
-    let j = k .before .before .before .before .before in
-    let a = j .before .before .args in
-    let d = a .s .xend ⊖ a .c .tn in
-    let h1 : j .if1 .h1 ≡ cond (Ieee.ne (a .c .hmxi) zeroF) (a .h ⊘ maxOf (absOf (a .h) ⊗ a .c .hmxi) oneF) (a .h) =
-    ⊎-elim (λ w. w .4 ∙ rw (w .0 .taken, w .3 .ensures, w .1 .ensures)) (λ w. w .1 ∙ rw (w .0 .left)) (j .if1 .came)
-    in
-    let h2 : k .if2 .h2 ≡ cond (Ieee.lt (absOf d) (absOf (j .if1 .h1))) d (j .if1 .h1) =
-    ⊎-elim (λ w. w .3 ∙ rw (← k .before .abs3 .ensures, ← k .before .before .before .before .abs2 .ensures,
-      w .0 .taken))
-    (λ w. w .1 ∙ rw (← k .before .abs3 .ensures, ← k .before .before .before .before .abs2 .ensures,
-      w .0 .left)) (k .if2 .came)
-    in
-    rw (← h1, ← h2, ← c .before .before .before .before .abs4 .ensures, c .before .before .if3 .taken)
+    rw (← first (k .before .before .before .before .before), ← second k,
+      ← c .before .before .before .before .abs4 .ensures, c .before .before .if3 .taken)
 
 returns-2 : tie.Need-returns-2
 unfolding firstSizeOf
 returns-2 c =
     let k = c .before .before .before in
-    let j = k .before .before .before .before .before in
-    let a = j .before .before .args in
-    let d = a .s .xend ⊖ a .c .tn in
-    let h1 : j .if1 .h1 ≡ cond (Ieee.ne (a .c .hmxi) zeroF) (a .h ⊘ maxOf (absOf (a .h) ⊗ a .c .hmxi) oneF) (a .h) =
-    ⊎-elim (λ w. w .4 ∙ rw (w .0 .taken, w .3 .ensures, w .1 .ensures)) (λ w. w .1 ∙ rw (w .0 .left)) (j .if1 .came)
-    in
-    let h2 : k .if2 .h2 ≡ cond (Ieee.lt (absOf d) (absOf (j .if1 .h1))) d (j .if1 .h1) =
-    ⊎-elim (λ w. w .3 ∙ rw (← k .before .abs3 .ensures, ← k .before .before .before .before .abs2 .ensures,
-      w .0 .taken))
-    (λ w. w .1 ∙ rw (← k .before .abs3 .ensures, ← k .before .before .before .before .abs2 .ensures,
-      w .0 .left)) (k .if2 .came)
-    in
-    rw (← h1, ← h2, ← c .before .before .abs4 .ensures, c .if3 .left)
+    rw (← first (k .before .before .before .before .before), ← second k, ← c .before .before .abs4 .ensures,
+      c .if3 .left)
 
 pub first-size-spec : {M : Type 1} → statement M
 first-size-spec =
