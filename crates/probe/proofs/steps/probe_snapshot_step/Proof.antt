@@ -9,7 +9,7 @@ use Rattle.common.specs.Limits.{maxStates}
 use Rattle.common.specs.Layout.{ewtAt, questionLength}
 use Rattle.probe.specs.Lent.{lentSettings}
 use Rattle.probe.specs.Left.{snapshotLeft}
-use Rattle.probe.proofs.Usable.{usable-by}
+use Rattle.probe.proofs.Usable.{Usable, usable-by}
 use Rattle.probe.proofs.steps.probe_snapshot_step.Statement.{statement}
 use Rattle.probe.proofs.steps.probe_snapshot_step.Tie as tie
 
@@ -17,21 +17,12 @@ returns : tie.Need-returns
 unfolding snapshotLeft
 returns c = rw (← c .before .is-usable .ensures, not-true (c .before .is-usable .result) (c .if1 .taken))
 
-mul-if2 : tie.Need-mul-if2
-mul-if2 c =
-    let s = c .before in
-    let w = s .before .before in
-    let t = usable-by (w .is-usable .ensures) (not-false _ (s .before .if1 .left)) in
-    let small : s .settings .result .n ≤ maxStates = rw (s .settings .ensures) (t .range .n .1) in
-    omega arith
+fits : (i : tie.Else1) → let a = i .before .before .before .before .before .before .args in
+    Usable (a .floats .now) (a .counts .now) (length (a .work .now))
+fits i = usable-by (i .before .is-usable .ensures) (not-false _ (i .if1 .left))
 
-add-if2 : tie.Need-add-if2
-add-if2 c =
-    let s = c .before in
-    let w = s .before .before in
-    let t = usable-by (w .is-usable .ensures) (not-false _ (s .before .if1 .left)) in
-    let small : s .settings .result .n ≤ maxStates = rw (s .settings .ensures) (t .range .n .1) in
-    omega arith
+few : (s : tie.After-settings) → s .settings .result .n ≤ maxStates
+few s = rw (s .settings .ensures) (fits (s .before) .range .n .1)
 
 returns-2 : tie.Need-returns-2
 unfolding snapshotLeft
@@ -47,9 +38,8 @@ snapshot-step-requires : tie.Need-snapshot-step-requires
 snapshot-step-requires c κs =
     let b = c .before in
     let s = c .before .before .before .before in
-    let w = s .before .before in
-    let t = usable-by (w .is-usable .ensures) (not-false _ (s .before .if1 .left)) in
-    let a = w .before .before .before .before .before .args in
+    let t = fits (s .before) in
+    let a = s .before .before .before .before .before .before .before .args in
     let range = rw (← s .settings .ensures) at (t .range .n) in
     let long : ewtAt (s .settings .result .n) ≤ length (a .work .now) =
     rw (s .settings .ensures) (omega (arith, t .long)) in
@@ -79,9 +69,6 @@ pub probe-snapshot-step-spec : {M : Type 1} → statement M
 probe-snapshot-step-spec =
     tie.close
     (tie.spec
-    (λ c κs. search needs) returns
-    (λ c κs. usable-by (c .before .is-usable .ensures) (not-false _ (c .if1 .left)) .lists)
-    mul-if2 add-if2 returns-2
-    (λ c κs. usable-by (c .before .before .before .before .is-usable .ensures)
-      (not-false _ (c .before .before .before .if1 .left)) .lists)
+    (λ c κs. search needs) returns (λ c κs. fits c .lists) (λ c. omega (arith, few (c .before)))
+    (λ c. omega (arith, few (c .before))) returns-2 (λ c κs. fits (c .before .before .before) .lists)
     snapshot-step-requires (λ c. search needs) returns-3)

@@ -2,27 +2,22 @@
 -- there.
 -- Assumes nothing.
 use borrow.Author.Needs.{needs}
+use Rattle.common.specs.Limits.{maxStates}
+use Rattle.common.specs.Layout.{matrixAt}
 use Rattle.probe.specs.Left.{initLeft}
-use Rattle.probe.proofs.Usable.{usable-by}
+use Rattle.probe.proofs.Usable.{Usable, usable-by}
 use Rattle.probe.proofs.steps.probe_stoda_first_call_init.Statement.{statement}
 use Rattle.probe.proofs.steps.probe_stoda_first_call_init.Tie as tie
+
+fits : (i : tie.Then1) → let a = i .before .before .before .before .before .before .args in
+    Usable (a .floats .now) (a .counts .now) (matrixAt maxStates)
+fits i = usable-by (i .before .is-usable .ensures) (i .if1 .taken)
 
 stoda-first-call-init-requires : tie.Need-stoda-first-call-init-requires
 stoda-first-call-init-requires c κs =
     let a = c .before .before .before in
-    let i = a .before .before .before in
-    let t = usable-by (i .before .is-usable .ensures) (i .if1 .taken) in
+    let t = fits (a .before .before .before) in
     rw (a .settings .ensures) (t .limits)
-
-put-floats-requires : tie.Need-put-floats-requires
-put-floats-requires c κs =
-    let i = c .before .before .before .before .before .before .before .before in
-    usable-by (i .before .is-usable .ensures) (i .if1 .taken) .lists .0
-
-put-counts-requires : tie.Need-put-counts-requires
-put-counts-requires c κs =
-    let i = c .before .before .before .before .before .before .before .before .before .before .before .before in
-    usable-by (i .before .is-usable .ensures) (i .if1 .taken) .lists .1
 
 returns : tie.Need-returns
 unfolding initLeft
@@ -44,8 +39,9 @@ probe-stoda-first-call-init-spec =
     tie.close
     (tie.spec
     (λ c κs. search needs)
-    (λ c κs. usable-by (c .before .before .before .is-usable .ensures) (c .before .before .if1 .taken) .lists)
-    (λ c κs. usable-by (c .before .before .before .before .before .before .is-usable .ensures)
-      (c .before .before .before .before .before .if1 .taken) .lists)
-    stoda-first-call-init-requires put-floats-requires put-counts-requires (λ c. search needs) (λ c. search needs)
-    returns (λ c. search needs) (λ c. search needs) returns-2)
+    (λ c κs. fits (c .before .before) .lists) (λ c κs. fits (c .before .before .before .before .before) .lists)
+    stoda-first-call-init-requires
+    (λ c κs. fits (c .before .before .before .before .before .before .before .before) .lists .0)
+    (λ c κs. fits (c .before .before .before .before .before .before .before .before .before .before .before .before)
+      .lists .1)
+    (λ c. search needs) (λ c. search needs) returns (λ c. search needs) (λ c. search needs) returns-2)
