@@ -1,5 +1,5 @@
-"""What is made outside the crates: the table of docs/SESSION.md, and the length and the fields that hosts and the
-oracle go by."""
+"""What is made outside the library's crates: the table of docs/SESSION.md, and the length, the fields and the place
+that hosts, the oracle and the rig go by."""
 from .table import *
 
 # A field's meaning, where its comment also says the range.
@@ -64,3 +64,5 @@ def make(put):
     put("hosts/python/raimsklo/library.py", f"SESSION_LENGTH = {SESSION_LENGTH}\n", "the length of a session")
     put("hosts/rust/src/lib.rs", f"const SESSION: usize = {SESSION_LENGTH};\n", "the length of a session")
     put("oracle/runs/src/session.rs", oracle(), "the fields")
+    family = f"const FAMILY_AT: usize = 8 * {BY_NAME['meth'].word};\n"
+    put("crates/rig/src/main.rt", family, "the family's place")

@@ -1,8 +1,12 @@
 // The rig: a chain of 32 links, whose angles are the states 0 to 31 and whose speeds are 32 to 63. A spring holds each
 // link to both its neighbours, the first one to a root that is turned by 1.2·t/(1 + t²). Each has drag, and gravity by
 // the first two terms of the sine.
-ghost use Prim.Native.Nat.{_<_, _≤_};
+ghost use Prim.Native.Nat.{_*_, _<_, _≤_};
 ghost use lib.ListN.{length};
+ghost use Rattle.common.specs.Limits.{maxStates};
+
+// As many states as the library takes at most.
+pub const STATES: usize = common::MAX_STATES;
 
 const SPRING: f64 = 80.0;
 
@@ -12,7 +16,7 @@ const GRAVITY: f64 = 9.81;
 
 // Every link is held aside, at rest.
 pub fn first_pose(y: &mut [f64])
-    requires { ⌜ 64 ≤ length (now y) ⌝ }
+    requires { ⌜ maxStates ≤ length (now y) ⌝ }
 {
     for i in 0..32usize {
         y[i] = 0.5;
@@ -22,7 +26,7 @@ pub fn first_pose(y: &mut [f64])
 
 // The angle of the neighbour towards the root.
 fn above(t: f64, y: &[f64], i: usize) -> f64
-    requires { ⌜ (i < 32) × (64 ≤ length (now y)) ⌝ }
+    requires { ⌜ (i < 32) × (maxStates ≤ length (now y)) ⌝ }
 {
     if i == 0 {
         return 1.2 * t / (1.0 + t * t);
@@ -32,7 +36,7 @@ fn above(t: f64, y: &[f64], i: usize) -> f64
 
 // The angle of the other neighbour; the last link has none.
 fn below(y: &[f64], i: usize) -> f64
-    requires { ⌜ (i < 32) × (64 ≤ length (now y)) ⌝ }
+    requires { ⌜ (i < 32) × (maxStates ≤ length (now y)) ⌝ }
 {
     if i == 31 {
         return y[i];
@@ -41,7 +45,7 @@ fn below(y: &[f64], i: usize) -> f64
 }
 
 fn acceleration(t: f64, y: &[f64], i: usize) -> f64
-    requires { ⌜ (i < 32) × (64 ≤ length (now y)) ⌝ }
+    requires { ⌜ (i < 32) × (maxStates ≤ length (now y)) ⌝ }
 {
     let a = y[i];
     let pull = SPRING * (above(t, y, i) - a + (below(y, i) - a));
@@ -49,7 +53,7 @@ fn acceleration(t: f64, y: &[f64], i: usize) -> f64
 }
 
 pub fn derivative(t: f64, y: &[f64], f: &mut [f64])
-    requires { ⌜ (64 ≤ length (now y)) × (64 ≤ length (now f)) ⌝ }
+    requires { ⌜ (maxStates ≤ length (now y)) × (maxStates ≤ length (now f)) ⌝ }
 {
     for i in 0..32usize {
         f[i] = y[32 + i];
@@ -60,9 +64,9 @@ pub fn derivative(t: f64, y: &[f64], f: &mut [f64])
 // ---- the Jacobian, column by column
 
 fn put(j: &mut [f64], row: usize, column: usize, x: f64)
-    requires { ⌜ (row < 64) × (column < 64) × (4096 ≤ length (now j)) ⌝ }
+    requires { ⌜ (row < maxStates) × (column < maxStates) × (maxStates * maxStates ≤ length (now j)) ⌝ }
 {
-    j[row + 64 * column] = x;
+    j[row + STATES * column] = x;
 }
 
 // What the angle a of link i does to its own acceleration.
@@ -75,7 +79,7 @@ fn own(i: usize, a: f64) -> f64 {
 }
 
 fn to_above(i: usize, j: &mut [f64])
-    requires { ⌜ (i < 32) × (4096 ≤ length (now j)) ⌝ }
+    requires { ⌜ (i < 32) × (maxStates * maxStates ≤ length (now j)) ⌝ }
 {
     if i == 0 {
         return;
@@ -84,7 +88,7 @@ fn to_above(i: usize, j: &mut [f64])
 }
 
 fn to_below(i: usize, j: &mut [f64])
-    requires { ⌜ (i < 32) × (4096 ≤ length (now j)) ⌝ }
+    requires { ⌜ (i < 32) × (maxStates * maxStates ≤ length (now j)) ⌝ }
 {
     if i == 31 {
         return;
@@ -93,7 +97,7 @@ fn to_below(i: usize, j: &mut [f64])
 }
 
 fn link(i: usize, a: f64, j: &mut [f64])
-    requires { ⌜ (i < 32) × (4096 ≤ length (now j)) ⌝ }
+    requires { ⌜ (i < 32) × (maxStates * maxStates ≤ length (now j)) ⌝ }
 {
     put(j, i, 32 + i, 1.0);
     put(j, 32 + i, 32 + i, -DRAG);
@@ -109,7 +113,7 @@ fn clear(j: &mut [f64]) {
 }
 
 pub fn jacobian(y: &[f64], j: &mut [f64])
-    requires { ⌜ (64 ≤ length (now y)) × (4096 ≤ length (now j)) ⌝ }
+    requires { ⌜ (maxStates ≤ length (now y)) × (maxStates * maxStates ≤ length (now j)) ⌝ }
 {
     clear(j);
     for i in 0..32usize {

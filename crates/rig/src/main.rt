@@ -3,16 +3,28 @@
 // Prints the pose at each quarter of a second, what the run cost beside what was seen of it, and the last pose bit by
 // bit. Each report's count is held to the derivatives that were asked for since the one before, and to the cap of a
 // step with as many Jacobians as were begun in it; a report that is not so is counted as wrong.
-ghost use Prim.Native.Nat.{_≤_};
+ghost use Prim.Native.Nat.{_*_, _≤_};
 ghost use mathlib.Core.Path.{_≡_};
 ghost use lib.ListN.{length};
+ghost use Rattle.common.specs.Layout.{questionLength};
+ghost use Rattle.common.specs.Limits.{maxStates};
 ghost use Rattle.common.specs.SessionWords.{sessionLength};
 
 mod chain;
 mod show;
 
+use chain::STATES;
 use raimsklo::Reply;
 use refusals::Options;
+
+// How many numbers the Jacobian and the question have.
+const JACOBIAN_LENGTH: usize = STATES * STATES;
+
+const QUESTION_LENGTH: usize = common::QUESTION * STATES + common::HEADER;
+
+// made by tools/record.py: the family's place
+const FAMILY_AT: usize = 8 * 12;
+// end of the family's place
 
 // The most derivatives that a step asks for with mxncf 10 and maxcor 3, beside the columns of its Jacobians:
 // (mxncf + 9)·maxcor + 7 where it begins in Adams, (mxncf + 12)·maxcor + 7 in the other family.
@@ -142,7 +154,7 @@ fn requested(w: Watch, r: Reply, first: bool) -> Watch {
         v.jacobians = added(w.jacobians, 1);
     }
     if first {
-        v.columns = added(w.columns, 64);
+        v.columns = added(w.columns, STATES);
     }
     if r.number == 100 {
         v.asked = added(w.asked, 1);
@@ -155,7 +167,7 @@ fn requested(w: Watch, r: Reply, first: bool) -> Watch {
 // Whether this request is for the first column of a Jacobian by differences: at the time of the last derivative, and at
 // the pose that it asked for but for the first state.
 fn is_first(r: Reply, at: f64, pose: &[f64], y: &[f64]) -> bool
-    requires { ⌜ (64 ≤ length (now pose)) × (64 ≤ length (now y)) ⌝ }
+    requires { ⌜ (maxStates ≤ length (now pose)) × (maxStates ≤ length (now y)) ⌝ }
 {
     if r.number != 100 {
         return false;
@@ -166,7 +178,7 @@ fn is_first(r: Reply, at: f64, pose: &[f64], y: &[f64]) -> bool
     if y[0] == pose[0] {
         return false;
     }
-    for i in 1..64usize {
+    for i in 1..STATES {
         if y[i] != pose[i] {
             return false;
         }
@@ -176,10 +188,13 @@ fn is_first(r: Reply, at: f64, pose: &[f64], y: &[f64]) -> bool
 
 // What was seen with this question, whose pose is kept. The family is a byte of the session: docs/SESSION.md.
 fn watched(w: Watch, r: Reply, pose: &mut [f64], session: &[u8], y: &[f64]) -> Watch
-    requires { ⌜ (length (now pose) ≡ 64) × (length (now session) ≡ sessionLength) × (length (now y) ≡ 902) ⌝ }
+    requires {
+        ⌜ (length (now pose) ≡ maxStates) × (length (now session) ≡ sessionLength)
+        × (length (now y) ≡ questionLength maxStates) ⌝
+    }
 {
     if r.number > 101 {
-        return reported(w, r, session[96]);
+        return reported(w, r, session[FAMILY_AT]);
     }
     let first = is_first(r, w.at, pose, y);
     copy(y, pose);
@@ -188,7 +203,7 @@ fn watched(w: Watch, r: Reply, pose: &mut [f64], session: &[u8], y: &[f64]) -> W
 
 // The pose at time t, if it lies within the reported step.
 fn frame(t: f64, r: Reply, question: &[f64], pose: &mut [f64])
-    requires { ⌜ (902 ≤ length (now question)) × (64 ≤ length (now pose)) ⌝ }
+    requires { ⌜ (questionLength maxStates ≤ length (now question)) × (maxStates ≤ length (now pose)) ⌝ }
 {
     if t <= r.previous {
         return;
@@ -199,14 +214,14 @@ fn frame(t: f64, r: Reply, question: &[f64], pose: &mut [f64])
     if r.order > 12 {
         return;
     }
-    let end = 70 + 64 * (r.order + 1);
-    let refused = raimsklo::raimsklo_interpolate(t, pose, &question[64..end]);
+    let end = STATES + common::HEADER + STATES * (r.order + 1);
+    let refused = raimsklo::raimsklo_interpolate(t, pose, &question[STATES..end]);
     show::frame(t, refused, pose);
 }
 
 // At each quarter of a second.
 fn frames(r: Reply, question: &[f64], pose: &mut [f64])
-    requires { ⌜ (902 ≤ length (now question)) × (64 ≤ length (now pose)) ⌝ }
+    requires { ⌜ (questionLength maxStates ≤ length (now question)) × (maxStates ≤ length (now pose)) ⌝ }
 {
     for k in 1..9u32 {
         frame(k as f64 * 0.25, r, question, pose);
@@ -233,7 +248,7 @@ fn kind(number: usize) -> usize {
 
 // What the host replies to a wanted derivative, or to a report: y as it is.
 fn fill_in(asked: Reply, question: &[f64], numbers: &mut [f64])
-    requires { ⌜ (length (now numbers) ≡ 64) × (902 ≤ length (now question)) ⌝ }
+    requires { ⌜ (length (now numbers) ≡ maxStates) × (questionLength maxStates ≤ length (now question)) ⌝ }
 {
     if asked.number == 100 {
         chain::derivative(asked.time, question, numbers);
@@ -253,7 +268,10 @@ fn replied(
     session: &mut [u8],
     question: &mut [f64],
 ) -> Reply
-    requires { ⌜ (length (now numbers) ≡ 64) × (length (now columns) ≡ 4096) × (length (now question) ≡ 902) ⌝ }
+    requires {
+        ⌜ (length (now numbers) ≡ maxStates) × (length (now columns) ≡ maxStates * maxStates)
+        × (length (now question) ≡ questionLength maxStates) ⌝
+    }
 {
     if asked.number == 101 {
         chain::jacobian(question, columns);
@@ -279,7 +297,7 @@ fn start(
     session: &mut [u8],
     question: &mut [f64],
 ) -> Reply
-    requires { ⌜ 64 ≤ length (now numbers) ⌝ }
+    requires { ⌜ maxStates ≤ length (now numbers) ⌝ }
 {
     chain::first_pose(numbers);
     raimsklo::raimsklo_start(
@@ -308,8 +326,9 @@ fn turn(
     question: &mut [f64],
 ) -> Outcome
     requires {
-        ⌜ (length (now pose) ≡ 64) × (length (now numbers) ≡ 64) × (length (now columns) ≡ 4096)
-        × (length (now session) ≡ sessionLength) × (length (now question) ≡ 902) ⌝
+        ⌜ (length (now pose) ≡ maxStates) × (length (now numbers) ≡ maxStates)
+        × (length (now columns) ≡ maxStates * maxStates) × (length (now session) ≡ sessionLength)
+        × (length (now question) ≡ questionLength maxStates) ⌝
     }
 {
     let w = watched(o.watch, o.end, pose, session, question);
@@ -328,8 +347,9 @@ fn drive(
     question: &mut [f64],
 ) -> Outcome
     requires {
-        ⌜ (length (now pose) ≡ 64) × (length (now numbers) ≡ 64) × (length (now columns) ≡ 4096)
-        × (length (now session) ≡ sessionLength) × (length (now question) ≡ 902) ⌝
+        ⌜ (length (now pose) ≡ maxStates) × (length (now numbers) ≡ maxStates)
+        × (length (now columns) ≡ maxStates * maxStates) × (length (now session) ≡ sessionLength)
+        × (length (now question) ≡ questionLength maxStates) ⌝
     }
 {
     let w = Watch {
@@ -379,13 +399,13 @@ fn cost(end: Reply, w: Watch) {
 }
 
 fn run(options: Options) {
-    let mut pose = [0.0; 64];
-    let mut numbers = [0.0; 64];
-    let mut columns = [0.0; 4096];
+    let mut pose = [0.0; STATES];
+    let mut numbers = [0.0; STATES];
+    let mut columns = [0.0; JACOBIAN_LENGTH];
     let mut work = [0.0; 5312];
-    let mut pivots = [0usize; 64];
+    let mut pivots = [0usize; STATES];
     let mut session = [0u8; common::SESSION_LENGTH];
-    let mut question = [0.0; 902];
+    let mut question = [0.0; QUESTION_LENGTH];
     let o = drive(
         options,
         &mut pose,

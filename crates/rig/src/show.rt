@@ -1,6 +1,7 @@
 // What the program prints: counts, times and angles in millionths, and patterns.
 ghost use Prim.Native.Nat.{_+_, _≤_};
 ghost use lib.ListN.{length};
+ghost use Rattle.common.specs.Limits.{maxStates};
 
 pub fn count(name: &[u8], n: usize) {
     io::write_all(1, name);
@@ -28,7 +29,7 @@ fn millionths(x: f64) {
 
 // The angles of the links 1, 16 and 32 at time t.
 pub fn frame(t: f64, refused: usize, y: &[f64])
-    requires { ⌜ 64 ≤ length (now y) ⌝ }
+    requires { ⌜ maxStates ≤ length (now y) ⌝ }
 {
     io::write_all(1, b"at");
     millionths(t);
@@ -44,10 +45,12 @@ pub fn frame(t: f64, refused: usize, y: &[f64])
 }
 
 // Four patterns to a line.
+const ROWS: usize = common::MAX_STATES / 4;
+
 pub fn pose(y: &[f64])
-    requires { ⌜ 64 ≤ length (now y) ⌝ }
+    requires { ⌜ maxStates ≤ length (now y) ⌝ }
 {
-    for i in 0..16usize {
+    for i in 0..ROWS {
         row(y, 4 * i);
     }
 }
