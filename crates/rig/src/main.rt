@@ -1,8 +1,7 @@
 // A rig of 64 states from its first pose to the end of two seconds, through the calls: once with the Jacobian by
 // differences, once with the rig's own. The state of a run is 5312 floats of this program, lent to each call.
 // Prints the pose at each quarter of a second, what the run cost beside what was seen of it, and the last pose bit by
-// bit. Each report's count is held to the derivatives that were asked for since the one before, and to the cap of a
-// step with as many Jacobians as were begun in it; a report that is not so is counted as wrong.
+// bit.
 ghost use Prim.Native.Nat.{_*_, _≤_};
 ghost use mathlib.Core.Path.{_≡_};
 ghost use lib.ListN.{length};
@@ -12,10 +11,12 @@ ghost use Rattle.common.specs.SessionWords.{sessionLength};
 
 mod chain;
 mod show;
+mod watch;
 
 use chain::STATES;
 use raimsklo::Reply;
 use refusals::Options;
+use watch::Watch;
 
 // How many numbers the Jacobian and the question have.
 const JACOBIAN_LENGTH: usize = STATES * STATES;
@@ -25,35 +26,6 @@ const QUESTION_LENGTH: usize = common::QUESTION * STATES + common::HEADER;
 // made by tools/record.py: the family's place
 const FAMILY_AT: usize = 8 * 12;
 // end of the family's place
-
-// The most derivatives that a step asks for with mxncf 10 and maxcor 3, beside the columns of its Jacobians:
-// (mxncf + 9)·maxcor + 7 where it begins in Adams, (mxncf + 12)·maxcor + 7 in the other family.
-const ADAMS: usize = 64;
-
-const BDF: usize = 73;
-
-// mxncf + 9.
-const JACOBIANS: usize = 19;
-
-// What was seen of a run.
-struct Watch {
-    // The reports, how many of them were wrong, the largest count with its cap, and the last one's time.
-    reports: usize,
-    wrong: usize,
-    most: usize,
-    capped: usize,
-    time: f64,
-    // Since the last report: the derivatives asked for, the Jacobians begun, and how many columns these have by
-    // differences. The family is the one in force there.
-    asked: usize,
-    begun: usize,
-    columns: usize,
-    family: u8,
-    // In all, and the time of the last derivative.
-    derivatives: usize,
-    jacobians: usize,
-    at: f64,
-}
 
 // The last answer, at the end the one that ended the run, and what was seen up to it.
 struct Outcome {
@@ -68,101 +40,7 @@ fn is_asked(number: usize) -> bool {
     number < 110
 }
 
-// ---- reports
-
-// A count and some more. It stops at a million.
-fn added(n: usize, more: usize) -> usize
-    requires { ⌜ more ≤ 100 ⌝ }
-{
-    if n < 1000000 {
-        return n + more;
-    }
-    n
-}
-
-fn cap(w: Watch) -> usize {
-    if w.family == 1 {
-        return added(w.columns, ADAMS);
-    }
-    added(w.columns, BDF)
-}
-
-// A report begins where the last one ended and its count is that of the derivatives seen since, but for the first: it
-// has none, and the one seen was the start's. Any other goes forward and keeps to both caps.
-fn is_right(w: Watch, r: Reply) -> bool {
-    if r.previous != w.time {
-        return false;
-    }
-    if r.number == 102 {
-        return r.count == 0 && w.asked == 1;
-    }
-    if r.time <= r.previous {
-        return false;
-    }
-    if r.count != w.asked {
-        return false;
-    }
-    if w.begun > JACOBIANS {
-        return false;
-    }
-    r.count <= cap(w)
-}
-
-fn larger(a: usize, b: usize) -> usize {
-    if a < b {
-        return b;
-    }
-    a
-}
-
-// The cap of the step with the largest count.
-fn capped(w: Watch, r: Reply) -> usize {
-    if w.most < r.count {
-        return cap(w);
-    }
-    w.capped
-}
-
-// How many reports were wrong.
-fn wrong(w: Watch, r: Reply) -> usize {
-    if is_right(w, r) {
-        return w.wrong;
-    }
-    added(w.wrong, 1)
-}
-
-// What was seen with this report, at which the given family is in force.
-fn reported(w: Watch, r: Reply, family: u8) -> Watch {
-    let mut v = w;
-    v.reports = added(w.reports, 1);
-    v.wrong = wrong(w, r);
-    v.most = larger(w.most, r.count);
-    v.capped = capped(w, r);
-    v.time = r.time;
-    v.asked = 0;
-    v.begun = 0;
-    v.columns = 0;
-    v.family = family;
-    v
-}
-
-// What was seen with this request: a derivative, which may be the first of a Jacobian's columns, or a Jacobian.
-fn requested(w: Watch, r: Reply, first: bool) -> Watch {
-    let mut v = w;
-    if first || r.number == 101 {
-        v.begun = added(w.begun, 1);
-        v.jacobians = added(w.jacobians, 1);
-    }
-    if first {
-        v.columns = added(w.columns, STATES);
-    }
-    if r.number == 100 {
-        v.asked = added(w.asked, 1);
-        v.derivatives = added(w.derivatives, 1);
-        v.at = r.time;
-    }
-    v
-}
+// ---- what is seen of a question
 
 // Whether this request is for the first column of a Jacobian by differences: at the time of the last derivative, and at
 // the pose that it asked for but for the first state.
@@ -194,11 +72,11 @@ fn watched(w: Watch, r: Reply, pose: &mut [f64], session: &[u8], y: &[f64]) -> W
     }
 {
     if r.number > 101 {
-        return reported(w, r, session[FAMILY_AT]);
+        return watch::reported(w, r, session[FAMILY_AT]);
     }
     let first = is_first(r, w.at, pose, y);
     copy(y, pose);
-    requested(w, r, first)
+    watch::requested(w, r, first)
 }
 
 // The pose at time t, if it lies within the reported step.
