@@ -1,13 +1,18 @@
 // A stored answer beside the one that a call gave. How it is read follows from the stored number alone.
 ghost use Prim.Native.Nat.{_+_, _*_, _≤_};
+ghost use mathlib.Core.Path.{_≡_};
 ghost use lib.ListN.{length};
 ghost use Rattle.common.specs.Layout.{questionLength};
 ghost use Rattle.common.specs.Limits.{maxStates};
+ghost use Rattle.replay_runs.specs.Answer.{isAsked, reportedOf, isRefusal, isTimed, isQuestion};
+ghost use Rattle.replay_runs.specs.Answer.{isReport, isEnd, isStored};
 use crate::words;
 use raimsklo::Reply;
 
 // Whether the stored answer asks for a reply.
-pub fn is_asked(stored: &[u64], at: usize) -> bool {
+pub fn is_asked(stored: &[u64], at: usize) -> bool
+    ensures { λ b. ⌜ b ≡ isAsked (now (stored .entry)) at ⌝ }
+{
     let number = words::word(stored, at);
     if number < 100 {
         return false;
@@ -18,7 +23,7 @@ pub fn is_asked(stored: &[u64], at: usize) -> bool {
 // How many numbers a report has: y, and the snapshot behind it.
 fn reported(order: usize, n: usize) -> usize
     requires { ⌜ (order ≤ 12) × (n ≤ maxStates) ⌝ }
-    ensures { λ r. ⌜ (n ≤ r) × (r ≤ questionLength n) ⌝ }
+    ensures { λ r. ⌜ (r ≡ reportedOf order n) × (n ≤ r) × (r ≤ questionLength n) ⌝ }
 {
     n + common::HEADER + (order + 1) * n
 }
@@ -43,6 +48,7 @@ pub fn size(stored: &[u64], at: usize, n: usize) -> usize
 
 fn is_refusal(stored: &[u64], at: usize, r: Reply) -> bool
     requires { ⌜ at ≤ 1010000 ⌝ }
+    ensures { λ b. ⌜ b ≡ isRefusal (now (stored .entry)) at r ⌝ }
 {
     if !words::is_count(stored, at + 1, r.index) {
         return false;
@@ -50,14 +56,23 @@ fn is_refusal(stored: &[u64], at: usize, r: Reply) -> bool
     words::is_float(stored, at + 2, r.value)
 }
 
-// A derivative or a Jacobian wanted, or the first report, whose previous time is its time.
+// The first report's previous time is its time; what is wanted has none.
+fn is_timed(r: Reply) -> bool
+    ensures { λ b. ⌜ b ≡ isTimed r ⌝ }
+{
+    if r.number != 102 {
+        return true;
+    }
+    numbers::to_bits(r.previous) == numbers::to_bits(r.time)
+}
+
+// A derivative or a Jacobian wanted, or the first report.
 fn is_question(stored: &[u64], at: usize, r: Reply, y: &[f64]) -> bool
     requires { ⌜ (at ≤ 1010000) × (length (now y) ≤ maxStates) ⌝ }
+    ensures { λ b. ⌜ b ≡ isQuestion (now (stored .entry)) at r (now (y .entry)) ⌝ }
 {
-    if r.number == 102 {
-        if numbers::to_bits(r.previous) != numbers::to_bits(r.time) {
-            return false;
-        }
+    if !is_timed(r) {
+        return false;
     }
     if !words::is_float(stored, at + 1, r.time) {
         return false;
@@ -68,6 +83,7 @@ fn is_question(stored: &[u64], at: usize, r: Reply, y: &[f64]) -> bool
 // Previous time, time, count, order, y and snapshot.
 fn is_report(stored: &[u64], at: usize, r: Reply, numbers: &[f64]) -> bool
     requires { ⌜ (at ≤ 1010000) × (length (now numbers) ≤ 1000) ⌝ }
+    ensures { λ b. ⌜ b ≡ isReport (now (stored .entry)) at r (now (numbers .entry)) ⌝ }
 {
     if !words::is_float(stored, at + 1, r.previous) {
         return false;
@@ -86,6 +102,7 @@ fn is_report(stored: &[u64], at: usize, r: Reply, numbers: &[f64]) -> bool
 
 fn is_end(stored: &[u64], at: usize, r: Reply) -> bool
     requires { ⌜ at ≤ 1010000 ⌝ }
+    ensures { λ b. ⌜ b ≡ isEnd (now (stored .entry)) at r ⌝ }
 {
     if !words::is_float(stored, at + 1, r.h) {
         return false;
@@ -111,6 +128,7 @@ fn is_end(stored: &[u64], at: usize, r: Reply) -> bool
 // Whether the call answered what is stored.
 pub fn is_stored(stored: &[u64], at: usize, n: usize, r: Reply, question: &[f64]) -> bool
     requires { ⌜ (at ≤ 1010000) × (n ≤ maxStates) × (questionLength n ≤ length (now question)) ⌝ }
+    ensures { λ b. ⌜ b ≡ isStored (now (stored .entry)) at n r (now (question .entry)) ⌝ }
 {
     if !words::is_count(stored, at, r.number) {
         return false;

@@ -2,21 +2,26 @@
 ghost use Prim.Native.Nat.{_≤_};
 ghost use mathlib.Core.Path.{_≡_};
 ghost use lib.ListN.{length};
+ghost use Rattle.replay_runs.specs.Words.{wordOf, limitedOf, floatOf, isCount, isFloat, areFloats};
 
-pub fn word(words: &[u64], at: usize) -> u64 {
+pub fn word(words: &[u64], at: usize) -> u64
+    ensures { λ r. ⌜ r ≡ wordOf (now (words .entry)) at ⌝ }
+{
     if at < words.len() {
         return words[at];
     }
     0
 }
 
-pub fn count(words: &[u64], at: usize) -> usize {
+pub fn count(words: &[u64], at: usize) -> usize
+    ensures { λ r. ⌜ r ≡ wordOf (now (words .entry)) at ⌝ }
+{
     word(words, at) as usize
 }
 
 // A count that is at most so much.
 pub fn limited(words: &[u64], at: usize, most: usize) -> usize
-    ensures { λ r. ⌜ r ≤ most ⌝ }
+    ensures { λ r. ⌜ (r ≡ limitedOf (now (words .entry)) at most) × (r ≤ most) ⌝ }
 {
     let n = count(words, at);
     if n < most {
@@ -25,7 +30,9 @@ pub fn limited(words: &[u64], at: usize, most: usize) -> usize
     most
 }
 
-pub fn float(words: &[u64], at: usize) -> f64 {
+pub fn float(words: &[u64], at: usize) -> f64
+    ensures { λ r. ⌜ r ≡ floatOf (now (words .entry)) at ⌝ }
+{
     numbers::from_bits(word(words, at))
 }
 
@@ -41,16 +48,21 @@ pub fn floats(words: &[u64], at: usize) -> [f64; 4096]
     out
 }
 
-pub fn is_count(words: &[u64], at: usize, n: usize) -> bool {
+pub fn is_count(words: &[u64], at: usize, n: usize) -> bool
+    ensures { λ r. ⌜ r ≡ isCount (now (words .entry)) at n ⌝ }
+{
     word(words, at) == n as u64
 }
 
-pub fn is_float(words: &[u64], at: usize, x: f64) -> bool {
+pub fn is_float(words: &[u64], at: usize, x: f64) -> bool
+    ensures { λ r. ⌜ r ≡ isFloat (now (words .entry)) at x ⌝ }
+{
     word(words, at) == numbers::to_bits(x)
 }
 
 pub fn are_floats(words: &[u64], at: usize, list: &[f64]) -> bool
     requires { ⌜ (at ≤ 2000000) × (length (now list) ≤ 5000) ⌝ }
+    ensures { λ r. ⌜ r ≡ areFloats (now (words .entry)) at (now (list .entry)) ⌝ }
 {
     for i in 0..list.len() {
         if !is_float(words, at + i, list[i]) {

@@ -1,6 +1,7 @@
 -- `reported` meets its contract: the order is at most 12, so that the snapshot's columns are at most 13 times n.
 -- Assumes nothing.
 use Prim.Native.Nat.{_+_, _*_, _≤_}
+use mathlib.Core.Path.{refl}
 use native.Mathlib.Nat.{mul-le-mul-right}
 use native.Mathlib.Omega.{arith}
 use borrow.Author.Needs.{needs}
@@ -20,7 +21,7 @@ add-result-3 c =
 returns : tie.Need-returns
 returns c =
     let most : (c .args .order + 1) * c .args .n ≤ 13 * c .args .n = mul-le-mul-right (c .args .n) (omega arith) in
-    omega arith
+    (refl, omega arith, omega arith)
 
 pub reported-spec : {M : Type 1} → statement M
 reported-spec = tie.close (tie.spec (λ c. search needs) (λ c. search needs) mul-result add-result-3 returns)
