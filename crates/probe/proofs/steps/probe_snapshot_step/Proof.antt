@@ -1,6 +1,6 @@
 -- `probe_snapshot_step` meets its contract: each way returns what `snapshotLeft` says under the tests that led there.
 -- Assumes nothing.
-use Prim.Native.Nat.{_+_, _*_, _≤_, _<_}
+use Prim.Native.Nat.{_≤_, _<_}
 use native.Mathlib.Omega.{arith}
 use borrow.Author.Needs.{needs}
 use lib.ListN.{length}
