@@ -35,7 +35,8 @@ def function(name, record, fields, first=""):
 def definition(record, fields):
     return f"""unfoldable pub lent{record} : List Float → List ℕ → {record}
 lent{record} fs cs = record {{
-{lines((f"{f.name} = {lent(f, 1)};" for f in fields), "  ")}}}
+{wrapped([f"{f.name} = {lent(f, 1)};" for f in fields], "  ")}
+}}
 """
 
 

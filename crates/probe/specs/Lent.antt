@@ -26,92 +26,32 @@ number1 flag = cond flag 1 0
 -- made by tools/record.py: the record from the numbers that are lent
 unfoldable pub lentSettings : List Float → List ℕ → Settings
 lentSettings fs cs = record {
-  n = getD cs 0 0;
-  xend = zeroF;
-  direction = zeroF;
-  maxsteps = 0;
-  mxordn = getD cs 1 0;
-  mxords = getD cs 2 0;
-  maxcor = 0;
-  msbp = getD cs 3 0;
-  mxncf = 0;
-  supplied = false;
-  given = false;
-  nrtol = 0;
-  natol = 0;
+  n = getD cs 0 0; xend = zeroF; direction = zeroF; maxsteps = 0; mxordn = getD cs 1 0; mxords = getD cs 2 0;
+  maxcor = 0; msbp = getD cs 3 0; mxncf = 0; supplied = false; given = false; nrtol = 0; natol = 0;
 }
 
 unfoldable pub lentCommon : List Float → List ℕ → Common
 lentCommon fs cs = record {
-  hmin = zeroF;
-  hmxi = getD fs 0 nan;
-  tn = getD fs 1 nan;
-  h = getD fs 2 nan;
-  hu = getD fs 3 nan;
-  told = zeroF;
-  rc = getD fs 4 nan;
-  el0 = getD fs 5 nan;
-  conit = getD fs 6 nan;
-  rmax = getD fs 7 nan;
-  pdest = getD fs 8 nan;
-  pdlast = getD fs 9 nan;
-  pdnorm = zeroF;
-  convrate = getD fs 10 nan;
-  pnorm = zeroF;
-  rate = zeroF;
-  delp = zeroF;
-  meth = lentFamily (getD cs 4 0);
-  nq = getD cs 5 0;
-  lmax = getD cs 6 0;
-  nqnyh = getD cs 7 0;
-  ialth = getD cs 8 0;
-  icount = getD cs 9 0;
-  table = getD cs 10 0;
-  nslp = getD cs 11 0;
-  nst = getD cs 12 0;
-  nfe = 0;
-  nje = 0;
-  nlu = 0;
-  rejected = 0;
-  total = 0;
-  count = 0;
-  kflag = 0;
-  ncf = 0;
-  m = 0;
-  column = 0;
-  due = eqb (getD cs 13 0) 1;
-  jcur = false;
-  setup = false;
+  hmin = zeroF; hmxi = getD fs 0 nan; tn = getD fs 1 nan; h = getD fs 2 nan; hu = getD fs 3 nan; told = zeroF;
+  rc = getD fs 4 nan; el0 = getD fs 5 nan; conit = getD fs 6 nan; rmax = getD fs 7 nan; pdest = getD fs 8 nan;
+  pdlast = getD fs 9 nan; pdnorm = zeroF; convrate = getD fs 10 nan; pnorm = zeroF; rate = zeroF; delp = zeroF;
+  meth = lentFamily (getD cs 4 0); nq = getD cs 5 0; lmax = getD cs 6 0; nqnyh = getD cs 7 0; ialth = getD cs 8 0;
+  icount = getD cs 9 0; table = getD cs 10 0; nslp = getD cs 11 0; nst = getD cs 12 0; nfe = 0; nje = 0; nlu = 0;
+  rejected = 0; total = 0; count = 0; kflag = 0; ncf = 0; m = 0; column = 0; due = eqb (getD cs 13 0) 1;
+  jcur = false; setup = false;
 }
 -- end of the record from the numbers that are lent
 
 -- the floats and counts of a record, written back
 unfoldable pub writtenFloats : Common → List Float → List Float
 writtenFloats c fs =
-    set (set (set (set (set (set (set (set (set (set fs
-    1 (c .tn))
-    2 (c .h))
-    3 (c .hu))
-    4 (c .rc))
-    5 (c .el0))
-    6 (c .conit))
-    7 (c .rmax))
-    8 (c .pdest))
-    9 (c .pdlast))
-    10 (c .convrate)
+    set (set (set (set (set (set (set (set (set (set fs 1 (c .tn)) 2 (c .h)) 3 (c .hu)) 4 (c .rc)) 5 (c .el0))
+    6 (c .conit)) 7 (c .rmax)) 8 (c .pdest)) 9 (c .pdlast)) 10 (c .convrate)
 
 unfoldable pub writtenCounts : Common → List ℕ → List ℕ
 writtenCounts c cs =
-    set (set (set (set (set (set (set (set (set cs
-    5 (c .nq))
-    6 (c .lmax))
-    7 (c .nqnyh))
-    8 (c .ialth))
-    9 (c .icount))
-    10 (c .table))
-    11 (c .nslp))
-    12 (c .nst))
-    13 (number1 (c .due))
+    set (set (set (set (set (set (set (set (set cs 5 (c .nq)) 6 (c .lmax)) 7 (c .nqnyh)) 8 (c .ialth)) 9 (c .icount))
+    10 (c .table)) 11 (c .nslp)) 12 (c .nst)) 13 (number1 (c .due))
 
 -- nq passes over the columns up to nqnyh, and the column behind it, lie within so many numbers
 unfoldable pub areColumns : ℕ → ℕ → ℕ → ℕ → Bool

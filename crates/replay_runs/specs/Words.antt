@@ -12,23 +12,28 @@ abbrev pub wordOf : List ℕ → ℕ → ℕ
 wordOf words at = getD words at 0
 
 -- a count that is at most so much
-unfoldable pub limitedOf : List ℕ → ℕ → ℕ → ℕ
-limitedOf words at most = cond (ltb (wordOf words at) most) (wordOf words at) most
+unfoldable pub limitedWord : List ℕ → ℕ → ℕ → ℕ
+limitedWord words at most = cond (ltb (wordOf words at) most) (wordOf words at) most
 
 abbrev pub floatOf : List ℕ → ℕ → Float
 floatOf words at = Ieee.ofBits binary64 (wordOf words at)
 
-unfoldable pub isCount : List ℕ → ℕ → ℕ → Bool
-isCount words at n = eqb (wordOf words at) n
+unfoldable pub isStoredCount : List ℕ → ℕ → ℕ → Bool
+isStoredCount words at n = eqb (wordOf words at) n
 
-unfoldable pub isFloat : List ℕ → ℕ → Float → Bool
-isFloat words at x = eqb (wordOf words at) (Ieee.toBits binary64 x)
+unfoldable pub isStoredFloat : List ℕ → ℕ → Float → Bool
+isStoredFloat words at x = eqb (wordOf words at) (Ieee.toBits binary64 x)
+
+-- three counts in a row
+unfoldable pub areStoredThree : List ℕ → ℕ → ℕ → ℕ → ℕ → Bool
+areStoredThree words at a b c =
+    isStoredCount words at a && (isStoredCount words (at + 1) b && isStoredCount words (at + 2) c)
 
 -- the k floats of the list from i on
-unfoldable pub areFloatsFrom : List ℕ → ℕ → List Float → ℕ → ℕ → Bool
-areFloatsFrom words at list zero i = true
-areFloatsFrom words at list (suc k) i =
-    isFloat words (at + i) (getD list i nan) && areFloatsFrom words at list k (i + 1)
+unfoldable pub areStoredFrom : List ℕ → ℕ → List Float → ℕ → ℕ → Bool
+areStoredFrom words at list zero i = true
+areStoredFrom words at list (suc k) i =
+    isStoredFloat words (at + i) (getD list i nan) && areStoredFrom words at list k (i + 1)
 
-unfoldable pub areFloats : List ℕ → ℕ → List Float → Bool
-areFloats words at list = areFloatsFrom words at list (length list) 0
+unfoldable pub areStoredFloats : List ℕ → ℕ → List Float → Bool
+areStoredFloats words at list = areStoredFrom words at list (length list) 0

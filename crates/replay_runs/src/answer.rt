@@ -4,14 +4,14 @@ ghost use mathlib.Core.Path.{_≡_};
 ghost use lib.ListN.{length};
 ghost use Rattle.common.specs.Layout.{questionLength};
 ghost use Rattle.common.specs.Limits.{maxStates};
-ghost use Rattle.replay_runs.specs.Answer.{isAsked, reportedOf, isRefusal, isTimed, isQuestion};
-ghost use Rattle.replay_runs.specs.Answer.{isReport, isEnd, isStored};
+ghost use Rattle.replay_runs.specs.Answer.{asksReply, reportNumbers, isStoredRefusal, isTimed, isStoredQuestion};
+ghost use Rattle.replay_runs.specs.Answer.{isStoredReport, isStoredEnd, isStoredAnswer};
 use crate::words;
 use raimsklo::Reply;
 
 // Whether the stored answer asks for a reply.
 pub fn is_asked(stored: &[u64], at: usize) -> bool
-    ensures { λ b. ⌜ b ≡ isAsked (now (stored .entry)) at ⌝ }
+    ensures { λ b. ⌜ b ≡ asksReply (now (stored .entry)) at ⌝ }
 {
     let number = words::word(stored, at);
     if number < 100 {
@@ -23,7 +23,7 @@ pub fn is_asked(stored: &[u64], at: usize) -> bool
 // How many numbers a report has: y, and the snapshot behind it.
 fn reported(order: usize, n: usize) -> usize
     requires { ⌜ (order ≤ 12) × (n ≤ maxStates) ⌝ }
-    ensures { λ r. ⌜ (r ≡ reportedOf order n) × (n ≤ r) × (r ≤ questionLength n) ⌝ }
+    ensures { λ r. ⌜ (r ≡ reportNumbers order n) × (n ≤ r) × (r ≤ questionLength n) ⌝ }
 {
     n + common::HEADER + (order + 1) * n
 }
@@ -48,7 +48,7 @@ pub fn size(stored: &[u64], at: usize, n: usize) -> usize
 
 fn is_refusal(stored: &[u64], at: usize, r: Reply) -> bool
     requires { ⌜ at ≤ 1010000 ⌝ }
-    ensures { λ b. ⌜ b ≡ isRefusal (now (stored .entry)) at r ⌝ }
+    ensures { λ b. ⌜ b ≡ isStoredRefusal (now (stored .entry)) at r ⌝ }
 {
     if !words::is_count(stored, at + 1, r.index) {
         return false;
@@ -69,7 +69,7 @@ fn is_timed(r: Reply) -> bool
 // A derivative or a Jacobian wanted, or the first report.
 fn is_question(stored: &[u64], at: usize, r: Reply, y: &[f64]) -> bool
     requires { ⌜ (at ≤ 1010000) × (length (now y) ≤ maxStates) ⌝ }
-    ensures { λ b. ⌜ b ≡ isQuestion (now (stored .entry)) at r (now (y .entry)) ⌝ }
+    ensures { λ b. ⌜ b ≡ isStoredQuestion (now (stored .entry)) at r (now (y .entry)) ⌝ }
 {
     if !is_timed(r) {
         return false;
@@ -83,7 +83,7 @@ fn is_question(stored: &[u64], at: usize, r: Reply, y: &[f64]) -> bool
 // Previous time, time, count, order, y and snapshot.
 fn is_report(stored: &[u64], at: usize, r: Reply, numbers: &[f64]) -> bool
     requires { ⌜ (at ≤ 1010000) × (length (now numbers) ≤ 1000) ⌝ }
-    ensures { λ b. ⌜ b ≡ isReport (now (stored .entry)) at r (now (numbers .entry)) ⌝ }
+    ensures { λ b. ⌜ b ≡ isStoredReport (now (stored .entry)) at r (now (numbers .entry)) ⌝ }
 {
     if !words::is_float(stored, at + 1, r.previous) {
         return false;
@@ -102,33 +102,21 @@ fn is_report(stored: &[u64], at: usize, r: Reply, numbers: &[f64]) -> bool
 
 fn is_end(stored: &[u64], at: usize, r: Reply) -> bool
     requires { ⌜ at ≤ 1010000 ⌝ }
-    ensures { λ b. ⌜ b ≡ isEnd (now (stored .entry)) at r ⌝ }
+    ensures { λ b. ⌜ b ≡ isStoredEnd (now (stored .entry)) at r ⌝ }
 {
     if !words::is_float(stored, at + 1, r.h) {
         return false;
     }
-    if !words::is_count(stored, at + 2, r.nfe) {
+    if !words::are_three(stored, at + 2, r.nfe, r.nje, r.nlu) {
         return false;
     }
-    if !words::is_count(stored, at + 3, r.nje) {
-        return false;
-    }
-    if !words::is_count(stored, at + 4, r.nlu) {
-        return false;
-    }
-    if !words::is_count(stored, at + 5, r.total) {
-        return false;
-    }
-    if !words::is_count(stored, at + 6, r.accepted) {
-        return false;
-    }
-    words::is_count(stored, at + 7, r.rejected)
+    words::are_three(stored, at + 5, r.total, r.accepted, r.rejected)
 }
 
 // Whether the call answered what is stored.
 pub fn is_stored(stored: &[u64], at: usize, n: usize, r: Reply, question: &[f64]) -> bool
     requires { ⌜ (at ≤ 1010000) × (n ≤ maxStates) × (questionLength n ≤ length (now question)) ⌝ }
-    ensures { λ b. ⌜ b ≡ isStored (now (stored .entry)) at n r (now (question .entry)) ⌝ }
+    ensures { λ b. ⌜ b ≡ isStoredAnswer (now (stored .entry)) at n r (now (question .entry)) ⌝ }
 {
     if !words::is_count(stored, at, r.number) {
         return false;

@@ -1,18 +1,18 @@
--- `is_question` meets its contract: each way returns what `isQuestion` says under the tests that led there.
+-- `is_question` meets its contract: each way returns what `isStoredQuestion` says under the tests that led there.
 -- Assumes nothing.
 use native.Mathlib.Omega.{arith}
 use borrow.Author.Needs.{needs}
 use borrow.Author.Tests.{not-true, not-false}
-use Rattle.replay_runs.specs.Answer.{isQuestion}
+use Rattle.replay_runs.specs.Answer.{isStoredQuestion}
 use Rattle.replay_runs.proofs.answer.is_question.Statement.{statement}
 use Rattle.replay_runs.proofs.answer.is_question.Tie as tie
 
 returns : tie.Need-returns
-unfolding isQuestion
+unfolding isStoredQuestion
 returns c = rw (← c .before .is-timed .ensures, not-true (c .before .is-timed .result) (c .if1 .taken))
 
 returns-2 : tie.Need-returns-2
-unfolding isQuestion
+unfolding isStoredQuestion
 returns-2 c =
     let k1 = c .before .before in
     rw (
@@ -23,7 +23,7 @@ returns-2 c =
     )
 
 returns-3 : tie.Need-returns-3
-unfolding isQuestion
+unfolding isStoredQuestion
 returns-3 c =
     let k2 = c .before in
     let k1 = k2 .before .before in

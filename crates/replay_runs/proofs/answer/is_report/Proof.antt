@@ -1,18 +1,18 @@
--- `is_report` meets its contract: each way returns what `isReport` says under the tests that led there.
+-- `is_report` meets its contract: each way returns what `isStoredReport` says under the tests that led there.
 -- Assumes nothing.
 use native.Mathlib.Omega.{arith}
 use borrow.Author.Needs.{needs}
 use borrow.Author.Tests.{not-true, not-false}
-use Rattle.replay_runs.specs.Answer.{isReport}
+use Rattle.replay_runs.specs.Answer.{isStoredReport}
 use Rattle.replay_runs.proofs.answer.is_report.Statement.{statement}
 use Rattle.replay_runs.proofs.answer.is_report.Tie as tie
 
 returns : tie.Need-returns
-unfolding isReport
+unfolding isStoredReport
 returns c = rw (← c .before .is-float .ensures, not-true (c .before .is-float .result) (c .if1 .taken))
 
 returns-2 : tie.Need-returns-2
-unfolding isReport
+unfolding isStoredReport
 returns-2 c =
     let k1 = c .before .before in
     rw (
@@ -23,7 +23,7 @@ returns-2 c =
     )
 
 returns-3 : tie.Need-returns-3
-unfolding isReport
+unfolding isStoredReport
 returns-3 c =
     let k2 = c .before .before in
     let k1 = k2 .before .before in
@@ -37,7 +37,7 @@ returns-3 c =
     )
 
 returns-4 : tie.Need-returns-4
-unfolding isReport
+unfolding isStoredReport
 returns-4 c =
     let k3 = c .before .before in
     let k2 = k3 .before .before in
@@ -54,7 +54,7 @@ returns-4 c =
     )
 
 returns-5 : tie.Need-returns-5
-unfolding isReport
+unfolding isStoredReport
 returns-5 c =
     let k4 = c .before in
     let k3 = k4 .before .before in

@@ -1,4 +1,4 @@
--- `is_stored` meets its contract: each way returns what `isStored` says under the tests that led there.
+-- `is_stored` meets its contract: each way returns what `isStoredAnswer` says under the tests that led there.
 -- Assumes nothing.
 use mathlib.Core.Path.{ap, _∙_}
 use native.Mathlib.Nat.{sub-zero}
@@ -6,16 +6,16 @@ use native.Mathlib.Omega.{arith}
 use borrow.Author.Needs.{needs}
 use borrow.Author.Tests.{not-true, not-false, lt-ltb, le-ltb, eq-eqb, ne-eqb}
 use lib.ListN.{take}
-use Rattle.replay_runs.specs.Answer.{isQuestion, isReport, isStored}
+use Rattle.replay_runs.specs.Answer.{isStoredQuestion, isStoredReport, isStoredAnswer}
 use Rattle.replay_runs.proofs.answer.is_stored.Statement.{statement}
 use Rattle.replay_runs.proofs.answer.is_stored.Tie as tie
 
 returns : tie.Need-returns
-unfolding isStored
+unfolding isStoredAnswer
 returns c = rw (← c .before .is-count .ensures, not-true (c .before .is-count .result) (c .if1 .taken))
 
 returns-2 : tie.Need-returns-2
-unfolding isStored
+unfolding isStoredAnswer
 returns-2 c =
     let k = c .before .before .before in
     rw (
@@ -26,7 +26,7 @@ returns-2 c =
     (c .is-refusal .ensures)
 
 returns-3 : tie.Need-returns-3
-unfolding isStored
+unfolding isStoredAnswer
 returns-3 c =
     let l = c .before .before .before .before in
     let k = l .before .before in
@@ -38,10 +38,10 @@ returns-3 c =
       lt-ltb _ _ (c .before .before .if3 .taken),
     )
     (c .is-question .ensures
-    ∙ ap (λ k. isQuestion (a .stored .now) (a .at) (a .r) (take k (a .question .now))) (sub-zero (a .n)))
+    ∙ ap (λ k. isStoredQuestion (a .stored .now) (a .at) (a .r) (take k (a .question .now))) (sub-zero (a .n)))
 
 returns-4 : tie.Need-returns-4
-unfolding isStored
+unfolding isStoredAnswer
 returns-4 c =
     let e = c .before .before .reported in
     let m = c .before .before .before .before .before .before in
@@ -57,10 +57,10 @@ returns-4 c =
       ← e .ensures .0,
     )
     (c .is-report .ensures
-    ∙ ap (λ k. isReport (a .stored .now) (a .at) (a .r) (take k (a .question .now))) (sub-zero (e .result)))
+    ∙ ap (λ k. isStoredReport (a .stored .now) (a .at) (a .r) (take k (a .question .now))) (sub-zero (e .result)))
 
 returns-5 : tie.Need-returns-5
-unfolding isStored
+unfolding isStoredAnswer
 returns-5 c =
     let l = c .before .before .before in
     let k = l .before .before .before .before in

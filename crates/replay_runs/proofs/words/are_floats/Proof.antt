@@ -9,42 +9,42 @@ use borrow.Author.Needs.{needs}
 use borrow.Author.Tests.{not-true, not-false}
 use lib.ListN.{length, getD}
 use lib.Ieee.{Float, nan}
-use Rattle.replay_runs.specs.Words.{isFloat, areFloatsFrom, areFloats}
+use Rattle.replay_runs.specs.Words.{isStoredFloat, areStoredFrom, areStoredFloats}
 use Rattle.replay_runs.proofs.words.are_floats.Statement.{statement}
 use Rattle.replay_runs.proofs.words.are_floats.Tie as tie
 
 module _ (words : List ℕ) (at : ℕ) (list : List Float) (i : ℕ) (r : Bool) where
-  turn : i < length list → areFloatsFrom words at list (length list - i) i
-      ≡ (isFloat words (at + i) (getD list i nan) && areFloatsFrom words at list (length list - (i + 1)) (i + 1))
-  unfolding areFloatsFrom
+  turn : i < length list → areStoredFrom words at list (length list - i) i
+      ≡ (isStoredFloat words (at + i) (getD list i nan) && areStoredFrom words at list (length list - (i + 1)) (i + 1))
+  unfolding areStoredFrom
   turn h =
       let q : length list - i ≡ suc (length list - (i + 1)) = omega arith in
       rw q
 
-  stopped : i < length list → isFloat words (at + i) (getD list i nan) ≡ false
-      → areFloatsFrom words at list (length list - i) i ≡ r → false ≡ r
+  stopped : i < length list → isStoredFloat words (at + i) (getD list i nan) ≡ false
+      → areStoredFrom words at list (length list - i) i ≡ r → false ≡ r
   stopped h e q = sym (rw e at (turn h)) ∙ q
 
-  onward : i < length list → isFloat words (at + i) (getD list i nan) ≡ true
-      → areFloatsFrom words at list (length list - i) i ≡ r
-      → areFloatsFrom words at list (length list - (i + 1)) (i + 1) ≡ r
+  onward : i < length list → isStoredFloat words (at + i) (getD list i nan) ≡ true
+      → areStoredFrom words at list (length list - i) i ≡ r
+      → areStoredFrom words at list (length list - (i + 1)) (i + 1) ≡ r
   onward h e q = sym (rw e at (turn h)) ∙ q
 
-  ended : length list ≤ i → areFloatsFrom words at list (length list - i) i ≡ r → true ≡ r
-  unfolding areFloatsFrom
+  ended : length list ≤ i → areStoredFrom words at list (length list - i) i ≡ r → true ≡ r
+  unfolding areStoredFrom
   ended h q =
       let e : length list - i ≡ 0 = omega arith in
       rw e at q
 
 abbrev Inv-loop : tie.InvT-loop
 Inv-loop words at list i₀ i-end i =
-    (i-end ≡ length list) × (areFloatsFrom words at list (length list - i) i ≡ areFloats words at list)
+    (i-end ≡ length list) × (areStoredFrom words at list (length list - i) i ≡ areStoredFloats words at list)
 
 abbrev μ-loop : tie.MeasureT-loop
 μ-loop words at list i₀ i-end i = i-end - i
 
 loop-holds : tie.Need-loop-holds Inv-loop μ-loop
-unfolding areFloats
+unfolding areStoredFloats
 loop-holds c = (refl, rw (sub-zero _))
 
 returns : tie.Need-returns Inv-loop μ-loop
