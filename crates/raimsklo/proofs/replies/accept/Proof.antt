@@ -16,6 +16,8 @@ use Rattle.common.specs.SessionWords.{rtolAt, atolAt}
 use Rattle.invariants.proofs.Ranges.{order-after}
 use Rattle.invariants.proofs.Lent.{resume-lent}
 use Rattle.session.specs.Session.{decodeOf, rtolOf, atolOf, inRangeOf}
+use Rattle.loops.specs.Part.{part}
+use Rattle.words.specs.Words.{floatsOver}
 use Rattle.words.proofs.Rows.{length-over, over-part}
 use Rattle.session.proofs.Thirteen.{lists-fit, resumes}
 use Rattle.answers.specs.Called.{Buffers, Called}
@@ -35,10 +37,22 @@ empty = replicate maxStates zeroF
 same-size : (k : ℕ) → k - 0 ≡ k
 same-size k = omega arith
 
--- the lists of a session in range have slots
-few : (b p : List ℕ) (x : Session) → inRangeOf b p ≡ true → x ≡ decodeOf b
-    → (x .settings .nrtol ≤ maxStates) × (x .settings .natol ≤ maxStates)
-few b p x q e = rw e (lists-fit b p q)
+-- the lists of a session in range have slots, and read to their first entries they are the session's
+module _ (b p : List ℕ) (x : Session) (q : inRangeOf b p ≡ true) (e : x ≡ decodeOf b) where
+  few : (x .settings .nrtol ≤ maxStates) × (x .settings .natol ≤ maxStates)
+  few = rw e (lists-fit b p q)
+
+  relative : {l : List Float} → l ≡ floatsOver b rtolAt (x .settings .nrtol) empty
+      → part 0 (x .settings .nrtol - 0) l ≡ rtolOf b
+  relative d =
+      let k = lists-fit b p q .0 in
+      rw (d, e, same-size (decodeOf b .settings .nrtol)) (over-part b rtolAt _ empty k maxStates k)
+
+  absolute : {l : List Float} → l ≡ floatsOver b atolAt (x .settings .natol) empty
+      → part 0 (x .settings .natol - 0) l ≡ atolOf b
+  absolute d =
+      let k = lists-fit b p q .1 in
+      rw (d, e, same-size (decodeOf b .settings .natol)) (over-part b atolAt _ empty k maxStates k)
 
 rtol-requires : tie.Need-rtol-requires
 rtol-requires c κs =
@@ -78,21 +92,12 @@ resume-requires c κs =
     let a = t .before .before .before .before .before .before .before .before .before .before .before .before in
     let x = a .args in
     let b = x .bytes .now in
-    let s = decodeOf b .settings in
-    let q = a .pre .1 .0 .0 in
-    let l = lists-fit b (x .pivots .now) q in
+    let q = a .pre .1 .0 in
     let z = a .pre .1 .1 in
-    let r = resumes b (x .pivots .now) q (x .work .now) (z .sized) (z .pivoted) in
-    rw (
-      t .before .before .before .before .rtol2 .ensures,
-      t .atol2 .ensures,
-      a .pre .1 .0 .1,
-      same-size (s .nrtol),
-      same-size (s .natol),
-      over-part b rtolAt (s .nrtol) empty (l .0) maxStates (l .0),
-      over-part b atolAt (s .natol) empty (l .1) maxStates (l .1),
-    )
-    (z .states .1, unless (decodeOf b .phase) r)
+    let rtol = relative b (x .pivots .now) (x .x) (q .0) (q .1) (t .before .before .before .before .rtol2 .ensures) in
+    let atol = absolute b (x .pivots .now) (x .x) (q .0) (q .1) (t .atol2 .ensures) in
+    let r = resumes b (x .pivots .now) (q .0) (x .work .now) (z .sized) (z .pivoted) in
+    rw (rtol, atol, q .1) (z .states .1, unless (decodeOf b .phase) r)
 
 write-turn-requires : tie.Need-write-turn-requires
 write-turn-requires c κs =
@@ -102,26 +107,19 @@ write-turn-requires c κs =
     let x = a .args in
     let b = x .bytes .now in
     let s = decodeOf b .settings in
-    let q = a .pre .1 .0 .0 in
-    let l = lists-fit b (x .pivots .now) q in
+    let q = a .pre .1 .0 in
     let z = a .pre .1 .1 in
-    let r = resumes b (x .pivots .now) q (x .work .now) (z .sized) (z .pivoted) in
-    let turned = rw (
-      t .before .before .before .before .rtol2 .ensures,
-      t .atol2 .ensures,
-      a .pre .1 .0 .1,
-      same-size (s .nrtol),
-      same-size (s .natol),
-      over-part b rtolAt (s .nrtol) empty (l .0) maxStates (l .0),
-      over-part b atolAt (s .natol) empty (l .1) maxStates (l .1),
-    ) at (m .resume .ensures) in
+    let r = resumes b (x .pivots .now) (q .0) (x .work .now) (z .sized) (z .pivoted) in
+    let rtol = relative b (x .pivots .now) (x .x) (q .0) (q .1) (t .before .before .before .before .rtol2 .ensures) in
+    let atol = absolute b (x .pivots .now) (x .x) (q .0) (q .1) (t .atol2 .ensures) in
+    let turned = rw (rtol, atol, q .1) at (m .resume .ensures) in
     let g = given s (rtolOf b) (atolOf b) in
     let st = state (decodeOf b .common) (x .work .now) (x .pivots .now) in
     let order = order-after g (decodeOf b .phase) st (x .kind) (x .numbers .now) (x .time) (r .ranges) in
     let room = resume-lent g (decodeOf b .phase) st (x .numbers .now) (x .time) (r .lent) (x .kind) .sized in
     let low = ap (λ (l : RunState). l .st .c .nq) turned in
     let long = ap (λ (l : RunState). length (l .st .w)) turned in
-    rw (a .pre .1 .0 .1)
+    rw (q .1)
     (
       (z .states .0, z .states .1, omega (arith, low, order)),
       ((omega (arith, long, room), omega (arith, z .asked)), omega (arith, a .pre .0)),
@@ -137,18 +135,11 @@ returns c =
     let x = a .args in
     let b = x .bytes .now in
     let s = decodeOf b .settings in
-    let q = a .pre .1 .0 .0 in
-    let l = lists-fit b (x .pivots .now) q in
-    let turned = rw (
-      t .before .before .before .before .rtol2 .ensures,
-      t .atol2 .ensures,
-      a .pre .1 .0 .1,
-      same-size (s .nrtol),
-      same-size (s .natol),
-      over-part b rtolAt (s .nrtol) empty (l .0) maxStates (l .0),
-      over-part b atolAt (s .natol) empty (l .1) maxStates (l .1),
-    ) at (m .resume .ensures) in
-    let wrote = rw (a .pre .1 .0 .1) at (e .write-turn .ensures) in
+    let q = a .pre .1 .0 in
+    let rtol = relative b (x .pivots .now) (x .x) (q .0) (q .1) (t .before .before .before .before .rtol2 .ensures) in
+    let atol = absolute b (x .pivots .now) (x .x) (q .0) (q .1) (t .atol2 .ensures) in
+    let turned = rw (rtol, atol, q .1) at (m .resume .ensures) in
+    let wrote = rw (q .1) at (e .write-turn .ensures) in
     let lent : Buffers = record {
       work = x .work .now; pivots = x .pivots .now; session = b; question = x .question .now;
     } in
