@@ -65,7 +65,7 @@ use Rattle.calls.specs.Sums.{Single, problemOf, problem8, problem10}
 use Rattle.calls.specs.Fakes.{Meets, lastAfter, InventsCount, NoFake}
 use Rattle.calls.proofs.Follow.{calls-follow}
 use Rattle.calls.proofs.Capped.{calls-capped}
-use Rattle.calls.proofs.Sums.{Accepted, begins-single, given-floats, floats-8, floats-10, accepted}
+use Rattle.calls.proofs.Sums.{SingleAccepted, begins-single, given-floats, floats-8, floats-10, accepted}
 
 pub ours-meets : Meets ours
 ours-meets p b begins = calls-follow p b begins .demand
@@ -109,7 +109,7 @@ twoSteps = record {
   maxsteps = 100000; maxcor = 3; mxncf = 10;
 }
 
-accepted-two : Accepted twoSteps
+accepted-two : SingleAccepted twoSteps
 unfolding startRefusalOf orElse alsoOf inOrder Refusals.sizeRefusal Refusals.lengthRefusal Refusals.largeRefusal
     Refusals.limitRefusal
     Refusals.toleranceRefusal Refusals.stepRefusal times refused signumOf negative sub lt eq ne ofBits
