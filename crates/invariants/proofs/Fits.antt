@@ -28,7 +28,8 @@ use Rattle.invariants.proofs.Keeps.{Invariant, each, any, after-pass, K
 use Rattle.invariants.proofs.Walk.{resume-keeps}
 use Rattle.invariants.proofs.Floats.{either, literal, sum, quotient, absolute, signum}
 use Rattle.invariants.proofs.Sizes.{norm, initial-step, first-size}
-use Rattle.invariants.proofs.Records.{CommonFits, put-tn, put-h, put-told, put-pnorm, commons, floats, initial-fits}
+use Rattle.invariants.proofs.Records.{CommonFits, put-tn, put-h, put-told, put-pnorm, commons, floats}
+use Rattle.invariants.proofs.Records.{initial-fits}
 use Rattle.invariants.proofs.Steps.{first-call-fits, reset-fits, adjust-fits, predicted-fits, failed-fits}
 use Rattle.invariants.proofs.Steps.{no-convergence-fits, restep-fits}
 use Rattle.invariants.proofs.Correct.{begin-fits, finished-fits, open-fits, size-fits, judge-fits}

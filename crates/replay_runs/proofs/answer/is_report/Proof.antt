@@ -15,26 +15,17 @@ returns-2 : tie.Need-returns-2
 unfolding isStoredReport
 returns-2 c =
     let k1 = c .before .before in
-    rw (
-      ← k1 .before .is-float .ensures,
-      not-false (k1 .before .is-float .result) (k1 .if1 .left),
-      ← c .before .is-float2 .ensures,
-      not-true (c .before .is-float2 .result) (c .if2 .taken),
-    )
+    rw (← k1 .before .is-float .ensures, not-false (k1 .before .is-float .result) (k1 .if1 .left),
+      ← c .before .is-float2 .ensures, not-true (c .before .is-float2 .result) (c .if2 .taken))
 
 returns-3 : tie.Need-returns-3
 unfolding isStoredReport
 returns-3 c =
     let k2 = c .before .before in
     let k1 = k2 .before .before in
-    rw (
-      ← k1 .before .is-float .ensures,
-      not-false (k1 .before .is-float .result) (k1 .if1 .left),
-      ← k2 .before .is-float2 .ensures,
-      not-false (k2 .before .is-float2 .result) (k2 .if2 .left),
-      ← c .before .is-count .ensures,
-      not-true (c .before .is-count .result) (c .if3 .taken),
-    )
+    rw (← k1 .before .is-float .ensures, not-false (k1 .before .is-float .result) (k1 .if1 .left),
+      ← k2 .before .is-float2 .ensures, not-false (k2 .before .is-float2 .result) (k2 .if2 .left),
+      ← c .before .is-count .ensures, not-true (c .before .is-count .result) (c .if3 .taken))
 
 returns-4 : tie.Need-returns-4
 unfolding isStoredReport
@@ -42,16 +33,10 @@ returns-4 c =
     let k3 = c .before .before in
     let k2 = k3 .before .before in
     let k1 = k2 .before .before in
-    rw (
-      ← k1 .before .is-float .ensures,
-      not-false (k1 .before .is-float .result) (k1 .if1 .left),
-      ← k2 .before .is-float2 .ensures,
-      not-false (k2 .before .is-float2 .result) (k2 .if2 .left),
-      ← k3 .before .is-count .ensures,
-      not-false (k3 .before .is-count .result) (k3 .if3 .left),
-      ← c .before .is-count2 .ensures,
-      not-true (c .before .is-count2 .result) (c .if4 .taken),
-    )
+    rw (← k1 .before .is-float .ensures, not-false (k1 .before .is-float .result) (k1 .if1 .left),
+      ← k2 .before .is-float2 .ensures, not-false (k2 .before .is-float2 .result) (k2 .if2 .left),
+      ← k3 .before .is-count .ensures, not-false (k3 .before .is-count .result) (k3 .if3 .left),
+      ← c .before .is-count2 .ensures, not-true (c .before .is-count2 .result) (c .if4 .taken))
 
 returns-5 : tie.Need-returns-5
 unfolding isStoredReport
@@ -60,16 +45,10 @@ returns-5 c =
     let k3 = k4 .before .before in
     let k2 = k3 .before .before in
     let k1 = k2 .before .before in
-    rw (
-      ← k1 .before .is-float .ensures,
-      not-false (k1 .before .is-float .result) (k1 .if1 .left),
-      ← k2 .before .is-float2 .ensures,
-      not-false (k2 .before .is-float2 .result) (k2 .if2 .left),
-      ← k3 .before .is-count .ensures,
-      not-false (k3 .before .is-count .result) (k3 .if3 .left),
-      ← k4 .before .is-count2 .ensures,
-      not-false (k4 .before .is-count2 .result) (k4 .if4 .left),
-    )
+    rw (← k1 .before .is-float .ensures, not-false (k1 .before .is-float .result) (k1 .if1 .left),
+      ← k2 .before .is-float2 .ensures, not-false (k2 .before .is-float2 .result) (k2 .if2 .left),
+      ← k3 .before .is-count .ensures, not-false (k3 .before .is-count .result) (k3 .if3 .left),
+      ← k4 .before .is-count2 .ensures, not-false (k4 .before .is-count2 .result) (k4 .if4 .left))
     (c .are-floats .ensures)
 
 pub is-report-spec : {M : Type 1} → statement M
