@@ -1,6 +1,6 @@
 """What is made of the proofs of a session's bytes: the laws that name every field, and the contracts of the two
 functions that do."""
-from .session import FROM, RECORD, SETTINGS
+from .session import COUNTED, FROM, RECORD, SETTINGS
 from .table import *
 
 # Counts whose greatest value a relation with another field says, and no row.
@@ -76,7 +76,7 @@ def in_ranges(f):
         return f"upto (upto-64 (f .{f.name}))"
     part = "s" if f.record == "settings" else "k" if high == COUNT[1] else "o" if f.name in ORDERS else "t"
     if high == LARGEST:
-        return f"({part} .{f.name} .0, upto-64 (f .{f.name}))"
+        return f"({part} .{f.name}, upto-64 (f .{f.name}))"
     return f"upto ({part} .{f.name})" if low == "0" else f"({part} .{f.name} .0, {part} .{f.name} .1)"
 
 
@@ -93,7 +93,7 @@ def back(f):
     return {"Phase": "phase-back", "MethodFamily": "family-back", "bool": "flag-back"}[f.kind] + f" ({f.path}),"
 
 
-# Counts that `Ranges` does not keep below 2^64 by itself.
+# Counts that a range alone does not keep below 2^64.
 FITS = {
     "nrtol": "⊎-elim (λ e. omega arith) (λ e. omega arith) rtol",
     "natol": "⊎-elim (λ e. omega arith) (λ e. omega arith) atol",
@@ -179,9 +179,10 @@ floats-fit x f i =
 
 -- whether the run is over or not
 pub counts-fit : (x : Session) → Accepted (x .settings) → Counts (x .common) (2 ^ 62 - 1)
-    → Orders (x .settings) (shapeOf (x .common)) → EndedCounters (x .settings) (2 ^ 64 - 1) (stepNumbersOf (x .common))
+    → Orders (x .settings) (shapeOf (x .common)) → EndedCounters (x .settings) (stepNumbersOf (x .common))
+    → x .common .ialth < 2 ^ 64
     → OneOrN (x .settings .n) (x .settings .nrtol) → OneOrN (x .settings .n) (x .settings .natol) → CountsFit x
-counts-fit x s k o t rtol atol =
+counts-fit x s k o t ialth rtol atol =
     record {{
 {lines((f"{f.name} = {FITS.get(f.name, 'omega arith')};" for f in numbers), "      ")}    }}
 
@@ -244,7 +245,7 @@ module _ (b : List ℕ) where
 
   pub counts-bounded : (f : List Float) → WordRanges b → Counts (commonOf (wordsOf b) f) (2 ^ 62 - 1)
   counts-bounded f r = record {{
-{wrapped([f"{f.name} = upto-62 (r .{f.name});" for f in RECORD if f.bounds == COUNT], "    ")}
+{wrapped([f"{f.name} = upto-62 (r .{f.name});" for f in COUNTED], "    ")}
   }}
 
   -- counts that only a relation between fields bounds

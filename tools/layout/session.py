@@ -14,6 +14,8 @@ NUMBER_OF = {"bool": "flagNumber ({})", "MethodFamily": "familyNumber ({})", "Ph
 
 SETTINGS = [f for f in WORDS if f.record == "settings"]
 RECORD = [f for f in WORDS if f.record == "common"]
+# The counts of a run, which 13 keeps below 2^62.
+COUNTED = [f for f in RECORD if f.bounds == COUNT]
 
 
 def made(parts):
@@ -235,7 +237,16 @@ pub record Accepted (s : Settings) : Type 0 where
 {lines((f"pub {f.name} : {accepted(f)}" for f in settings), "  ")}
 -- the counts, each at most a bound
 pub record Counts (c : Common) (b : ℕ) : Type 0 where
-{lines((f"pub {f.name} : c .{f.name} ≤ b" for f in RECORD if f.bounds == COUNT), "  ")}"""
+{lines((f"pub {f.name} : c .{f.name} ≤ b" for f in COUNTED), "  ")}"""
+
+
+def wider():
+    """Counts within a bound are within a wider one."""
+    return f"""pub counts-wider : {{c : Common}} {{a b : ℕ}} → a ≤ b → Counts c a → Counts c b
+counts-wider h k = record {{
+{wrapped([f"{f.name} = omega (arith, k .{f.name});" for f in COUNTED], "  ")}
+}}
+"""
 
 
 def make(put):
@@ -243,3 +254,4 @@ def make(put):
     put(f"{SESSION}/specs/Fields.antt", definitions())
     put(f"{SESSION}/specs/Names.antt", names())
     put(RANGES_OF_A_RUN, ranges(), "the ranges of settings and counts")
+    put(RANGES_LAWS, wider(), "a wider bound of the counts")

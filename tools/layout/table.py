@@ -14,6 +14,7 @@ INVARIANTS = "crates/invariants"
 PROBE = "crates/probe"
 PHASES = "crates/questions"
 RANGES_OF_A_RUN = f"{COMMON}/specs/Ranges.antt"
+RANGES_LAWS = f"{COMMON}/proofs/Ranges.antt"
 
 TYPES = {"f64": "Float", "usize": "ℕ", "bool": "Bool", "MethodFamily": "MethodFamily"}
 # Fields of Common that a start fixes: no setter is made for them.

@@ -11,7 +11,6 @@ use borrow.Author.Tests.{eqb-false}
 use Rattle.loops.proofs.Test.{chosen-by}
 use Rattle.common.specs.declared.Settings.{Settings}
 use Rattle.common.specs.declared.Common.{Common}
-use Rattle.common.specs.Ranges.{Accepted, shapeOf, Orders}
 use Rattle.common.proofs.Ranges.{lower-orders}
 use Rattle.history.specs.Steps.{adjustOf}
 use Rattle.history.proofs.Laws.{length-rescale}
@@ -31,14 +30,14 @@ module _ (s : Settings) (dsm : Float) where
       chosen-by (Moves s c (c .ialth) work) (eqb (c .ialth - 1) 0)
       (λ e.
       moves-from s c (c .ialth) (countedDown c) work work _ refl refl refl
-      (λ o. o) refl
+      (λ t l o. o) refl
       (choose-order-moves s (c .ialth) (countedDown c) dsm work))
       (λ e.
       let more = eqb-false (c .ialth - 1) 0 e in
       waits-moves s c (c .ialth) Unchanged (c .ialth - 1) work (λ h. omega (arith, more)) (omega arith))
 
   changed-moves : (c : Common) (to : Move) (work : List Float)
-      → (Accepted s → Orders s (shapeOf c) → (1 ≤ to .order) × (to .order ≤ c .nq))
+      → ((1 ≤ s .mxordn) × (1 ≤ s .mxords) → 1 ≤ c .nq → (1 ≤ to .order) × (to .order ≤ c .nq))
       → Moves s c (c .ialth) work (changedFamily (changedOf s c to work))
   unfolding changedOf adjustOf
   changed-moves c to work within =
@@ -49,11 +48,11 @@ module _ (s : Settings) (dsm : Float) where
         meth = λ n. absurd (n refl);
         ialth = λ h. omega arith;
         ialth-most = inr refl;
-        orders = λ a p. lower-orders (to .order) p (within a p);
+        orders = λ t l p. lower-orders (to .order) p (within l (p .nq .0));
       }
 
   tested-moves : (c : Common) (work : List Float) (change : Change)
-      → (Accepted s → Orders s (shapeOf c) → orderWithin (c .nq) change)
+      → ((1 ≤ s .mxordn) × (1 ≤ s .mxords) → 1 ≤ c .nq → orderWithin (c .nq) change)
       → Moves s c (c .ialth) work (testedOf s c dsm work change)
   unfolding testedOf orderWithin
   tested-moves c work Stay within = keep-moves c work
@@ -65,5 +64,5 @@ module _ (s : Settings) (dsm : Float) where
   test-moves c work =
       chosen-by (Moves s c (c .ialth) work) (ltb (c .icount) 1000000)
       (λ e. tested-moves c work (changeOf s c dsm work)
-      (λ a p. change-within s c dsm work (p .nq .0) (a .mxordn .0) (a .mxords .0)))
+      (λ l q. change-within s c dsm work q (l .0) (l .1)))
       (λ e. keep-moves c work)

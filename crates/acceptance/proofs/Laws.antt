@@ -18,12 +18,11 @@ use Rattle.common.specs.declared.Settings.{Settings}
 use Rattle.common.specs.declared.Common.{Common}
 use Rattle.common.specs.Layout.{ewt, ewtAt, savfAt, acorAt}
 use Rattle.common.specs.Rules.{icount20}
-use Rattle.common.specs.Ranges.{Accepted, shapeOf, Orders}
 use Rattle.history.specs.Columns.{scalePartOf, correctColumnsOf}
 use Rattle.history.proofs.Laws.{length-scale-part, length-correct}
 use Rattle.acceptance.specs.declared.Branch.the-variants.{FamilyChanged}
 use Rattle.acceptance.specs.Order.{Settled}
-use Rattle.acceptance.proofs.OrderMoves.{Moves}
+use Rattle.acceptance.proofs.OrderMoves.{OrdersKept, Moves}
 use Rattle.acceptance.specs.Accept.{correctedOf, acceptOf, closedOf}
 use Rattle.acceptance.proofs.FamilyMoves.{test-moves}
 
@@ -55,7 +54,7 @@ pub record AcceptKeeps (s : Settings) (c : Common) (r : Settled) : Type 0 where
   pub meth : (r .branch ≡ FamilyChanged → ⊥) → r .common .meth ≡ c .meth
   pub ialth : 1 ≤ c .ialth → 1 ≤ r .common .ialth
   pub ialth-most : (r .common .ialth ≤ max (c .ialth) 3) ⊎ (r .common .ialth ≡ r .common .nq + 1)
-  pub orders : Accepted s → Orders s (shapeOf c) → Orders s (shapeOf (r .common))
+  pub orders : OrdersKept s c (r .common)
 
 module _ (s : Settings) (c : Common) (dsm : Float) (work : List Float) where
   moves : Moves s (correctedOf c) (c .ialth) (correctColumnsOf s c work) (acceptOf s c dsm work)
@@ -93,7 +92,7 @@ module _ (s : Settings) (c : Common) (dsm : Float) (work : List Float) where
         meth = moves .meth;
         ialth = moves .ialth;
         ialth-most = moves .ialth-most;
-        orders = λ a p. moves .orders a p;
+        orders = λ t l p. moves .orders t l p;
       }
 
 -- ---- the end of a step

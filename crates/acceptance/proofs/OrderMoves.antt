@@ -20,7 +20,7 @@ use Rattle.common.specs.declared.Common.{Common}
 use Rattle.common.specs.Record.{with-h, with-hu, with-rc, with-el0, with-conit, with-pdest, with-pdlast, with-meth}
 use Rattle.common.specs.Record.{with-nq, with-nqnyh, with-ialth, with-icount}
 use Rattle.common.specs.Rules.{resetOf, icount20}
-use Rattle.common.specs.Ranges.{Accepted, shapeOf, Orders}
+use Rattle.common.specs.Ranges.{shapeOf, OrdersTo}
 use Rattle.common.proofs.Ranges.{reset-orders}
 use Rattle.history.specs.Steps.{leastOf, limitedOf, adjustOf}
 use Rattle.history.proofs.Laws.{length-rescale}
@@ -53,6 +53,11 @@ testsMoved d c =
     (with-ialth (d .ialth)
     (with-icount (d .icount) c)))))))))))
 
+-- orders and columns stay in range, whatever the greatest table, where the orders of both families may be 1
+abbrev pub OrdersKept : Settings → Common → Common → Type 0
+OrdersKept s c d = (tables : ℕ) → (1 ≤ s .mxordn) × (1 ≤ s .mxords) → OrdersTo s tables (shapeOf c)
+    → OrdersTo s tables (shapeOf d)
+
 -- what the tests keep of the record c and the work; k is what ialth was before it was counted down
 pub record Moves (s : Settings) (c : Common) (k : ℕ) (work : List Float) (r : Settled) : Type 0 where
   pub fields : r .common ≡ testsMoved (r .common) c
@@ -61,15 +66,14 @@ pub record Moves (s : Settings) (c : Common) (k : ℕ) (work : List Float) (r : 
   pub meth : (r .branch ≡ FamilyChanged → ⊥) → r .common .meth ≡ c .meth
   pub ialth : 1 ≤ k → 1 ≤ r .common .ialth
   pub ialth-most : (r .common .ialth ≤ max k 3) ⊎ (r .common .ialth ≡ r .common .nq + 1)
-  pub orders : Accepted s → Orders s (shapeOf c) → Orders s (shapeOf (r .common))
+  pub orders : OrdersKept s c (r .common)
 
 -- ---- the order choice
 
 module _ (s : Settings) (c : Common) (k : ℕ) where
   -- from a record and a work that the tests may have come from
   pub moves-from : (d : Common) (work w : List Float) (r : Settled) → d ≡ testsMoved d c → d .icount ≡ c .icount
-      → d .meth ≡ c .meth → (Orders s (shapeOf c) → Orders s (shapeOf d)) → length w ≡ length work → Moves s d k w r
-      → Moves s c k work r
+      → d .meth ≡ c .meth → OrdersKept s c d → length w ≡ length work → Moves s d k w r → Moves s c k work r
   moves-from d work w r e i m p l q =
       record {
         fields = q .fields ∙ ap (testsMoved (r .common)) e;
@@ -78,7 +82,7 @@ module _ (s : Settings) (c : Common) (k : ℕ) where
         meth = λ n. q .meth n ∙ m;
         ialth = q .ialth;
         ialth-most = q .ialth-most;
-        orders = λ a o. q .orders a (p o);
+        orders = λ t l o. q .orders t l (p t l o);
       }
 
   -- ialth alone is another
@@ -92,7 +96,7 @@ module _ (s : Settings) (c : Common) (k : ℕ) where
         meth = λ n. refl;
         ialth = h;
         ialth-most = inl most;
-        orders = λ a p. p;
+        orders = λ t l p. p;
       }
 
   three : (branch : Branch) (work : List Float) → Moves s c k work (waitsOf branch c work)
@@ -108,19 +112,19 @@ module _ (s : Settings) (c : Common) (k : ℕ) where
         meth = λ n. refl;
         ialth = λ h. omega arith;
         ialth-most = inr refl;
-        orders = λ a p. p;
+        orders = λ t l p. p;
       }
 
 module _ (s : Settings) (k : ℕ) where
   settled-moves : (c : Common) (p : Proposal) (branch : Branch) (work : List Float)
-      → (Orders s (shapeOf c) → (1 ≤ p .order) × (p .order + 1 ≤ c .lmax))
+      → ((tables : ℕ) → OrdersTo s tables (shapeOf c) → (1 ≤ p .order) × (p .order + 1 ≤ c .lmax))
       → Moves s c k work (settleOf s c p branch work)
   unfolding settleOf resetOf
   settled-moves c p branch work within =
       let rh = maxOf (p .rh) (leastOf c) in
       let other = resetOf s (with-nq (p .order) c) in
       let to-other =
-      moves-from s c k other work work _ refl refl refl (λ o. reset-orders (p .order) o (within o)) refl
+      moves-from s c k other work work _ refl refl refl (λ t l o. reset-orders (p .order) o (within t o)) refl
       (taken-moves s other k rh branch work)
       in
       let taken = chosen-by (λ d. Moves s c k work (orderTakenOf s d rh branch work)) (eqb (p .order) (c .nq))
@@ -141,8 +145,8 @@ module _ (s : Settings) (k : ℕ) where
       chosen-by (Moves s c k work) (last || small) (λ e. three s c k SmallGain work)
       (λ e.
       let more = eqb-false (c .nq + 1) (c .lmax) (first-false last small e) in
-      moves-from s c k c work _ _ refl refl refl (λ o. o) (length-raise-column (s .n) (c .nq + 1) _ work)
-      (settled-moves c _ Raised _ (λ o. (omega arith, omega (arith, more, o .lmax)))))
+      moves-from s c k c work _ _ refl refl refl (λ t l o. o) (length-raise-column (s .n) (c .nq + 1) _ work)
+      (settled-moves c _ Raised _ (λ t o. (omega arith, omega (arith, more, o .lmax)))))
 
   lower-moves : (c : Common) (down : Float) (work : List Float) → Moves s c k work (lowerOf s c down work)
   unfolding lowerOf
@@ -150,13 +154,13 @@ module _ (s : Settings) (k : ℕ) where
       chosen-by (Moves s c k work) (eqb (c .nq) 1) (λ e. three s c k SmallGain work)
       (λ e.
       let more = eqb-false (c .nq) 1 e in
-      settled-moves c _ Lowered work (λ o. (omega (arith, more, o .nq), omega (arith, o .lmax))))
+      settled-moves c _ Lowered work (λ t o. (omega (arith, more, o .nq), omega (arith, o .lmax))))
 
   choose-moves : (c : Common) (f : Factors) (work : List Float) → Moves s c k work (chooseOf s c f work)
   unfolding chooseOf
   choose-moves c f work =
       chosen-by (Moves s c k work) (sameLargest f)
-      (λ e. settled-moves c _ Kept work (λ o. (o .nq .0, o .lmax .2)))
+      (λ e. settled-moves c _ Kept work (λ t o. (o .nq .0, o .lmax .2)))
       (λ e. chosen-by (Moves s c k work) (Ieee.lt (f .down) (f .up)) (λ e. raise-moves c (f .up) work)
       (λ e. lower-moves c (f .down) work))
 
@@ -171,5 +175,5 @@ module _ (s : Settings) (k : ℕ) where
   unfolding chooseOrderOf
   choose-order-moves c dsm work =
       moves-from s c k (forgottenOf c) work (raisedLeftOf s c work) _ refl refl refl
-      (λ o. o) (length-raised-left c work)
+      (λ t l o. o) (length-raised-left c work)
       (choose-moves (forgottenOf c) _ _)

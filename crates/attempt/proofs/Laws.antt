@@ -3,7 +3,8 @@
 --     Unconverged      no convergence: a pass again below mxncf failures, or poor
 --     Failed           an error failure: a pass again before the third, a derivative from the third to the ninth
 --     Restepped        the derivative is there: order 1
--- Each says too that the work keeps its length and that orders and columns stay in range. Assumes nothing.
+-- Each says too that the work keeps its length, that orders and columns stay in range, and what a step's functions ask.
+-- Assumes nothing.
 use mathlib.Core.Bool.{Bool, true, false, cond, _||_}
 use mathlib.Core.List.{List}
 use mathlib.Core.Logic.{_⊎_, inl, inr}
@@ -23,15 +24,17 @@ use Rattle.common.specs.Record.{with-ialth, with-rejected, with-kflag, with-ncf
 use Rattle.common.specs.Limits.{mxncfOf}
 use Rattle.common.specs.Rules.{resetOf, tinyOf}
 use Rattle.common.specs.State.{Moved}
-use Rattle.common.specs.Ranges.{shapeOf, Orders}
+use Rattle.common.specs.Ranges.{shapeOf, Orders, StepInRange}
 use Rattle.common.proofs.Ranges.{reset-orders}
 use Rattle.history.specs.Columns.{slopeOf}
 use Rattle.history.specs.Steps.{adjustOf, predictedOf, staleOf, leastOf}
 use Rattle.history.proofs.Laws.{length-predict, length-retract, length-rescale, length-copy, length-slope}
+use Rattle.history.proofs.Laws.{same-range, in-range-predicted}
 use Rattle.attempt.specs.declared.Next.the-variants.{Pass, Restep, TooSmall, Poor}
 use Rattle.attempt.specs.Attempt.{Attempt, retractedOf, retractedWork, predictOf, repredictOf, unconvergedOf}
 use Rattle.attempt.specs.Attempt.{poorOf, quarteredOf, noConvergenceAt, noConvergenceOf, shrunkOf, tenthOf}
 use Rattle.attempt.specs.Attempt.{missedAt, missedOf, overshotOf, failedOf, loweredOf, restepOf}
+use Rattle.attempt.proofs.Ranges.{in-range-lowered}
 
 -- d has these fields of c
 pub record Kept (c d : Common) : Type 0 where
@@ -113,6 +116,7 @@ pub record Unconverged (s : Settings) (c : Common) (work : List Float) (a : Atte
   pub below : c .ncf < mxncfOf s → a .next ≡ Pass → c .ncf + 1 < mxncfOf s
   pub ialth : (a .common .ialth ≡ c .ialth) ⊎ (a .common .ialth ≡ c .nq + 1)
   pub orders : Orders s (shapeOf c) → Orders s (shapeOf (a .common))
+  pub in-range : StepInRange s c → StepInRange s (a .common)
   pub sized : length (a .work) ≡ length work
 
 module _ (s : Settings) (c : Common) (work : List Float) where
@@ -133,6 +137,7 @@ module _ (s : Settings) (c : Common) (work : List Float) where
         below = λ few q. impossible (cc);
         ialth = inl refl;
         orders = λ p. p;
+        in-range = λ p. same-range _ refl refl refl refl p;
         sized = length-retract (s .n) _ _ work;
       }
   unconverged-at false e =
@@ -152,6 +157,7 @@ module _ (s : Settings) (c : Common) (work : List Float) where
             omega (arith, other);
         ialth = inr refl;
         orders = λ p. p;
+        in-range = λ p. same-range _ refl refl refl refl p;
         sized = length-repredict s _ _ _ ∙ length-retract (s .n) _ _ work;
       }
 
@@ -173,6 +179,7 @@ pub record Failed (s : Settings) (c : Common) (work : List Float) (a : Attempt) 
   pub restep : c .kflag ≤ 9 → a .next ≡ Restep → (3 ≤ c .kflag + 1) × (c .kflag + 1 ≤ 9)
   pub ialth : (a .common .ialth ≡ c .ialth) ⊎ (a .common .ialth ≡ c .nq + 1)
   pub orders : Orders s (shapeOf c) → Orders s (shapeOf (a .common))
+  pub in-range : StepInRange s c → StepInRange s (a .common)
   pub sized : length (a .work) ≡ length work
 
 module _ (s : Settings) (c : Common) (dsm : Float) (work : List Float) where
@@ -191,6 +198,7 @@ module _ (s : Settings) (c : Common) (dsm : Float) (work : List Float) where
         restep = λ few q. impossible (cc);
         ialth = inl refl;
         orders = λ p. p;
+        in-range = λ p. same-range _ refl refl refl refl p;
         sized = length-retract (s .n) _ _ work;
       }
 
@@ -211,6 +219,7 @@ module _ (s : Settings) (c : Common) (dsm : Float) (work : List Float) where
         restep = λ few q. impossible (cc);
         ialth = inr refl;
         orders = λ p. p;
+        in-range = λ p. same-range _ refl refl refl refl p;
         sized = length-repredict s _ _ _ ∙ length-retract (s .n) _ _ work;
       }
   failed-at false false true e l = stopped-at
@@ -230,6 +239,7 @@ module _ (s : Settings) (c : Common) (dsm : Float) (work : List Float) where
             omega (arith, other);
         ialth = inl refl;
         orders = λ p. p;
+        in-range = λ p. same-range _ refl refl refl refl p;
         sized = length-copy (s .n) _ _ _ ∙ length-retract (s .n) _ _ work;
       }
 
@@ -249,6 +259,7 @@ pub record Restepped (s : Settings) (c : Common) (work : List Float) (a : Moved)
   pub due : a .common .due ≡ isBdf (c .meth)
   pub ialth : a .common .ialth ≡ 5
   pub orders : Orders s (shapeOf c) → Orders s (shapeOf (a .common))
+  pub in-range : StepInRange s c → StepInRange s (a .common)
   pub sized : length (a .work) ≡ length work
 
 module _ (s : Settings) (c : Common) (work : List Float) where
@@ -269,6 +280,7 @@ module _ (s : Settings) (c : Common) (work : List Float) where
         due = due-predicted s entered refl;
         ialth = refl;
         orders = λ p. p;
+        in-range = λ p. same-range _ refl refl refl refl p;
         sized = length-predict (s .n) _ _ _ ∙ length-slope (s .n) _ work;
       }
   restepped-at false e =
@@ -282,6 +294,7 @@ module _ (s : Settings) (c : Common) (work : List Float) where
         due = due-predicted s (loweredOf s false entered) refl;
         ialth = refl;
         orders = λ p. reset-orders 1 p (omega arith, p .lmax .0);
+        in-range = λ p. in-range-predicted s (loweredOf s false entered) (in-range-lowered s c p _);
         sized = length-predict (s .n) _ _ _ ∙ length-slope (s .n) _ work;
       }
 

@@ -41,12 +41,12 @@ inside-ranges p =
 -- nst stays inside a reply until a step is accepted, so icount stays at least 20
 module _ {s : Settings} {c : Common} (p : Inside s c) where
   abbrev WithinStep : Common → Type 0
-  WithinStep d = Within s (20 + c .nst) (c .nst + 1) (2 ^ 64 - 14) 1 (coreOf d)
+  WithinStep d = Within s (20 + c .nst) (c .nst + 1) (c .ialth) 1 (coreOf d)
 
   within-of : WithinStep c
   within-of = record {
-    orders = p .orders; counters = wider (omega arith) (omega arith) (omega arith) (omega arith) (p .counters);
-    nslp = p .steps .0; steps = omega arith;
+    orders = p .orders; counters = wider (omega arith) (omega arith) (omega arith) (p .counters);
+    ialth = omega arith; nslp = p .steps .0; steps = omega arith;
   }
 
   inside-by : (d : Common) → WithinStep d → (d .nfe < 2 ^ 63) × (d .count < 2 ^ 63) × (d .rejected < 2 ^ 63)
@@ -54,7 +54,7 @@ module _ {s : Settings} {c : Common} (p : Inside s c) where
   inside-by d q k = record {
     settings = p .settings;
     orders = q .orders;
-    counters = counters-of (p .settings) d q (omega arith) (omega arith);
+    counters = counters-of (p .settings) d q (omega arith);
     steps = (q .nslp, omega (arith, q .steps, p .steps));
     counts = k;
   }

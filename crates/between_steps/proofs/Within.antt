@@ -50,15 +50,16 @@ coreOf c = record { shape = shapeOf c; step = stepNumbersOf c; nslp = c .nslp; n
 
 pub record Within (s : Settings) (base most more under : ℕ) (k : Core) : Type 0 where
   pub orders : Orders s (k .shape)
-  pub counters : Counters s (base - k .nst) (13 + more) (k .step)
+  pub counters : Counters s (base - k .nst) (k .step)
+  pub ialth : k .step .ialth ≤ 13 + more
   pub nslp : k .nslp < 2 ^ 62
   pub steps : k .nst + under ≤ most
 
 module _ {s : Settings} (acc : Accepted s) {base most more under : ℕ} (c : Common)
     (p : Within s base most more under (coreOf c)) where
   -- while icount cannot have fallen below 20
-  pub counters-of : 20 + most ≤ base + under → 14 + more ≤ 2 ^ 64 → Counters s 20 (2 ^ 64 - 1) (stepNumbersOf c)
-  counters-of h few = wider (omega (arith, p .steps)) (omega arith) (omega arith) (omega arith) (p .counters)
+  pub counters-of : 20 + most ≤ base + under → Counters s 20 (stepNumbersOf c)
+  counters-of h = wider (omega (arith, p .steps)) (omega arith) (omega arith) (p .counters)
 
   pub range-of : StepInRange s c
   range-of = step-in-range c acc (p .orders) (p .nslp)
@@ -76,6 +77,7 @@ module _ {s : Settings} (acc : Accepted s) {base most more under : ℕ} (c : Com
       m = m;
       column = rw (q .column) (p .counters .column);
     };
+    ialth = rw (q .ialth) (p .ialth);
     nslp = rw (q .nslp) (p .nslp);
     steps = rw (q .nst) (p .steps);
   }
@@ -92,7 +94,7 @@ module _ {s : Settings} (acc : Accepted s) {base most more under : ℕ} (c : Com
       → Within s base most more under (coreOf (finishJacobianOf s c work ipiv .common))
   unfolding finishJacobianOf
   within-factored few work ipiv =
-      record { orders = p .orders; counters = p .counters; nslp = few; steps = p .steps }
+      record { orders = p .orders; counters = p .counters; ialth = p .ialth; nslp = few; steps = p .steps }
 
   pub within-column : (j : ℕ) → j < s .n → Within s base most more under (coreOf (with-column j c))
   within-column j h =
@@ -101,14 +103,14 @@ module _ {s : Settings} (acc : Accepted s) {base most more under : ℕ} (c : Com
         orders = p .orders;
         counters =
           record { ialth = k .ialth; icount = k .icount; kflag = k .kflag; ncf = k .ncf; m = k .m; column = h };
-        nslp = p .nslp; steps = p .steps;
+        ialth = p .ialth; nslp = p .nslp; steps = p .steps;
       }
 
   -- ---- after a pass that was not accepted
 
   -- ialth stays, or is that of the order
   pub kept-ialth : {i : ℕ} → (i ≡ c .ialth) ⊎ (i ≡ c .nq + 1) → (1 ≤ i) × (i ≤ 13 + more)
-  kept-ialth (inl e) = rw e (p .counters .ialth)
+  kept-ialth (inl e) = rw e (p .counters .ialth, p .ialth)
   kept-ialth (inr e) = (omega arith, omega (arith, p .orders .nq))
 
   attempt-within : (d : Common) → Kept c d → Orders s (shapeOf d) → (1 ≤ d .ialth) × (d .ialth ≤ 13 + more)
@@ -116,13 +118,14 @@ module _ {s : Settings} (acc : Accepted s) {base most more under : ℕ} (c : Com
   attempt-within d k orders ialth kflag ncf = record {
     orders = orders;
     counters = record {
-      ialth = ialth;
+      ialth = ialth .0;
       icount = rw (k .icount, k .nst) (p .counters .icount);
       kflag = kflag;
       ncf = ncf;
       m = rw (k .m) (p .counters .m);
       column = rw (k .column) (p .counters .column);
     };
+    ialth = ialth .1;
     nslp = rw (k .nslp) (p .nslp);
     steps = rw (k .nst) (p .steps);
   }
@@ -162,7 +165,7 @@ module _ {s : Settings} (acc : Accepted s) {base most more under : ℕ} (c : Com
   pub within-restart : Within s base most more under (coreOf (restartOf c))
   within-restart = record {
     orders = lower-orders 1 (p .orders) (omega arith, p .orders .nq .0);
-    counters = p .counters; nslp = p .nslp; steps = p .steps;
+    counters = p .counters; ialth = p .ialth; nslp = p .nslp; steps = p .steps;
   }
 
   within-cut : (work : List Float) → Within s base most more under (coreOf (cutOf s c work .common))
@@ -172,10 +175,9 @@ module _ {s : Settings} (acc : Accepted s) {base most more under : ℕ} (c : Com
       record {
         orders = p .orders;
         counters = record {
-          ialth = kept-ialth (inr refl); icount = k .icount; kflag = k .kflag; ncf = k .ncf; m = k .m;
-          column = k .column;
+          ialth = omega arith; icount = k .icount; kflag = k .kflag; ncf = k .ncf; m = k .m; column = k .column;
         };
-        nslp = p .nslp; steps = p .steps;
+        ialth = omega (arith, p .orders .nq); nslp = p .nslp; steps = p .steps;
       }
 
   maxord-range : (f : MethodFamily) → (1 ≤ maxordOf s f) × (maxordOf s f ≤ 12)
@@ -195,10 +197,10 @@ module _ {s : Settings} (acc : Accepted s) {base most more under : ℕ} (c : Com
           table = omega arith;
         };
         counters = record {
-          ialth = (omega arith, omega arith); icount = (omega (arith, k .icount), omega arith); kflag = k .kflag;
+          ialth = omega arith; icount = (omega (arith, k .icount), omega arith); kflag = k .kflag;
           ncf = k .ncf; m = k .m; column = k .column;
         };
-        nslp = omega arith; steps = p .steps;
+        ialth = omega arith; nslp = omega arith; steps = p .steps;
       }
 
   prepared-at : (work : List Float) (cut due : Bool)
@@ -223,11 +225,12 @@ module _ {s : Settings} (acc : Accepted s) {base most more under : ℕ} (c : Com
         counters = record {
           ialth = k .ialth; icount = k .icount; kflag = omega arith; ncf = omega arith; m = k .m; column = k .column;
         };
-        nslp = q .nslp; steps = q .steps;
+        ialth = q .ialth; nslp = q .nslp; steps = q .steps;
       }
 
   pub within-another : c .nst + 1 ≤ most → Within s base most more 1 (coreOf c)
-  within-another h = record { orders = p .orders; counters = p .counters; nslp = p .nslp; steps = h }
+  within-another h =
+      record { orders = p .orders; counters = p .counters; ialth = p .ialth; nslp = p .nslp; steps = h }
 
 -- ---- an accepted step
 
@@ -236,17 +239,18 @@ pub within-accept : {s : Settings} → Accepted s → {base most more : ℕ} (c 
     → (dsm : Float) (work : List Float) → Within s base most more 0 (coreOf (acceptOf s c dsm work .common))
 within-accept {s} acc {base} {most} {more} c p dsm work =
     let u = accept-keeps s c dsm work in
-    let o = u .orders acc (p .orders) in
+    let o = u .orders 1 (acc .mxordn .0, acc .mxords .0) (p .orders) in
     record {
       orders = o;
       counters = record {
-        ialth = (u .ialth (p .counters .ialth .0), ialth-accepted _ _ (u .ialth-most) (o .nq .1));
+        ialth = u .ialth (p .counters .ialth);
         icount = icount-accepted _ _ (u .icount) (u .nst);
         kflag = rw (u .kflag) (omega arith);
         ncf = rw (u .ncf) (p .counters .ncf);
         m = rw (u .m) (omega (arith, acc .maxcor));
         column = rw (u .column) (p .counters .column);
       };
+      ialth = ialth-accepted _ _ (u .ialth-most) (o .nq .1);
       nslp = rw (u .nslp) (p .nslp);
       steps = rw (u .nst) (omega (arith, p .steps));
     }
@@ -258,5 +262,5 @@ within-accept {s} acc {base} {most} {more} c p dsm work =
     icount-accepted i n (inr e) q = omega (arith, p .counters .icount)
 
     ialth-accepted : (i q : ℕ) → (i ≤ max (c .ialth) 3) ⊎ (i ≡ q + 1) → q ≤ 12 → i ≤ 13 + more
-    ialth-accepted i q (inl h) few = omega (arith, p .counters .ialth)
+    ialth-accepted i q (inl h) few = omega (arith, p .ialth)
     ialth-accepted i q (inr e) few = omega arith

@@ -19,7 +19,6 @@ use Rattle.loops.proofs.Test.{differs}
 use Rattle.questions.specs.declared.Phase.{Phase}
 use Rattle.questions.specs.declared.Phase.the-variants as Phase
 use Rattle.common.specs.Ranges.{Counts, Lent}
-use Rattle.common.proofs.Ranges.{wider}
 use Rattle.questions.specs.Requires.{UnlessFinished}
 use Rattle.questions.specs.Turns.{RunState}
 use Rattle.invariants.proofs.Lent.{resume-lent}
@@ -99,8 +98,8 @@ module _ (g : Given) (a : Start) (run : Runs g a) where
   pub counts-fit-of : (l : RunState) → Bounded l → CountsFit (sessionFound g l)
   counts-fit-of l h =
       let e = h .closing in
-      counts-fit (sessionFound g l) (run .ok .settings) (h .counts) (e .orders)
-      (wider (omega arith) (omega arith) (omega arith) (omega arith) (e .counters)) (run .nrtol) (run .natol)
+      counts-fit (sessionFound g l) (run .ok .settings) (h .counts) (e .orders) (e .counters)
+      (omega (arith, e .ialth)) (run .nrtol) (run .natol)
 
   -- ---- after a reply
 

@@ -151,7 +151,7 @@ module _ (p : Problem) (b : Buffers) (begins : Begins p b) where
   fits = record {
     counts = let r = resumes .ranges in
         counts-fit x (r .settings) (r .counts) (r .orders)
-        (wider (omega arith) (omega arith) (omega arith) (omega arith) (r .counters)) (begun-run .nrtol)
+        (wider (omega arith) (omega arith) (omega arith) (r .counters)) (omega arith) (begun-run .nrtol)
         (begun-run .natol);
     floats = floats;
   }

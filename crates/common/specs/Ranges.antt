@@ -63,41 +63,45 @@ stepNumbersOf c = record {
   ialth = c .ialth; icount = c .icount; kflag = c .kflag; ncf = c .ncf; m = c .m; column = c .column;
 }
 
--- orders and columns
-pub record Orders (s : Settings) (k : Shape) : Type 0 where
+-- orders and columns: table up to a greatest number
+pub record OrdersTo (s : Settings) (tables : ℕ) (k : Shape) : Type 0 where
   pub nq : (1 ≤ k .nq) × (k .nq ≤ 12)
   pub lmax : (2 ≤ k .lmax) × (k .lmax ≤ 13) × (k .nq + 1 ≤ k .lmax)
   pub nqnyh : (k .nqnyh % s .n ≡ 0) × (k .nq * s .n ≤ k .nqnyh) × (k .nqnyh ≤ 12 * s .n)
-  pub table : k .table ≤ 1
+  pub table : k .table ≤ tables
 
--- the counters of a step: icount from a least value on, ialth and kflag up to a greatest one, ncf below a bound
-pub record CountersTo (s : Settings) (icounts ialths kflags ncfs : ℕ) (k : StepNumbers) : Type 0 where
-  pub ialth : (1 ≤ k .ialth) × (k .ialth ≤ ialths)
+abbrev pub Orders : Settings → Shape → Type 0
+Orders s k = OrdersTo s 1 k
+
+-- the counters of a step: icount from a least value on, kflag up to a greatest one, ncf below a bound; ialth, which is
+-- at most 13 in a run, has no upper end
+pub record CountersTo (s : Settings) (icounts kflags ncfs : ℕ) (k : StepNumbers) : Type 0 where
+  pub ialth : 1 ≤ k .ialth
   pub icount : (icounts ≤ k .icount) × (k .icount ≤ icount20)
   pub kflag : k .kflag ≤ kflags
   pub ncf : k .ncf < ncfs
   pub m : k .m < s .maxcor
   pub column : k .column < s .n
 
-abbrev pub Counters : Settings → ℕ → ℕ → StepNumbers → Type 0
-Counters s icounts ialths k = CountersTo s icounts ialths 9 (mxncfOf s) k
+abbrev pub Counters : Settings → ℕ → StepNumbers → Type 0
+Counters s icounts k = CountersTo s icounts 9 (mxncfOf s) k
 
 -- where a run is over, the failure that ended it is counted
-abbrev pub EndedCounters : Settings → ℕ → StepNumbers → Type 0
-EndedCounters s ialths k = CountersTo s 0 ialths 10 (mxncfOf s + 1) k
+abbrev pub EndedCounters : Settings → StepNumbers → Type 0
+EndedCounters s k = CountersTo s 0 10 (mxncfOf s + 1) k
 
--- counts below 2^62; ialth has no upper end but that of its word
+-- counts below 2^62
 pub record Ranges (s : Settings) (c : Common) : Type 0 where
   pub settings : Accepted s
   pub counts : Counts c (2 ^ 62 - 1)
   pub orders : Orders s (shapeOf c)
-  pub counters : Counters s 20 (2 ^ 64 - 1) (stepNumbersOf c)
+  pub counters : Counters s 20 (stepNumbersOf c)
 
 -- nslp becomes nst where a Jacobian is made
 pub record Inside (s : Settings) (c : Common) : Type 0 where
   pub settings : Accepted s
   pub orders : Orders s (shapeOf c)
-  pub counters : Counters s 20 (2 ^ 64 - 1) (stepNumbersOf c)
+  pub counters : Counters s 20 (stepNumbersOf c)
   pub steps : (c .nslp < 2 ^ 62) × (c .nst < 2 ^ 62)
   pub counts : (c .nfe < 2 ^ 63) × (c .count < 2 ^ 63) × (c .rejected < 2 ^ 63)
 

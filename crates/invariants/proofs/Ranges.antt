@@ -39,13 +39,15 @@ use Rattle.invariants.proofs.Walk.{resume-keeps}
 
 pub record Closing (s : Settings) (more : ℕ) (k : Core) : Type 0 where
   pub orders : Orders s (k .shape)
-  pub counters : EndedCounters s (13 + more) (k .step)
+  pub counters : EndedCounters s (k .step)
+  pub ialth : k .step .ialth ≤ 13 + more
 
 pub closing-of : {s : Settings} {base most more under : ℕ} {k : Core} → Within s base most more under k
     → Closing s more k
 closing-of p = record {
   orders = p .orders;
-  counters = wider (omega arith) (omega arith) (omega arith) (omega arith) (p .counters);
+  counters = wider (omega arith) (omega arith) (omega arith) (p .counters);
+  ialth = p .ialth;
 }
 
 module _ {s : Settings} (acc : Accepted s) {base most more under : ℕ} (c : Common)
@@ -55,13 +57,14 @@ module _ {s : Settings} (acc : Accepted s) {base most more under : ℕ} (c : Com
   attempt-closing d k orders ialth kflag ncf = record {
     orders = orders;
     counters = record {
-      ialth = ialth;
+      ialth = ialth .0;
       icount = rw (k .icount) (omega arith, p .counters .icount .1);
       kflag = kflag;
       ncf = ncf;
       m = rw (k .m) (p .counters .m);
       column = rw (k .column) (p .counters .column);
     };
+    ialth = ialth .1;
   }
 
   closing-unconverged : Closing s more (coreOf (noConvergenceOf s c work .common))
@@ -129,9 +132,9 @@ module _ (s : Settings) (base most more : ℕ) where
 -- ---- the order after any reply
 
 within-ranges : (s : Settings) (c : Common) → Ranges s c → (under : ℕ) → under ≤ 1
-    → Within s 0 (2 ^ 62) (2 ^ 64 - 14) under (coreOf c)
+    → Within s 0 (2 ^ 62) (c .ialth) under (coreOf c)
 within-ranges s c p under one = record {
-  orders = p .orders; counters = wider (omega arith) (omega arith) (omega arith) (omega arith) (p .counters);
+  orders = p .orders; counters = wider (omega arith) (omega arith) (omega arith) (p .counters); ialth = omega arith;
   nslp = omega (arith, p .counts .nslp); steps = omega (arith, p .counts .nst);
 }
 
@@ -140,7 +143,7 @@ pub order-after : (g : Given) (phase : Phase) (x : State) (kind : Kind) (reply :
 order-after g phase x kind reply time p =
     let s = g .s in
     let between = within-ranges s (x .c) p 0 (omega arith) in
-    let k = ranges-keep s 0 (2 ^ 62) (2 ^ 64 - 14) (p .settings) (omega (arith, p .settings .maxsteps)) (omega arith) in
+    let k = ranges-keep s 0 (2 ^ 62) (x .c .ialth) (p .settings) (omega (arith, p .settings .maxsteps)) (omega arith) in
     each (resumeOf g phase x kind reply time .phase) (λ h. h .orders .nq .1) (λ h. h .orders .nq .1)
     (λ h. h .orders .nq .1)
     (resume-keeps g phase x kind reply time (k (g .rtol) (g .atol) time)
@@ -159,9 +162,10 @@ within-initial s acc x0 h hmin hmxi = record {
     table = omega arith;
   };
   counters = record {
-    ialth = (omega arith, omega arith); icount = (omega arith, omega arith); kflag = omega arith; ncf = omega arith;
+    ialth = omega arith; icount = (omega arith, omega arith); kflag = omega arith; ncf = omega arith;
     m = omega (arith, acc .maxcor); column = omega (arith, acc .n);
   };
+  ialth = omega arith;
   nslp = omega arith;
   steps = omega (arith, acc .maxsteps);
 }

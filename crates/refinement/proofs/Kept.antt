@@ -127,7 +127,7 @@ module _ (g : Given) (a : Start) (ok : Accepts g a) where
           counts = counts-after rs;
           orders = h .orders;
           counters = counters-of (ok .settings) (reachedAfter g (startedAt g a) rs .st .c) h
-            (omega (arith, ok .settings .maxsteps)) (omega arith);
+            (omega (arith, ok .settings .maxsteps));
         };
         relative = ok .relative;
         absolute = ok .absolute;

@@ -13,6 +13,7 @@ use Rattle.common.specs.declared.Common.{Common}
 use Rattle.common.specs.Limits.{mxncfOf}
 use Rattle.common.specs.State.{Given}
 use Rattle.common.specs.Ranges.{Accepted, Counts}
+use Rattle.common.proofs.Ranges.{counts-wider}
 use Rattle.rules.specs.Play.{Play, ret, ask, tell, say}
 use Rattle.rules.specs.Rules.{start}
 use Rattle.rules.specs.Steps.{Step}
@@ -63,12 +64,6 @@ most-below s acc =
 pub counts-below : (s : Settings) (c : Common) → Accepted s → Counted s c
     → Counts c (2 ^ 62 - 1) × (20 ≤ c .icount) × (c .icount ≤ 1000020)
 counts-below s c acc p =
-    let m = most-below s acc in
-    let k = p .counts in
-    (record {
-      nslp = omega (arith, k .nslp); nst = omega (arith, k .nst); nfe = omega (arith, k .nfe);
-      nje = omega (arith, k .nje); nlu = omega (arith, k .nlu); rejected = omega (arith, k .rejected);
-      total = omega (arith, k .total); count = omega (arith, k .count);
-    },
+    (counts-wider (omega (arith, most-below s acc)) (p .counts),
     omega (arith, p .icount .0, p .steps, acc .maxsteps .1),
     p .icount .1)

@@ -76,9 +76,10 @@ floats-fit x f i =
 
 -- whether the run is over or not
 pub counts-fit : (x : Session) → Accepted (x .settings) → Counts (x .common) (2 ^ 62 - 1)
-    → Orders (x .settings) (shapeOf (x .common)) → EndedCounters (x .settings) (2 ^ 64 - 1) (stepNumbersOf (x .common))
+    → Orders (x .settings) (shapeOf (x .common)) → EndedCounters (x .settings) (stepNumbersOf (x .common))
+    → x .common .ialth < 2 ^ 64
     → OneOrN (x .settings .n) (x .settings .nrtol) → OneOrN (x .settings .n) (x .settings .natol) → CountsFit x
-counts-fit x s k o t rtol atol =
+counts-fit x s k o t ialth rtol atol =
     record {
       n = omega arith;
       maxsteps = omega arith;
@@ -252,8 +253,8 @@ record-between x f r =
       ▹ (s .mxords .0, s .mxords .1) ▹ (s .maxcor .0, s .maxcor .1) ▹ upto (s .msbp) ▹ upto (s .mxncf)
       ▹ flag-from (x .settings .supplied) ▹ flag-from (x .settings .given) ▹ upto (upto-64 (f .nrtol))
       ▹ upto (upto-64 (f .natol)) ▹ family-from (x .common .meth) ▹ (o .nq .0, o .nq .1) ▹ (o .lmax .0, o .lmax .1)
-      ▹ upto (upto-64 (f .nqnyh)) ▹ (t .ialth .0, upto-64 (f .ialth)) ▹ (t .icount .0, t .icount .1)
-      ▹ upto (o .table) ▹ upto (k .nslp) ▹ upto (k .nst) ▹ upto (k .nfe) ▹ upto (k .nje) ▹ upto (k .nlu)
-      ▹ upto (k .rejected) ▹ upto (k .total) ▹ upto (k .count) ▹ upto (t .kflag) ▹ upto (upto-64 (f .ncf))
-      ▹ upto (upto-64 (f .m)) ▹ upto (upto-64 (f .column)) ▹ flag-from (x .common .due)
-      ▹ flag-from (x .common .jcur) ▹ flag-from (x .common .setup) ▹ between-none
+      ▹ upto (upto-64 (f .nqnyh)) ▹ (t .ialth, upto-64 (f .ialth)) ▹ (t .icount .0, t .icount .1) ▹ upto (o .table)
+      ▹ upto (k .nslp) ▹ upto (k .nst) ▹ upto (k .nfe) ▹ upto (k .nje) ▹ upto (k .nlu) ▹ upto (k .rejected)
+      ▹ upto (k .total) ▹ upto (k .count) ▹ upto (t .kflag) ▹ upto (upto-64 (f .ncf)) ▹ upto (upto-64 (f .m))
+      ▹ upto (upto-64 (f .column)) ▹ flag-from (x .common .due) ▹ flag-from (x .common .jcur)
+      ▹ flag-from (x .common .setup) ▹ between-none

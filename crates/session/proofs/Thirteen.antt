@@ -68,7 +68,7 @@ in-ranges b pivots f r =
         table = w .table;
       };
       counters = record {
-        ialth = (w .ialth .0, omega (arith, w .ialth));
+        ialth = w .ialth .0;
         icount = w .icount;
         kflag = w .kflag;
         ncf = r .ncf;

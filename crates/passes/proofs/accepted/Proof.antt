@@ -42,7 +42,8 @@ end-step-requires c κs =
     let x = a .args in
     let k = rw (← e .accept .ensures) at (accept-keeps (x .s) (x .c) (x .dsm) (x .work .now)) in
     (
-      step-in-range _ (p .settings) (k .orders (p .settings) (p .orders)) (omega (arith, k .nslp, p .steps)),
+      step-in-range _ (p .settings) (k .orders 1 (p .settings .mxordn .0, p .settings .mxords .0) (p .orders))
+      (omega (arith, k .nslp, p .steps)),
       (
         p .orders .nq,
         (
