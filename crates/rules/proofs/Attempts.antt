@@ -23,7 +23,7 @@ use Rattle.rules.specs.Rules.{Ended, single, restepped, follow, attempte
 use Rattle.rules.specs.Rules.{afterError, afterNoConvergence, tested, errorAt, decide, attempts}
 use Rattle.rules.specs.Steps.{Tally, Step, oneDerivative, oneRetry}
 use Rattle.rules.specs.Caps.{Capped}
-use Rattle.rules.proofs.Tracks.{Whole, now, Base, Tracks, node}
+use Rattle.rules.proofs.Tracks.{Whole, now, Base, Tracks, asked-tracks, node}
 use Rattle.rules.proofs.Pass.{Amid, Retried, Then, pass-whole}
 use Rattle.rules.proofs.Budget.{spare, spare-due, spare-next, spare-low, singles, Inv, Done, Onward}
 use Rattle.rules.proofs.Budget.{room, Paid, paid, next, capped, same-attempt}
@@ -32,14 +32,6 @@ module _ (g : Given) (f : MethodFamily) (b : Common) (xs : List Step) (base : Ba
     (on : Ended → Play) where
   abbrev s : Settings
   s = g .s
-
-  -- a single derivative is asked for
-  single-tracks : (c : Common) (u : Tally) → Tracks s f b c u → Tracks s f b (askedInStep c) (oneDerivative u)
-  single-tracks c u k =
-      record {
-        meth = k .meth; nst = k .nst; nfe = omega (arith, k .nfe); count = omega (arith, k .count); nje = k .nje;
-        nlu = k .nlu; total = k .total; nslp = k .nslp; icount = k .icount; paid = k .paid;
-      }
 
   -- what a decision must leave for the next pass, of which k are allowed
   record Resteps (k : ℕ) (c : Common) (u : Tally) : Type 0 where
@@ -72,7 +64,6 @@ module _ (g : Given) (f : MethodFamily) (b : Common) (xs : List Step) (base : Ba
       → (n : Next) → afterNoConvergence g z .next ≡ n → Fair k n (afterNoConvergence g z .common) u
   fair-unconverged k a u p z h Next.Pass e =
       let q = law-unconverged s (z .c) (z .w) in
-      let k1 = q .kept in
       let y = afterNoConvergence g z .common in
       let few : a .ncf + 1 < mxncfOf s = rw (h .ncf) at (q .below (rw (h .ncf) (p .ncf)) e) in
       let ny : y .ncf ≡ a .ncf + 1 = rw (← h .ncf) (q .ncf) in
@@ -85,17 +76,13 @@ module _ (g : Given) (f : MethodFamily) (b : Common) (xs : List Step) (base : Ba
       let nine : 9 - y .kflag ≡ 9 - a .kflag = ap (λ (i : ℕ). 9 - i) ky in
       let fewer : suc (mxncfOf s - y .ncf) ≡ mxncfOf s - a .ncf = rw ny (one-fewer (a .ncf) (mxncfOf s) (p .ncf)) in
       next s f b k a u p y u
-      (same-attempt s f b y (h .tracks) (k1 .meth) (k1 .nst) (k1 .nfe) (k1 .count) (k1 .nje) (k1 .nlu) (k1 .total)
-      (k1 .nslp) (k1 .icount))
+      (same-attempt s f b y (q .kept) (h .tracks))
       (omega (arith, q .rejected-pass e, h .rejected)) (rw ny few) (rw ky (p .kflag)) (lower fewer nine sp (p .is))
       (rw sy (omega arith)) refl (omega (arith, p .jacobians)) refl (omega (arith, p .retries))
   fair-unconverged k a u p z h Next.Poor e =
       let q = law-unconverged s (z .c) (z .w) in
-      let k1 = q .kept in
       record {
-        tracks =
-            same-attempt s f b _ (h .tracks) (k1 .meth) (k1 .nst) (k1 .nfe) (k1 .count) (k1 .nje) (k1 .nlu) (k1 .total)
-            (k1 .nslp) (k1 .icount);
+        tracks = same-attempt s f b _ (q .kept) (h .tracks);
         rejected = omega (arith, q .rejected-poor e, h .rejected);
         capped = capped s f b k a u p;
       }
@@ -115,7 +102,6 @@ module _ (g : Given) (f : MethodFamily) (b : Common) (xs : List Step) (base : Ba
       → (n : Next) → afterError g dsm z .next ≡ n → Fair k n (afterError g dsm z .common) u
   fair-failed k a u p dsm z h Next.Pass e =
       let q = law-failed s (z .c) dsm (z .w) in
-      let k1 = q .kept in
       let y = afterError g dsm z .common in
       let low : a .kflag + 1 < 3 = rw (h .kflag) at (q .pass e) in
       let ny : y .ncf ≡ a .ncf = q .ncf ∙ h .ncf in
@@ -125,23 +111,18 @@ module _ (g : Given) (f : MethodFamily) (b : Common) (xs : List Step) (base : Ba
       in
       let fewer : mxncfOf s - y .ncf ≡ mxncfOf s - a .ncf = ap (λ (i : ℕ). mxncfOf s - i) ny in
       next s f b k a u p y u
-      (same-attempt s f b y (h .tracks) (k1 .meth) (k1 .nst) (k1 .nfe) (k1 .count) (k1 .nje) (k1 .nlu) (k1 .total)
-      (k1 .nslp) (k1 .icount))
+      (same-attempt s f b y (q .kept) (h .tracks))
       (omega (arith, q .rejected, h .rejected)) (rw ny (p .ncf)) (omega arith) (omega (arith, p .is)) (omega arith) refl
       (omega (arith, p .jacobians)) refl (omega (arith, p .retries))
   fair-failed k a u p dsm z h Next.Restep e =
       let q = law-failed s (z .c) dsm (z .w) in
-      let k1 = q .kept in
       let c = afterError g dsm z .common in
       let v = oneDerivative u in
       let third = q .restep (rw (h .kflag) (p .kflag)) e in
       let low : 3 ≤ a .kflag + 1 = rw (h .kflag) at (third .0) in
       let high : a .kflag + 1 ≤ 9 = rw (h .kflag) at (third .1) in
       let n : a .ncf < mxncfOf s = p .ncf in
-      let tc : Tracks s f b c u =
-      same-attempt s f b c (h .tracks) (k1 .meth) (k1 .nst) (k1 .nfe) (k1 .count) (k1 .nje) (k1 .nlu) (k1 .total)
-      (k1 .nslp) (k1 .icount)
-      in
+      let tc : Tracks s f b c u = same-attempt s f b c (q .kept) (h .tracks) in
       record {
         tracks = tc;
         rejected = omega (arith, q .rejected, h .rejected);
@@ -151,7 +132,6 @@ module _ (g : Given) (f : MethodFamily) (b : Common) (xs : List Step) (base : Ba
         };
         again = λ w1.
             let r = law-restepped s (askedInStep c) w1 in
-            let k2 = r .kept in
             let y = restepOf s (askedInStep c) w1 .common in
             let ny : y .ncf ≡ a .ncf = r .ncf ∙ q .ncf ∙ h .ncf in
             let ky : y .kflag ≡ a .kflag + 1 = r .kflag ∙ rw (← h .kflag) (q .kflag) in
@@ -159,18 +139,14 @@ module _ (g : Given) (f : MethodFamily) (b : Common) (xs : List Step) (base : Ba
             let sp : spare f (y .due) (y .kflag) ≤ 2 - y .kflag = rw dy (spare-low f (y .kflag)) in
             let fewer : mxncfOf s - y .ncf ≡ mxncfOf s - a .ncf = ap (λ (i : ℕ). mxncfOf s - i) ny in
             next s f b k a u p y v
-            (same-attempt s f b y (single-tracks c u tc) (k2 .meth) (k2 .nst) (k2 .nfe) (k2 .count) (k2 .nje) (k2 .nlu)
-            (k2 .total) (k2 .nslp) (k2 .icount))
+            (same-attempt s f b y (r .kept) (asked-tracks c u tc))
             (omega (arith, r .rejected, q .rejected, h .rejected)) (rw ny (p .ncf)) (omega arith) (omega (arith, p .is))
             (omega arith) refl (omega (arith, p .jacobians)) refl (omega (arith, p .retries));
       }
   fair-failed k a u p dsm z h Next.TooSmall e =
       let q = law-failed s (z .c) dsm (z .w) in
-      let k1 = q .kept in
       record {
-        tracks =
-            same-attempt s f b _ (h .tracks) (k1 .meth) (k1 .nst) (k1 .nfe) (k1 .count) (k1 .nje) (k1 .nlu) (k1 .total)
-            (k1 .nslp) (k1 .icount);
+        tracks = same-attempt s f b _ (q .kept) (h .tracks);
         rejected = omega (arith, q .rejected, h .rejected);
         capped = capped s f b k a u p;
       }
@@ -212,7 +188,7 @@ module _ (g : Given) (f : MethodFamily) (b : Common) (xs : List Step) (base : Ba
     follow-whole k again go Next.Pass y u p = go y u p
     follow-whole k again go Next.Restep y u p =
         let v = oneDerivative u in
-        (node s f b xs base (single y) v (single-tracks (y .c) u (p .tracks)) (p .rejected) (p .capped),
+        (node s f b xs base (single y) v (asked-tracks (y .c) u (p .tracks)) (p .rejected) (p .capped),
         λ f1. go (restepped g f1 (single y)) v (p .again (stored g f1 (single y) .w)))
     follow-whole k again go Next.TooSmall y u p = onward .small y u p
     follow-whole k again go Next.Poor y u p = onward .poor y u p

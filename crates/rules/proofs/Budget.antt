@@ -20,6 +20,7 @@ use Rattle.common.specs.declared.Common.{Common}
 use Rattle.common.specs.Limits.{mxncfOf}
 use Rattle.common.specs.Record.{isBdf}
 use Rattle.common.specs.State.{Given, State}
+use Rattle.attempt.proofs.Laws.{Kept}
 use Rattle.rules.specs.Play.{Play}
 use Rattle.rules.specs.Rules.{Ended, endedAccepted, endedSmall, endedPoor, limitsOf}
 use Rattle.rules.specs.Steps.{Tally, Step}
@@ -162,11 +163,10 @@ module _ (s : Settings) (f : MethodFamily) (b : Common) where
       }
 
   -- a failed attempt and a restart at order 1 keep what a step tracks
-  pub same-attempt : {c : Common} {u : Tally} (d : Common) → Tracks s f b c u → d .meth ≡ c .meth → d .nst ≡ c .nst
-      → d .nfe ≡ c .nfe → d .count ≡ c .count → d .nje ≡ c .nje → d .nlu ≡ c .nlu → d .total ≡ c .total
-      → d .nslp ≡ c .nslp → d .icount ≡ c .icount → Tracks s f b d u
-  same-attempt d p e1 e2 e3 e4 e5 e6 e7 e8 e9 =
+  pub same-attempt : {c : Common} {u : Tally} (d : Common) → Kept c d → Tracks s f b c u → Tracks s f b d u
+  same-attempt d k p =
       record {
-        meth = e1 ∙ p .meth; nst = e2 ∙ p .nst; nfe = e3 ∙ p .nfe; count = e4 ∙ p .count; nje = e5 ∙ p .nje;
-        nlu = rw e6 (p .nlu); total = e7 ∙ p .total; nslp = rw e8 (p .nslp); icount = e9 ∙ p .icount; paid = p .paid;
+        meth = k .meth ∙ p .meth; nst = k .nst ∙ p .nst; nfe = k .nfe ∙ p .nfe; count = k .count ∙ p .count;
+        nje = k .nje ∙ p .nje; nlu = rw (k .nlu) (p .nlu); total = k .total ∙ p .total; nslp = rw (k .nslp) (p .nslp);
+        icount = k .icount ∙ p .icount; paid = p .paid;
       }

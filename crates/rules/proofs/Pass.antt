@@ -33,7 +33,7 @@ use Rattle.rules.specs.Steps.{Tally, Step, oneDerivative, costOf, oneJac
 use Rattle.rules.specs.Caps.{passesOf, retriesOf, jacobiansOf, derivativesOf, Capped}
 use Rattle.rules.specs.Demands.{CapsKept}
 use Rattle.rules.specs.Counts.{Counted}
-use Rattle.rules.proofs.Tracks.{Whole, now, Base, Tracks, same-tracks, node}
+use Rattle.rules.proofs.Tracks.{Whole, now, Base, Tracks, same-tracks, asked-tracks, node}
 
 -- room for one more pass: a and t are the record and the tally before it
 pub record Room (s : Settings) (f : MethodFamily) (b a : Common) (t : Tally) : Type 0 where
@@ -118,12 +118,8 @@ module _ (g : Given) (f : MethodFamily) (b : Common) (xs : List Step) (base : Ba
   -- a derivative is asked for
   asked-during : (r : ℕ) (c : Common) (u : Tally) → During (suc r) c u → During r (askedInStep c) (oneDerivative u)
   asked-during r c u p =
-      let k = p .tracks in
       record {
-        tracks = record {
-          meth = k .meth; nst = k .nst; nfe = omega (arith, k .nfe); count = omega (arith, k .count); nje = k .nje;
-          nlu = k .nlu; total = k .total; nslp = k .nslp; icount = k .icount; paid = k .paid;
-        };
+        tracks = asked-tracks c u (p .tracks);
         ncf = p .ncf; kflag = p .kflag; rejected = p .rejected; passes = p .passes; retries = p .retries;
         jacobians = p .jacobians; paid = p .paid; derivatives = omega (arith, p .derivatives);
       }

@@ -19,8 +19,9 @@ use Rattle.common.specs.State.{Given, State}
 use Rattle.jacobian.proofs.Laws.{SameStep}
 use Rattle.common.specs.Ranges.{Accepted}
 use Rattle.rules.specs.Play.{Limits, Play}
+use Rattle.rules.specs.Pass.{askedInStep}
 use Rattle.rules.specs.Rules.{limitsOf}
-use Rattle.rules.specs.Steps.{Tally, Step, isEnded, isEndedKeeping, number}
+use Rattle.rules.specs.Steps.{Tally, Step, oneDerivative, isEnded, isEndedKeeping, number}
 use Rattle.rules.specs.Caps.{passesOf, jacobiansOf, Capped, Every}
 use Rattle.rules.specs.Demands.{Throughout, CapsKept, Demand3At}
 use Rattle.rules.specs.Counts.{stepMost, Counted, CountedAt}
@@ -109,6 +110,15 @@ same-tracks d q p =
       nslp = rw (q .nslp) (p .nslp);
       icount = q .icount ∙ p .icount;
       paid = p .paid;
+    }
+
+-- a derivative is asked for
+pub asked-tracks : {s : Settings} {f : MethodFamily} {b : Common} (c : Common) (t : Tally) → Tracks s f b c t
+    → Tracks s f b (askedInStep c) (oneDerivative t)
+asked-tracks c t k =
+    record {
+      meth = k .meth; nst = k .nst; nfe = omega (arith, k .nfe); count = omega (arith, k .count); nje = k .nje;
+      nlu = k .nlu; total = k .total; nslp = k .nslp; icount = k .icount; paid = k .paid;
     }
 
 pub most-passes : (f : MethodFamily) (l : Limits) → passesOf f l ≤ passesOf Bdf l
