@@ -1,74 +1,60 @@
-// Compares our numbers with a stored sample of the reference's, and writes how many were compared and how many differ.
-// A case of the sample is five numbers: a kind, three arguments and the answer's pattern.
-ghost use mathlib.Core.Path.{_≡_};
-ghost use Prim.Native.Nat.{_+_, _*_, _≤_};
+// Compares our numbers and leaves with a stored sample of the reference's, and writes how many were compared and how
+// many differ: of the leaves, how many answer or leave something else.
+ghost use Prim.Native.Nat.{_≤_};
 ghost use lib.ListN.{length};
-ghost use Rattle.loops.specs.Count.{countedAt};
-ghost use Rattle.replay.specs.Replay.{caseNumber, isStored, casesDiffer};
 
+mod leaf;
+mod leaves;
+mod number;
 mod table;
 
-// What our function of that kind answers: the root of order b of the pattern a, its square root,
-// elco and tesco of table a, order b and index c, cm1 and cm2 of table a and order b, SM1 of order b.
-fn number(kind: u64, a: u64, b: u64, c: u64) -> f64
-    ensures { λ r. ⌜ r ≡ caseNumber kind a b c ⌝ }
-{
-    if kind == 0 {
-        return root::root(numbers::from_bits(a), b as usize).value;
-    }
-    if kind == 1 {
-        return sqrt::sqrt(numbers::from_bits(a));
-    }
-    if kind == 2 {
-        return probe::probe_elco(a as usize, b as usize, c as usize);
-    }
-    if kind == 3 {
-        return probe::probe_tesco(a as usize, b as usize, c as usize);
-    }
-    if kind == 4 {
-        return probe::probe_cm1(a as usize, b as usize);
-    }
-    if kind == 5 {
-        return probe::probe_cm2(a as usize, b as usize);
-    }
-    probe::probe_sm1(b as usize)
-}
-
-// The count with case i added, if our answer's pattern is another than the stored one.
-fn counted(cases: &[u64], i: usize, differ: usize) -> usize
-    requires { ⌜ (5 * i + 5 ≤ length (now cases)) × (differ ≤ i) ⌝ }
-    ensures { λ r. ⌜ (r ≡ countedAt (isStored (now (cases .entry))) i differ) × (r ≤ i + 1) ⌝ }
-{
-    let at = 5 * i;
-    let ours = number(cases[at], cases[at + 1], cases[at + 2], cases[at + 3]);
-    if numbers::to_bits(ours) == cases[at + 4] {
-        return differ;
-    }
-    differ + 1
-}
-
-// How many of the cases our functions answer otherwise.
-fn differ(cases: &[u64]) -> usize
-    ensures { λ r. ⌜ r ≡ casesDiffer (now (cases .entry)) ⌝ }
-{
-    let n = cases.len() / 5;
-    let mut found = 0;
-    for i in 0..n {
-        found = counted(cases, i, found);
-    }
-    found
-}
-
-fn line(name: &[u8], cases: &[u64]) {
+fn line(name: &[u8], compared: usize, differ: usize) {
     io::write_all(1, name);
-    io::print_decimal(1, (cases.len() / 5) as u64);
+    io::print_decimal(1, compared as u64);
     io::write_all(1, b" compared, ");
-    io::print_decimal(1, differ(cases) as u64);
+    io::print_decimal(1, differ as u64);
     io::write_all(1, b" differ\n");
 }
 
+fn cases(name: &[u8], stored: &[u64]) {
+    line(name, stored.len() / 5, number::differ(stored));
+}
+
+fn calls(name: &[u8], heads: &[u64], stored: &[u64])
+    requires { ⌜ length (now heads) ≤ 1000000 ⌝ }
+{
+    line(name, heads.len() / 11, leaf::differ(heads, stored));
+}
+
+// A function for each table: its numbers are carried through everything that follows its loan.
+fn roots() {
+    cases(b"root: ", &table::ROOTS);
+}
+
+fn square_roots() {
+    cases(b"sqrt: ", &table::SQUARE_ROOTS);
+}
+
+fn coefficients() {
+    cases(b"coefficients: ", &table::COEFFICIENTS);
+}
+
+fn on_lists() {
+    calls(b"leaves on lists: ", &leaves::LISTS_HEADS, &leaves::LISTS);
+}
+
+fn on_a_record() {
+    calls(
+        b"leaves on a record: ",
+        &leaves::RECORDS_HEADS,
+        &leaves::RECORDS,
+    );
+}
+
 fn main() {
-    line(b"root: ", &table::ROOTS);
-    line(b"sqrt: ", &table::SQUARE_ROOTS);
-    line(b"coefficients: ", &table::COEFFICIENTS);
+    roots();
+    square_roots();
+    coefficients();
+    on_lists();
+    on_a_record();
 }

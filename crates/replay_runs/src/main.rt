@@ -1,5 +1,5 @@
 // Replays the stored runs of the reference through the calls: every answer of ours is compared with the stored one, and
-// every reply is the stored one. Writes how many answers were compared and how many differ.
+// every reply is the stored one. Writes how many answers were compared and how many differ, and then the scope's sums.
 ghost use Prim.Native.Nat.{_+_, _*_, _≤_, _<_};
 ghost use mathlib.Core.Bool.{false};
 ghost use mathlib.Core.Path.{_≡_};
@@ -9,6 +9,7 @@ ghost use Rattle.common.specs.Limits.{maxStates};
 
 mod answer;
 mod runs;
+mod sums;
 mod words;
 
 use raimsklo::Reply;
@@ -283,7 +284,7 @@ fn whole() -> Found {
     all(&runs::RUNS)
 }
 
-fn main() {
+fn replayed() {
     let f = whole();
     io::write_all(1, b"runs: ");
     io::print_decimal(1, f.runs as u64);
@@ -292,4 +293,9 @@ fn main() {
     io::write_all(1, b" compared, ");
     io::print_decimal(1, f.differ as u64);
     io::write_all(1, b" differ\n");
+}
+
+fn main() {
+    replayed();
+    sums::lines();
 }
