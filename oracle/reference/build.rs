@@ -54,7 +54,8 @@ fn main() {
     link(repository, "raimsklo");
 }
 
-/// The loop of `stoda` that adds the correction to the history's columns, which is no function there, and what follows it.
+/// The loop of `stoda` that adds the correction to the history's columns, which is no function there, and what
+/// follows it.
 const CORRECTION: [&str; 2] = [
     "for j in 0..state.l {\n            for i in 0..state.n {\n                work.yh[i + j * state.n] +=",
     "\n\n        state.icount -= 1;\n",

@@ -1,7 +1,7 @@
 //! compare [COMPARISON..] [--whole] [--size N] [--seed S]
 //!
 //! Runs the named comparisons, all where none is named, and exits with 1 if anything differs.
-//! `sample` writes what the programs `replay` and `replay_leaves` compare, which `stored` holds to be that.
+//! `sample` writes what the program `replay` compares, which `stored` holds to be that.
 
 mod cases;
 mod dense;

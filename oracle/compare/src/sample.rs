@@ -1,5 +1,5 @@
-//! The stored sample that the programs `replay` and `replay_leaves` compare under `rt ci`, without Rust: writing it,
-//! and seeing that it is current. The calls of the leaves are drawn in `stored.rs`.
+//! The stored sample that the program `replay` compares under `rt ci`, without Rust: writing it, and seeing that it is
+//! current. The calls of the leaves are drawn in `stored.rs`.
 
 use crate::cases::{self, Random};
 use crate::report::{Report, Tally};
@@ -23,7 +23,7 @@ const HEAD: &str = "\
 /// Both stored files, and what would be written to them now.
 fn files() -> [(PathBuf, String); 2] {
     let folder = PathBuf::from(env!("CARGO_MANIFEST_DIR")).join("../../crates");
-    [(folder.join("replay/src/table.rt"), text()), (folder.join("replay_leaves/src/leaves.rt"), stored::text())]
+    [(folder.join("replay/src/table.rt"), text()), (folder.join("replay/src/leaves.rt"), stored::text())]
 }
 
 pub fn write() -> ExitCode {

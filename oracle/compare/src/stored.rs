@@ -1,5 +1,5 @@
 //! The stored calls of the leaves: each with the lists that are lent to it, and the answer and the lists that the
-//! reference leaves. crates/replay_leaves/src/leaf.rt makes them again.
+//! reference leaves. crates/replay/src/leaf.rt makes them again.
 
 use crate::cases::Random;
 use crate::record::{Record, float};
