@@ -18,7 +18,7 @@ use Rattle.between_steps.specs.declared.Status.{Status}
 use Rattle.between_steps.specs.declared.Status.the-variants as Status
 use Rattle.session.specs.States.{phaseNumber}
 use Rattle.answers.specs.Answers.{statusNumber, questionReply}
-use Rattle.raimsklo.specs.Replies.{isUnasked}
+use Rattle.replies.specs.Replies.{isUnasked}
 use Rattle.calls.specs.Run.{isRefusal}
 use Rattle.calls.specs.ReplyRefused.{Awaited, derivative, jacobian, answer, nothing, awaits}
 

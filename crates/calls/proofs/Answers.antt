@@ -31,7 +31,7 @@ use Rattle.invariants.specs.Next.{sessionFound}
 use Rattle.refinement.specs.Shown.{resumed, isTaken}
 use Rattle.answers.specs.Answers.{plainReply, questionReply}
 use Rattle.answers.specs.Called.{Buffers, Called}
-use Rattle.raimsklo.specs.Replies.{isKind, kindOf, questionOf, turnWrittenOf, turned, written, acceptedReplyOf}
+use Rattle.replies.specs.Replies.{isKind, kindOf, questionOf, turnWrittenOf, turned, written, acceptedReplyOf}
 use Rattle.raimsklo.specs.Calls.{replyOf}
 use Rattle.calls.specs.Run.{ReplyCall}
 use Rattle.calls.specs.Follow.{fedAs, isSized}

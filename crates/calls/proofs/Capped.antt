@@ -33,7 +33,7 @@ use Rattle.refinement.proofs.Follows.{arrived}
 use Rattle.answers.specs.declared.Reply.{Reply}
 use Rattle.answers.specs.Answers.{plainReply, questionReply}
 use Rattle.answers.specs.Called.{Buffers, Called}
-use Rattle.raimsklo.specs.Replies.{isKind}
+use Rattle.replies.specs.Replies.{isKind}
 use Rattle.raimsklo.specs.Calls.{Problem, startOf}
 use Rattle.calls.specs.Run.{Begins, ReplyCall, TimesF64, lastBy, ours, replied, lastOf, isRefusal}
 use Rattle.calls.specs.Follow.{givenOf, fromOf, treeOf, isStep, saidAt, fedAs, isSized}

@@ -24,7 +24,7 @@ use Rattle.refinement.specs.Shown.{resumed, asks, treeNext}
 use Rattle.refinement.specs.AtNode.{startedAt}
 use Rattle.answers.specs.Answers.{plainReply}
 use Rattle.answers.specs.Called.{Buffers, Called}
-use Rattle.raimsklo.specs.Replies.{isKind}
+use Rattle.replies.specs.Replies.{isKind}
 use Rattle.raimsklo.specs.Calls.{Problem, startOf}
 use Rattle.calls.specs.Run.{Begins, ReplyCall, TimesF64, callsBy, replied, callsOf, lastOf}
 use Rattle.calls.specs.Follow.{givenOf, fromOf, treeOf, fedAs, isAwaited, isSized, nextOf, standsAt}

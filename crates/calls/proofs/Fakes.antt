@@ -55,7 +55,7 @@ use Rattle.invariants.proofs.Floats.{literal}
 use Rattle.invariants.proofs.Host.{fits-is-f64}
 use Rattle.answers.specs.declared.Reply.{Reply}
 use Rattle.answers.specs.Called.{Buffers, Called}
-use Rattle.raimsklo.specs.Replies.{kindOf}
+use Rattle.replies.specs.Replies.{kindOf}
 use Rattle.raimsklo.specs.Calls.{Problem, startOf}
 use Rattle.calls.specs.Run.{Begins, ReplyCall, TimesF64, Solver, answeredBy, callsBy, lastBy, ours}
 use Rattle.calls.specs.Follow.{Said, saidBy, saidAt, fedAs, toldBy, standsAt, treeOf, TakesDerivative, PhaseAt}

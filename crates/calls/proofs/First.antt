@@ -39,7 +39,7 @@ use Rattle.invariants.specs.Host.{IsF64}
 use Rattle.answers.specs.declared.Reply.{Reply}
 use Rattle.answers.specs.Answers.{plainReply, refusalReply}
 use Rattle.answers.specs.Called.{Buffers}
-use Rattle.raimsklo.specs.Replies.{kindOf}
+use Rattle.replies.specs.Replies.{kindOf}
 use Rattle.raimsklo.specs.Calls.{Problem, startOf}
 use Rattle.calls.specs.Run.{Begins, ReplyCall, lentFor, replied}
 use Rattle.calls.specs.Follow.{givenOf, fromOf, treeOf, isAwaited, isSized}

@@ -32,7 +32,7 @@ use Rattle.refinement.proofs.Follows.{arrived}
 use Rattle.answers.specs.declared.Reply.{Reply}
 use Rattle.answers.specs.Answers.{questionReply}
 use Rattle.answers.specs.Called.{Called}
-use Rattle.raimsklo.specs.Replies.{isKind, kindOf}
+use Rattle.replies.specs.Replies.{isKind, kindOf}
 use Rattle.invariants.specs.Host.{IsF64}
 use Rattle.invariants.proofs.Floats.{literal}
 use Rattle.invariants.proofs.Host.{fits-is-f64}

@@ -28,7 +28,7 @@ use Rattle.session.specs.Session.{decodeOf}
 use Rattle.answers.specs.declared.Reply.{Reply}
 use Rattle.answers.specs.Answers.{plainReply, questionReply}
 use Rattle.answers.specs.Called.{Buffers}
-use Rattle.raimsklo.specs.Replies.{kindOf}
+use Rattle.replies.specs.Replies.{kindOf}
 use Rattle.raimsklo.specs.Calls.{replyOf}
 use Rattle.refusals.specs.Rows.{NoneHolds}
 use Rattle.calls.specs.ReplyRefused.{phaseIn, replyRows}

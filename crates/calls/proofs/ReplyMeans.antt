@@ -36,7 +36,7 @@ use Rattle.session.specs.Session.{decodeOf, encodeOf}
 use Rattle.answers.specs.declared.Reply.{Reply}
 use Rattle.answers.specs.Answers.{plainReply, statusNumber, questionReply}
 use Rattle.answers.specs.Called.{Buffers, Called}
-use Rattle.raimsklo.specs.Replies.{kindOf, turnWrittenOf, turned, acceptedReplyOf}
+use Rattle.replies.specs.Replies.{kindOf, turnWrittenOf, turned, acceptedReplyOf}
 use Rattle.raimsklo.specs.Calls.{replyOf}
 use Rattle.calls.specs.Run.{isRefusal}
 use Rattle.refusals.specs.Rows.{Row, NoneHolds}

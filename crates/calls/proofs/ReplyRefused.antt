@@ -41,8 +41,8 @@ use Rattle.refusals.proofs.Decides.{Decides, equal, smaller, denied, either as 
 use Rattle.refusals.proofs.Rows.{Each}
 use Rattle.answers.specs.Answers.{plainReply, questionReply}
 use Rattle.answers.specs.Called.{Buffers, Called}
-use Rattle.raimsklo.specs.Replies.{isKind, kindOf, lengthsRefusal, storedRefusal, replyRefusalOf, isUnasked}
-use Rattle.raimsklo.specs.Replies.{TurnWritten, turnWrittenOf, turned, acceptedReplyOf}
+use Rattle.replies.specs.Replies.{isKind, kindOf, lengthsRefusal, storedRefusal, replyRefusalOf, isUnasked}
+use Rattle.replies.specs.Replies.{TurnWritten, turnWrittenOf, turned, acceptedReplyOf}
 use Rattle.raimsklo.specs.Calls.{replyAt, replyOf}
 use Rattle.invariants.proofs.Floats.{either}
 use Rattle.calls.specs.Run.{isRefusal}

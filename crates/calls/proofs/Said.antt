@@ -31,7 +31,7 @@ use Rattle.refinement.specs.Shown as Seen
 use Rattle.refinement.specs.AtNode.{AtNode}
 use Rattle.refinement.proofs.Follows.{arrived}
 use Rattle.answers.specs.Answers.{questionReply}
-use Rattle.raimsklo.specs.Replies.{withY, questionOf}
+use Rattle.replies.specs.Replies.{withY, questionOf}
 use Rattle.calls.specs.Follow.{says, saidOf, saidAt}
 use Rattle.calls.proofs.Agrees.{isOver, forDerivative, Agrees}
 

@@ -24,7 +24,7 @@ use Rattle.refinement.specs.AtNode.{AtNode}
 use Rattle.answers.specs.declared.Reply.{Reply}
 use Rattle.answers.specs.Answers.{statusNumber, questionReply}
 use Rattle.answers.specs.Called.{Called}
-use Rattle.raimsklo.specs.Replies.{isKind}
+use Rattle.replies.specs.Replies.{isKind}
 use Rattle.calls.specs.Run.{ReplyCall}
 use Rattle.calls.specs.Follow.{isStep, saidBy, saidAt, fedAs, isAwaited}
 use Rattle.calls.specs.Demands.{isEnd, wants}

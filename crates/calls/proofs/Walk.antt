@@ -39,7 +39,7 @@ use Rattle.refinement.proofs.Follows.{replies, follows, arrived}
 use Rattle.refinement.proofs.Kept.{counts-after, closing-after, session-kept}
 use Rattle.answers.specs.Answers.{plainReply, questionReply}
 use Rattle.answers.specs.Called.{Buffers, Called}
-use Rattle.raimsklo.specs.Replies.{isKind, kindOf, questionOf}
+use Rattle.replies.specs.Replies.{isKind, kindOf, questionOf}
 use Rattle.raimsklo.specs.Calls.{Problem, startOf, replyOf}
 use Rattle.calls.specs.Run.{Begins, ReplyCall, lentFor, replied, isRefusal}
 use Rattle.calls.specs.Follow.{givenOf, fromOf, treeOf, Said, says, saidBy, saidAt, fedAs, isAwaited, isSized}

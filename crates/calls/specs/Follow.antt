@@ -32,7 +32,7 @@ use Rattle.refinement.specs.Follows.{stateAt}
 use Rattle.answers.specs.declared.Reply.{Reply}
 use Rattle.answers.specs.Answers.{plainReply, endReply}
 use Rattle.answers.specs.Called.{Buffers, Called}
-use Rattle.raimsklo.specs.Replies.{isKind, kindOf}
+use Rattle.replies.specs.Replies.{isKind, kindOf}
 use Rattle.raimsklo.specs.Calls.{Problem, lengthsOf, startOf}
 use Rattle.calls.specs.Run.{ReplyCall, TimesF64, Solver, lentFor, callsBy, lastBy, ours, replied, lastOf}
 use Rattle.calls.specs.Run.{isRefusal, takenReplies}

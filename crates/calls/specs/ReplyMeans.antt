@@ -41,7 +41,7 @@ use Rattle.refusals.specs.Rows.{NoneHolds}
 use Rattle.answers.specs.declared.Reply.{Reply}
 use Rattle.answers.specs.Answers.{plainReply, questionReply}
 use Rattle.answers.specs.Called.{Buffers}
-use Rattle.raimsklo.specs.Replies.{kindOf, turned}
+use Rattle.replies.specs.Replies.{kindOf, turned}
 use Rattle.raimsklo.specs.Calls.{replyOf}
 use Rattle.calls.specs.ReplyRefused.{derivative, jacobian, nothing, awaits, phaseIn, replyRows}
 

@@ -14,7 +14,7 @@ use Rattle.refusals.specs.declared.Refusal.{Refusal}
 use Rattle.refusals.specs.Start.{startRefusalOf, acceptedSettings, givenStepOf, smallestOf, inverseLargestOf}
 use Rattle.answers.specs.Answers.{plainReply, refusalReply}
 use Rattle.answers.specs.Called.{Buffers, Called}
-use Rattle.raimsklo.specs.Replies.{kindOf, replyRefusalOf, acceptedReplyOf}
+use Rattle.replies.specs.Replies.{kindOf, replyRefusalOf, acceptedReplyOf}
 use Rattle.raimsklo.specs.Starts.{acceptedStartOf}
 
 abbrev pub unchanged : Refusal → Buffers → Called

@@ -1,4 +1,3 @@
 pub mod Defaults
 pub mod Starts
-pub mod Replies
 pub mod Calls

@@ -11,7 +11,6 @@ ghost use Rattle.answers.specs.Called.{Buffers, Called};
 ghost use Rattle.raimsklo.specs.Calls.{startOf, replyOf};
 ghost use Rattle.raimsklo.specs.Defaults.{defaults, workLengthFor, questionLengthFor};
 
-mod replies;
 mod starts;
 
 pub use answers::Reply;

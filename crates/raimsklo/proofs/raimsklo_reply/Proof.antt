@@ -2,10 +2,10 @@
 use mathlib.Core.Path.{sym, ap, _∙_}
 use borrow.Author.Tests.{eq-eqb, ne-eqb}
 use borrow.Author.Needs.{needs}
-use Rattle.raimsklo.proofs.Taken.{taken}
+use Rattle.replies.proofs.Taken.{taken}
 use Rattle.session.proofs.Back.{stored-n}
 use Rattle.refusals.specs.declared.Refusal.{Refusal}
-use Rattle.raimsklo.specs.Replies.{replyRefusalOf}
+use Rattle.replies.specs.Replies.{replyRefusalOf}
 use Rattle.raimsklo.specs.Calls.{replyOf, replyAt}
 use Rattle.raimsklo.proofs.raimsklo_reply.Statement.{statement}
 use Rattle.raimsklo.proofs.raimsklo_reply.Tie as tie

@@ -19,7 +19,7 @@ use Rattle.common.specs.Layout.{workLength, questionLength}
 use Rattle.common.specs.Limits.{maxStates}
 use Rattle.common.specs.SessionWords.{sessionLength}
 use Rattle.session.specs.Session.{storedN, finishedIn, inRangeOf}
-use Rattle.raimsklo.specs.Replies.{isKind, lengthsRefusal, storedRefusal, replyRefusalOf}
+use Rattle.replies.specs.Replies.{isKind, lengthsRefusal, storedRefusal, replyRefusalOf}
 
 -- what a reply that is not refused finds
 pub record Taken (kind size : ℕ) (ipiv b : List ℕ) (asked : ℕ) : Type 0 where

@@ -3,8 +3,8 @@ use mathlib.Core.Path.{_≡_}
 use Prim.Native.Nat.{_+_, _-_}
 use native.Mathlib.Omega.{arith}
 use borrow.Author.Needs.{needs}
-use Rattle.raimsklo.proofs.replies.show.Statement.{statement}
-use Rattle.raimsklo.proofs.replies.show.Tie as tie
+use Rattle.replies.proofs.show.Statement.{statement}
+use Rattle.replies.proofs.show.Tie as tie
 
 returns : tie.Need-returns
 returns c =

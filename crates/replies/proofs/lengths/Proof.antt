@@ -4,9 +4,9 @@ use native.Mathlib.Nat.{mul-le-mul-right}
 use native.Mathlib.Omega.{arith}
 use borrow.Author.Needs.{needs}
 use Rattle.refusals.specs.Refusal.{inOrder}
-use Rattle.raimsklo.specs.Replies.{lengthsRefusal}
-use Rattle.raimsklo.proofs.replies.lengths.Statement.{statement}
-use Rattle.raimsklo.proofs.replies.lengths.Tie as tie
+use Rattle.replies.specs.Replies.{lengthsRefusal}
+use Rattle.replies.proofs.lengths.Statement.{statement}
+use Rattle.replies.proofs.lengths.Tie as tie
 
 mul-also : tie.Need-mul-also
 mul-also c = omega (arith, mul-le-mul-right (c .before .args .n) (c .before .pre))

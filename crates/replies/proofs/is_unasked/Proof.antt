@@ -10,9 +10,9 @@ use types.Run.{OneOf, miss}
 use Rattle.questions.specs.declared.Question.{Question}
 use Rattle.questions.specs.declared.Question.the-variants as Question
 use Rattle.questions.proofs.Question.{the-type}
-use Rattle.raimsklo.specs.Replies.{isUnasked}
-use Rattle.raimsklo.proofs.replies.is_unasked.Statement.{statement}
-use Rattle.raimsklo.proofs.replies.is_unasked.Tie as tie
+use Rattle.replies.specs.Replies.{isUnasked}
+use Rattle.replies.proofs.is_unasked.Statement.{statement}
+use Rattle.replies.proofs.is_unasked.Tie as tie
 
 others : (q : Question) → OneOf (0 ∷ 1 ∷ 2 ∷ 3 ∷ 4 ∷ 5 ∷ 6 ∷ []) (tagOf the-type q) → false ≡ isUnasked q
 others (Question.Derivative a) h = refl

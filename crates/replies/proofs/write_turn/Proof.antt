@@ -3,9 +3,9 @@ use mathlib.Core.Path.{sym, _∙_}
 use Prim.Native.Nat.{_-_}
 use borrow.Author.Needs.{needs}
 use Rattle.session.specs.Session.{encodeOf}
-use Rattle.raimsklo.specs.Replies.{turnWrittenOf}
-use Rattle.raimsklo.proofs.replies.write_turn.Statement.{statement}
-use Rattle.raimsklo.proofs.replies.write_turn.Tie as tie
+use Rattle.replies.specs.Replies.{turnWrittenOf}
+use Rattle.replies.proofs.write_turn.Statement.{statement}
+use Rattle.replies.proofs.write_turn.Tie as tie
 
 returns : tie.Need-returns
 unfolding turnWrittenOf

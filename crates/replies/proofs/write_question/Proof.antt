@@ -10,9 +10,9 @@ use Rattle.common.specs.declared.Common.{Common}
 use Rattle.questions.specs.declared.Phase.{Phase}
 use Rattle.questions.specs.declared.Phase.the-variants as Phase
 use Rattle.questions.proofs.Phase.{the-type}
-use Rattle.raimsklo.specs.Replies.{questionOf, withY}
-use Rattle.raimsklo.proofs.replies.write_question.Statement.{statement}
-use Rattle.raimsklo.proofs.replies.write_question.Tie as tie
+use Rattle.replies.specs.Replies.{questionOf, withY}
+use Rattle.replies.proofs.write_question.Statement.{statement}
+use Rattle.replies.proofs.write_question.Tie as tie
 
 -- the phases whose question is y alone
 plainly : (s : Settings) (p : Phase) (c : Common) (work q : List Float)

@@ -21,10 +21,10 @@ use Rattle.words.specs.Words.{floatsOver}
 use Rattle.words.proofs.Rows.{length-over, over-part}
 use Rattle.session.proofs.Thirteen.{lists-fit, resumes}
 use Rattle.answers.specs.Called.{Buffers, Called}
-use Rattle.raimsklo.specs.Replies.{TurnWritten, written, acceptedReplyOf}
-use Rattle.raimsklo.proofs.Taken.{unless}
-use Rattle.raimsklo.proofs.replies.accept.Statement.{statement}
-use Rattle.raimsklo.proofs.replies.accept.Tie as tie
+use Rattle.replies.specs.Replies.{TurnWritten, written, acceptedReplyOf}
+use Rattle.replies.proofs.Taken.{unless}
+use Rattle.replies.proofs.accept.Statement.{statement}
+use Rattle.replies.proofs.accept.Tie as tie
 
 abbrev put : List Float → List ℕ → TurnWritten → Called
 put w p y = record {

@@ -2,9 +2,9 @@
 use borrow.Author.Tests.{eq-eqb, ne-eqb, lt-ltb, le-ltb}
 use borrow.Author.Needs.{needs}
 use Rattle.refusals.specs.Refusal.{orElse}
-use Rattle.raimsklo.specs.Replies.{replyRefusalOf}
-use Rattle.raimsklo.proofs.replies.refusal.Statement.{statement}
-use Rattle.raimsklo.proofs.replies.refusal.Tie as tie
+use Rattle.replies.specs.Replies.{replyRefusalOf}
+use Rattle.replies.proofs.refusal.Statement.{statement}
+use Rattle.replies.proofs.refusal.Tie as tie
 
 returns : tie.Need-returns
 unfolding replyRefusalOf orElse

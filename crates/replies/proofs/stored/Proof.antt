@@ -3,9 +3,9 @@ use mathlib.Core.Path.{sym, _∙_}
 use borrow.Author.Tests.{not-true, not-false}
 use borrow.Author.Needs.{needs}
 use Rattle.refusals.specs.Refusal.{inOrder, alsoOf}
-use Rattle.raimsklo.specs.Replies.{storedRefusal}
-use Rattle.raimsklo.proofs.replies.stored.Statement.{statement}
-use Rattle.raimsklo.proofs.replies.stored.Tie as tie
+use Rattle.replies.specs.Replies.{storedRefusal}
+use Rattle.replies.proofs.stored.Statement.{statement}
+use Rattle.replies.proofs.stored.Tie as tie
 
 returns : tie.Need-returns
 unfolding storedRefusal inOrder alsoOf

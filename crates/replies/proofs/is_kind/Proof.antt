@@ -1,8 +1,8 @@
 -- `is_kind` meets its contract. Assumes nothing.
 use Prim.Native.Nat.{_-_}
 use borrow.Author.Tests.{eq-eqb, ne-eqb}
-use Rattle.raimsklo.proofs.replies.is_kind.Statement.{statement}
-use Rattle.raimsklo.proofs.replies.is_kind.Tie as tie
+use Rattle.replies.proofs.is_kind.Statement.{statement}
+use Rattle.replies.proofs.is_kind.Tie as tie
 
 returns : tie.Need-returns
 returns c = rw (eq-eqb _ _ (c .if1 .taken))

@@ -8,9 +8,9 @@ ghost use Rattle.common.specs.Limits.{maxStates};
 ghost use Rattle.common.specs.SessionWords.{sessionLength};
 ghost use Rattle.session.specs.Session.{inRangeOf, storedCounts, decodeOf};
 ghost use Rattle.answers.specs.Called.{Called};
-ghost use Rattle.raimsklo.specs.Replies.{isKind, kindOf, lengthsRefusal, replyRefusalOf};
-ghost use Rattle.raimsklo.specs.Replies.{storedRefusal, Sized, shownOf, questionOf, isUnasked};
-ghost use Rattle.raimsklo.specs.Replies.{TurnWritten, turnWrittenOf, acceptedReplyOf};
+ghost use Rattle.replies.specs.Replies.{isKind, kindOf, lengthsRefusal, replyRefusalOf};
+ghost use Rattle.replies.specs.Replies.{storedRefusal, Sized, shownOf, questionOf, isUnasked};
+ghost use Rattle.replies.specs.Replies.{TurnWritten, turnWrittenOf, acceptedReplyOf};
 
 use answers::Reply;
 use common::Common;

@@ -1,9 +1,9 @@
 -- `kind` meets its contract. Assumes nothing.
 use Prim.Native.Nat.{_-_}
 use borrow.Author.Tests.{eq-eqb, ne-eqb}
-use Rattle.raimsklo.specs.Replies.{kindOf}
-use Rattle.raimsklo.proofs.replies.kind.Statement.{statement}
-use Rattle.raimsklo.proofs.replies.kind.Tie as tie
+use Rattle.replies.specs.Replies.{kindOf}
+use Rattle.replies.proofs.kind.Statement.{statement}
+use Rattle.replies.proofs.kind.Tie as tie
 
 returns : tie.Need-returns
 unfolding kindOf
