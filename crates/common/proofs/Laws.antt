@@ -6,7 +6,7 @@ use native.Mathlib.Omega.{arith}
 use Rattle.common.specs.declared.MethodFamily.{MethodFamily}
 use Rattle.common.specs.declared.MethodFamily.the-variants.{Adams, Bdf}
 use Rattle.common.specs.declared.Settings.{Settings}
-use Rattle.common.specs.Limits.{maxordOf}
+use Rattle.common.specs.Limits.{maxStates, maxordOf}
 
 pub maxord-le : (s : Settings) (m : MethodFamily) → maxordOf s m ≤ 12
 maxord-le s Adams = omega arith
@@ -19,5 +19,5 @@ order-from n k p h = le-div-iff-mul-le p .1 (rw one-mul h)
 pub order-to : (n k : ℕ) → 1 ≤ n → k ≤ 12 * n → k / n ≤ 12
 order-to n k p h = div-le-of-le-mul n (rw (mul-comm n 12) h)
 
-pub small-product : (a n : ℕ) → a ≤ 12 → n ≤ 64 → a * n ≤ 768
+pub small-product : (a n : ℕ) → a ≤ 12 → n ≤ maxStates → a * n ≤ 12 * maxStates
 small-product a n h k = mul-le-mul h k

@@ -21,6 +21,7 @@ use borrow.Author.Count.{below-none, below-more}
 use borrow.Author.Tests.{eq-eqb, eqb-true, ltb-false, le-ltb}
 use Rattle.loops.proofs.For.{reaches}
 use Rattle.numbers.specs.Float.{whole}
+use Rattle.common.specs.Limits.{maxStates}
 use Rattle.interpolation.specs.declared.Count.{Count}
 use Rattle.interpolation.specs.declared.Count.the-variants.{Is, NotWhole}
 use Rattle.interpolation.specs.declared.Sizes.{Sizes}
@@ -84,7 +85,7 @@ value-of (fin s m e) (fin t n d) k v q =
     eq-of-mul-eq-mul-right (down d) (down-pos d) (m * up e) (k * down e)
     (level ∙ ap (λ (a : ℕ). a * down e) one ∙ mul-right-comm k (down d) (down e))
 
-whole-value : (k : ℕ) → k ≤ 64 → HasValue (whole k) false k 1
+whole-value : (k : ℕ) → k ≤ maxStates → HasValue (whole k) false k 1
 unfolding ofInt
 whole-value k h =
     let small : k * 2 ^ 1074 < 2 ^ 2098 = shl-lt 1024 1074 (lt-of-le-of-lt h (lit< tt)) in
@@ -97,7 +98,7 @@ self (inf s) k v = absurd v
 self (fin true m e) k v = rw (eq-eqb (m * up e * down e) (m * up e * down e) refl)
 self (fin false m e) k v = rw (eq-eqb (m * up e * down e) (m * up e * down e) refl)
 
-pub whole-self : (k : ℕ) → k ≤ 64 → Ieee.eq (whole k) (whole k) ≡ true
+pub whole-self : (k : ℕ) → k ≤ maxStates → Ieee.eq (whole k) (whole k) ≡ true
 whole-self k h = self (whole k) k (whole-value k h)
 
 one-value : (x : Float) (j k : ℕ) → Value x j → Value x k → j ≡ k
@@ -105,7 +106,7 @@ one-value nan j k p q = absurd p
 one-value (inf s) j k p q = absurd p
 one-value (fin s m e) j k p q = eq-of-mul-eq-mul-right (down e) (down-pos e) j k (sym p ∙ q)
 
-pub is-count : (x : Float) (limit k : ℕ) → limit ≤ 64 → k ≤ limit → Ieee.eq x (whole k) ≡ true
+pub is-count : (x : Float) (limit k : ℕ) → limit ≤ maxStates → k ≤ limit → Ieee.eq x (whole k) ≡ true
     → wholeCountOf x limit ≡ Is k
 is-count x limit k l h q = go (wholeCountOf x limit) (tried x limit)
   where
@@ -121,20 +122,22 @@ module _ (cont : List Float) where
   ReadsIf Refused = Unit {0}
   ReadsIf (Read z) = Reads cont z
 
-  order-read : (n : ℕ) → 6 ≤ length cont → (n ≤ 64) × (Ieee.eq (getD cont 0 nan) (whole n) ≡ true)
+  order-read : (n : ℕ) → 6 ≤ length cont → (n ≤ maxStates) × (Ieee.eq (getD cont 0 nan) (whole n) ≡ true)
       → (o : Count) → wholeCountOf (getD cont 1 nan) 12 ≡ o → ReadsIf (withOrder cont n o)
   order-read n l s (Is nq) e =
       record { long = l; states = s; order = count-is (getD cont 1 nan) 12 nq e; time = refl; step = refl }
   order-read n l s NotWhole e = tt
 
-  states-read : 6 ≤ length cont → (s : Count) → wholeCountOf (getD cont 0 nan) 64 ≡ s → ReadsIf (withStates cont s)
-  states-read l (Is n) e = order-read n l (count-is (getD cont 0 nan) 64 n e) (wholeCountOf (getD cont 1 nan) 12) refl
+  states-read : 6 ≤ length cont → (s : Count) → wholeCountOf (getD cont 0 nan) maxStates ≡ s
+      → ReadsIf (withStates cont s)
+  states-read l (Is n) e =
+      order-read n l (count-is (getD cont 0 nan) maxStates n e) (wholeCountOf (getD cont 1 nan) 12) refl
   states-read l NotWhole e = tt
 
   long-read : (b : Bool) → ltb (length cont) 6 ≡ b
-      → ReadsIf (cond b Refused (withStates cont (wholeCountOf (getD cont 0 nan) 64)))
+      → ReadsIf (cond b Refused (withStates cont (wholeCountOf (getD cont 0 nan) maxStates)))
   long-read true e = tt
-  long-read false e = states-read (ltb-false (length cont) 6 e) (wholeCountOf (getD cont 0 nan) 64) refl
+  long-read false e = states-read (ltb-false (length cont) 6 e) (wholeCountOf (getD cont 0 nan) maxStates) refl
 
   header-if : ReadsIf (readHeaderOf cont)
   unfolding readHeaderOf
@@ -146,6 +149,6 @@ module _ (cont : List Float) where
   pub reads-header : (z : Sizes) → Reads cont z → readHeaderOf cont ≡ Read z
   unfolding readHeaderOf
   reads-header z r =
-      let n = is-count (getD cont 0 nan) 64 (z .n) (omega arith) (r .states .0) (r .states .1) in
+      let n = is-count (getD cont 0 nan) maxStates (z .n) (omega arith) (r .states .0) (r .states .1) in
       let nq = is-count (getD cont 1 nan) 12 (z .nq) (omega arith) (r .order .0) (r .order .1) in
       rw (le-ltb (length cont) 6 (r .long), n, nq, ← r .time, ← r .step)

@@ -14,6 +14,7 @@ use lib.Ieee.{Float, nan}
 use borrow.Author.Tests.{eqb-true, eqb-false, ltb-true, eq-eqb, ne-eqb, lt-ltb}
 use Rattle.loops.proofs.Test.{differs}
 use Rattle.numbers.specs.Float.{zeroF}
+use Rattle.common.specs.Limits.{maxStates}
 use Rattle.interpolation.specs.declared.Count.{Count}
 use Rattle.interpolation.specs.declared.Count.the-variants.{Is, NotWhole}
 use Rattle.interpolation.specs.declared.Sizes.{Sizes}
@@ -38,14 +39,14 @@ module _ (cont : List Float) where
   order-why n (Is nq) e = tt
   order-why n NotWhole e = inr (inr (count-not (getD cont 1 nan) 12 e))
 
-  states-why : (s : Count) → wholeCountOf (getD cont 0 nan) 64 ≡ s → Why (withStates cont s)
+  states-why : (s : Count) → wholeCountOf (getD cont 0 nan) maxStates ≡ s → Why (withStates cont s)
   states-why (Is n) e = order-why n (wholeCountOf (getD cont 1 nan) 12) refl
-  states-why NotWhole e = inr (inl (count-not (getD cont 0 nan) 64 e))
+  states-why NotWhole e = inr (inl (count-not (getD cont 0 nan) maxStates e))
 
   long-why : (t : Bool) → ltb (length cont) 6 ≡ t
-      → Why (cond t Refused (withStates cont (wholeCountOf (getD cont 0 nan) 64)))
+      → Why (cond t Refused (withStates cont (wholeCountOf (getD cont 0 nan) maxStates)))
   long-why true e = inl (ltb-true (length cont) 6 e)
-  long-why false e = states-why (wholeCountOf (getD cont 0 nan) 64) refl
+  long-why false e = states-why (wholeCountOf (getD cont 0 nan) maxStates) refl
 
   why : Why (readHeaderOf cont)
   unfolding readHeaderOf

@@ -17,6 +17,7 @@ use lib.Ieee.{Float, nan}
 use Rattle.loops.proofs.For.{reaches, within}
 use Rattle.loops.specs.Part.{part}
 use Rattle.numbers.specs.Float.{whole, uround}
+use Rattle.common.specs.Limits.{maxStates}
 use Rattle.common.specs.declared.Settings.{Settings}
 use Rattle.common.specs.declared.Common.{Common}
 use Rattle.common.specs.Layout.{questionLength}
@@ -107,7 +108,7 @@ module _ (s : Settings) (c : Common) (work question : List Float)
       ∙ ap (take (6 + size s c)) (drop-at a (b ++ d ++ rest) n (length-take-le n question (omega arith)))
       ∙ take-at (b ++ d) rest (6 + size s c) long
 
-  pub reads-step : s .n ≤ 64
+  pub reads-step : s .n ≤ maxStates
       → Reads (header s c ++ take (size s c) work) (record { n = s .n; nq = c .nq; tn = c .tn; h = c .h })
   reads-step h = record {
     long = rw length-append (omega arith);

@@ -11,12 +11,13 @@ use lib.Ieee.{Float}
 use borrow.Author.Tests.{leb-true, eqb-true}
 use Rattle.loops.proofs.Test.{both, one-of}
 use Rattle.vectors.specs.Tolerance.{List1OrN}
+use Rattle.common.specs.Limits.{maxStates}
 use Rattle.probe.specs.Leaves.{isMatrix, isToleranceList, isBehind, isWeighed, isSystem}
 
 pub matrix-fits : (n matrix vector : ℕ) → isMatrix n matrix vector ≡ true → (n * n ≤ matrix) × (n ≤ vector)
 unfolding isMatrix
 matrix-fits n matrix vector h =
-    let p = both (leb (n * n) matrix) (leb n vector) (both (leb n 64) _ h .1) in
+    let p = both (leb (n * n) matrix) (leb n vector) (both (leb n maxStates) _ h .1) in
     (leb-true (n * n) matrix (p .0), leb-true n vector (p .1))
 
 pub list-serves : (n : ℕ) (list : List Float) → isToleranceList n (length list) ≡ true → List1OrN list (n - 1)

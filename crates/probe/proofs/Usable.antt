@@ -8,6 +8,7 @@ use lib.Dec.{eqb, leb}
 use lib.ListN.{length, getD}
 use lib.Ieee.{Float}
 use borrow.Author.Tests.{leb-true, ltb-true, eqb-true}
+use Rattle.common.specs.Limits.{maxStates}
 use Rattle.common.specs.Layout.{ewtAt, matrixAt}
 use Rattle.loops.proofs.Test.{both}
 use Rattle.common.specs.Ranges.{StepInRange}
@@ -17,7 +18,7 @@ pub columns-fit : (n nq nqnyh len : ℕ) → areColumns n nq nqnyh len ≡ true
     → (nq ≤ 12) × (nq * n ≤ nqnyh) × (nqnyh + n ≤ len)
 unfolding areColumns
 columns-fit n nq nqnyh len h =
-    let p = both (leb nq 12) _ (both (leb n 64) _ h .1) in
+    let p = both (leb nq 12) _ (both (leb n maxStates) _ h .1) in
     let q = both (leb (nq * n) nqnyh) (leb (nqnyh + n) len) (p .1) in
     (leb-true nq 12 (p .0), leb-true (nq * n) nqnyh (q .0), leb-true (nqnyh + n) len (q .1))
 
@@ -38,7 +39,7 @@ usable fs cs work h =
     let l3 = both (leb (getD cs 3 0) 1000000) _ (l2 .1) in
     let n = getD cs 0 0 in
     let r1 = both (leb 1 n) _ (r .1) in
-    let r2 = both (leb n 64) _ (r1 .1) in
+    let r2 = both (leb n maxStates) _ (r1 .1) in
     let r3 = both (leb 1 (getD cs 5 0)) _ (r2 .1) in
     let r4 = both (leb (getD cs 10 0) 2) _ (r3 .1) in
     let r5 = both (leb (matrixAt n) work) _ (r4 .1) in
@@ -46,7 +47,7 @@ usable fs cs work h =
     record {
       lists = (eqb-true (length fs) 11 (p .0), eqb-true (length cs) 14 (q .0));
       range = record {
-        n = (leb-true 1 n (r1 .0), leb-true n 64 (r2 .0));
+        n = (leb-true 1 n (r1 .0), leb-true n maxStates (r2 .0));
         order = (leb-true 1 (getD cs 5 0) (r3 .0), k .0);
         table = leb-true (getD cs 10 0) 2 (r4 .0);
         used = (k .1, omega (arith, k .2));

@@ -10,6 +10,7 @@ use lib.Ieee.{Float, nan, binary64}
 use Rattle.loops.specs.For.{for}
 use Rattle.loops.specs.Count.{differing}
 use Rattle.numbers.specs.Float.{zeroF}
+use Rattle.common.specs.Limits.{maxStates}
 use Rattle.vectors.specs.Weights.{invertOf, weightsOutcome}
 use Rattle.interpolation.specs.Evaluate.{interpolateOf}
 use Rattle.probe.specs.Leaves as P
@@ -40,7 +41,7 @@ between a e l = take (e - a) (drop a l)
 -- f0, the weights, rtol and atol
 unfoldable pub leafFirstStep : Float → Float → List Float → List Float → ℕ → ℕ → ℕ
 leafFirstStep t tout y b n nrtol =
-    cond (leb n 64 && (leb nrtol 64 && leb (2 * n + nrtol) (length b)))
+    cond (leb n maxStates && (leb nrtol maxStates && leb (2 * n + nrtol) (length b)))
     (bits (initialStepOrNan t tout y (between 0 n b) (between n (2 * n) b) (between (2 * n) (2 * n + nrtol) b)
     (between (2 * n + nrtol) (length b) b)))
     2

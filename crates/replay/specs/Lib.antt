@@ -1,2 +1,2 @@
-pub mod Replay
+pub mod Number
 pub mod Leaf

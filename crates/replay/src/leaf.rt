@@ -15,10 +15,10 @@ ghost use Rattle.probe.specs.Left.{Columns};
 fn first_step(t: f64, tout: f64, y: &[f64], b: &[f64], n: usize, nrtol: usize) -> u64
     ensures { λ r. ⌜ r ≡ leafFirstStep t tout (now (y .entry)) (now (b .entry)) n nrtol ⌝ }
 {
-    if 64 < n {
+    if common::MAX_STATES < n {
         return 2;
     }
-    if 64 < nrtol {
+    if common::MAX_STATES < nrtol {
         return 2;
     }
     let rtol = 2 * n;

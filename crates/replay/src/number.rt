@@ -3,7 +3,7 @@ ghost use mathlib.Core.Path.{_≡_};
 ghost use Prim.Native.Nat.{_+_, _*_, _≤_};
 ghost use lib.ListN.{length};
 ghost use Rattle.loops.specs.Count.{countedAt};
-ghost use Rattle.replay.specs.Replay.{caseNumber, isStored, casesDiffer};
+ghost use Rattle.replay.specs.Number.{caseNumber, isStored, casesDiffer};
 
 // What our function of that kind answers: the root of order b of the pattern a, its square root,
 // elco and tesco of table a, order b and index c, cm1 and cm2 of table a and order b, SM1 of order b.

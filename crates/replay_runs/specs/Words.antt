@@ -2,11 +2,16 @@
 -- Behind the end every word is 0. Which word means what is not said here.
 use mathlib.Core.Bool.{Bool, true, cond, _&&_}
 use mathlib.Core.List.{List}
-use Prim.Native.Nat.{ℕ, zero, suc, _+_}
+use Prim.Native.Nat.{ℕ, zero, suc, _+_, _*_}
 use lib.Dec.{eqb, ltb}
 use lib.ListN.{length, getD}
 use lib.Ieee as Ieee
 use lib.Ieee.{Float, nan, binary64}
+use Rattle.common.specs.Limits.{maxStates}
+
+-- as many as a reply can have: those of a Jacobian
+abbrev pub mostNumbers : ℕ
+mostNumbers = maxStates * maxStates
 
 abbrev pub wordOf : List ℕ → ℕ → ℕ
 wordOf words at = getD words at 0

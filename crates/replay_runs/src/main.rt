@@ -6,6 +6,7 @@ ghost use mathlib.Core.Path.{_≡_};
 ghost use lib.ListN.{length};
 ghost use Rattle.common.specs.Layout.{questionLength};
 ghost use Rattle.common.specs.Limits.{maxStates};
+ghost use Rattle.replay_runs.specs.Words.{mostNumbers};
 
 mod answer;
 mod runs;
@@ -15,7 +16,9 @@ mod words;
 use raimsklo::Reply;
 use refusals::Options;
 
-// The question of the most states.
+// Work and question of the most states.
+const WORK_LENGTH: usize = common::MAX_STATES * common::MAX_STATES + common::MATRIX * common::MAX_STATES;
+
 const QUESTION_LENGTH: usize = common::QUESTION * common::MAX_STATES + common::HEADER;
 
 // Where the next word stands, whether the run under way goes on there, and what was found so far.
@@ -108,8 +111,8 @@ fn compared(stored: &[u64], n: usize, r: Reply, question: &[f64], f: Found) -> F
 
 // How many numbers a reply has: n, of a Jacobian n·n.
 fn size(kind: usize, n: usize, squared: usize) -> usize
-    requires { ⌜ (n ≤ maxStates) × (squared ≤ 4096) ⌝ }
-    ensures { λ r. ⌜ r ≤ 4096 ⌝ }
+    requires { ⌜ (n ≤ maxStates) × (squared ≤ mostNumbers) ⌝ }
+    ensures { λ r. ⌜ r ≤ mostNumbers ⌝ }
 {
     if kind == 2 {
         return squared;
@@ -128,7 +131,7 @@ fn replied(
     session: &mut [u8],
     question: &mut [f64],
 ) -> Reply
-    requires { ⌜ (at ≤ 1000000) × (n ≤ maxStates) × (squared ≤ 4096) ⌝ }
+    requires { ⌜ (at ≤ 1000000) × (n ≤ maxStates) × (squared ≤ mostNumbers) ⌝ }
 {
     let kind = words::count(stored, at);
     let time = words::float(stored, at + 1);
@@ -147,7 +150,7 @@ fn replied(
 
 // Behind the stored reply.
 fn passed(stored: &[u64], f: Found, n: usize, squared: usize) -> Found
-    requires { ⌜ (n ≤ maxStates) × (squared ≤ 4096) ⌝ }
+    requires { ⌜ (n ≤ maxStates) × (squared ≤ mostNumbers) ⌝ }
     requires { ⌜ (f .at ≤ 1000000) × (f .answers ≤ f .at) × (f .differ ≤ f .at) ⌝ }
     ensures { λ g. ⌜ (g .at ≤ 1010000) × (g .answers ≤ g .at) × (g .differ ≤ g .at) × (g .runs ≡ f .runs) ⌝ }
 {
@@ -177,7 +180,7 @@ fn turn(
     session: &mut [u8],
     question: &mut [f64],
 ) -> Found
-    requires { ⌜ (n ≤ maxStates) × (squared ≤ 4096) × (questionLength n ≤ length (now question)) ⌝ }
+    requires { ⌜ (n ≤ maxStates) × (squared ≤ mostNumbers) × (questionLength n ≤ length (now question)) ⌝ }
     requires { ⌜ (f .at ≤ 1000000) × (f .answers ≤ f .at) × (f .differ ≤ f .at) ⌝ }
     ensures { λ g. ⌜ (g .at ≤ 1020000) × (g .answers ≤ g .at) × (g .differ ≤ g .at) × (g .runs ≡ f .runs) ⌝ }
 {
@@ -198,7 +201,7 @@ fn replay(
 ) -> Found
     requires { ⌜ (head .at ≤ 1000000) × (head .n ≤ maxStates) × (head .nrtol ≤ maxStates)
         × (head .natol ≤ maxStates) ⌝ }
-    requires { ⌜ (squared ≤ 4096) × (questionLength (head .n) ≤ length (now question))
+    requires { ⌜ (squared ≤ mostNumbers) × (questionLength (head .n) ≤ length (now question))
         × (length (now stored) ≤ 1000000) ⌝ }
     requires { ⌜ (found .at ≤ 1010000) × (found .answers ≤ found .at) × (found .differ ≤ found .at) ⌝ }
     ensures { λ g. ⌜ (g .at ≤ 1020000) × (g .answers ≤ g .at) × (g .differ ≤ g .at) × (g .runs ≡ found .runs) ⌝ }
@@ -217,7 +220,7 @@ fn replay(
 
 fn square(n: usize) -> usize
     requires { ⌜ n ≤ maxStates ⌝ }
-    ensures { λ r. ⌜ r ≤ 4096 ⌝ }
+    ensures { λ r. ⌜ r ≤ mostNumbers ⌝ }
 {
     n * n
 }
@@ -244,7 +247,7 @@ fn run(stored: &[u64], f: Found) -> Found
     let squared = square(n);
     let works = squared + common::MATRIX * n;
     let asked = common::QUESTION * n + common::HEADER;
-    let mut work = [0.0; 5312];
+    let mut work = [0.0; WORK_LENGTH];
     let mut pivots = [0usize; common::MAX_STATES];
     let mut session = [0u8; common::SESSION_LENGTH];
     let mut question = [0.0; QUESTION_LENGTH];

@@ -3,7 +3,10 @@ ghost use Prim.Native.Nat.{_≤_};
 ghost use mathlib.Core.Path.{_≡_};
 ghost use lib.ListN.{length};
 ghost use Rattle.replay_runs.specs.Words.{wordOf, limitedWord, floatOf, isStoredCount, isStoredFloat};
-ghost use Rattle.replay_runs.specs.Words.{areStoredThree, areStoredFloats};
+ghost use Rattle.replay_runs.specs.Words.{areStoredThree, areStoredFloats, mostNumbers};
+
+// As many as a reply can have: those of a Jacobian.
+const MOST_NUMBERS: usize = common::MAX_STATES * common::MAX_STATES;
 
 pub fn word(words: &[u64], at: usize) -> u64
     ensures { λ r. ⌜ r ≡ wordOf (now (words .entry)) at ⌝ }
@@ -37,13 +40,13 @@ pub fn float(words: &[u64], at: usize) -> f64
     numbers::from_bits(word(words, at))
 }
 
-// The 4096 floats from there on: as many as a reply can have.
-pub fn floats(words: &[u64], at: usize) -> [f64; 4096]
+// The floats from there on, as many as a reply can have.
+pub fn floats(words: &[u64], at: usize) -> [f64; MOST_NUMBERS]
     requires { ⌜ at ≤ 2000000 ⌝ }
-    ensures { λ r. ⌜ length r ≡ 4096 ⌝ }
+    ensures { λ r. ⌜ length r ≡ mostNumbers ⌝ }
 {
-    let mut out = [0.0; 4096];
-    for i in 0..4096usize {
+    let mut out = [0.0; MOST_NUMBERS];
+    for i in 0..MOST_NUMBERS {
         out[i] = float(words, at + i);
     }
     out

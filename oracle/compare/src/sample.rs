@@ -11,7 +11,7 @@ use std::process::ExitCode;
 
 pub const SEED: u64 = 1;
 
-/// A kind, three arguments and the answer's pattern, as crates/replay/specs/Replay.antt has them.
+/// A kind, three arguments and the answer's pattern, as crates/replay/specs/Number.antt has them.
 type Case = [u64; 5];
 
 const HEAD: &str = "\

@@ -6,12 +6,13 @@ use borrow.Author.Needs.{needs}
 use lib.ListN.{length}
 use Rattle.common.specs.Layout.{questionLength}
 use Rattle.common.specs.Limits.{maxStates}
+use Rattle.replay_runs.specs.Words.{mostNumbers}
 use Rattle.replay_runs.proofs.replay.Statement.{statement}
 use Rattle.replay_runs.proofs.replay.Tie as tie
 
 abbrev Inv-loop : tie.InvT-loop
 Inv-loop stored squared work₀ pivots₀ session₀ question₀ n f₀ _ end work pivots session question f counter =
-    (counter ≤ end) × (n ≤ maxStates) × (squared ≤ 4096) × (length stored ≤ 1000000)
+    (counter ≤ end) × (n ≤ maxStates) × (squared ≤ mostNumbers) × (length stored ≤ 1000000)
     × (f .at ≤ 1020000) × (f .answers ≤ f .at) × (f .differ ≤ f .at) × (f .runs ≡ f₀ .runs)
     × (questionLength n ≤ length question) × (length question ≡ length question₀)
     × (length work ≡ length work₀) × (length pivots ≡ length pivots₀) × (length session ≡ length session₀)

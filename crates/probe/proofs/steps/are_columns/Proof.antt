@@ -4,6 +4,7 @@ use Prim.Native.Nat.{_+_, _*_}
 use native.Mathlib.Omega.{arith}
 use native.Mathlib.Nat.{mul-le-mul}
 use borrow.Author.Tests.{le-leb, lt-leb}
+use Rattle.common.specs.Limits.{maxStates}
 use Rattle.probe.specs.Lent.{areColumns}
 use Rattle.probe.proofs.steps.are_columns.Statement.{statement}
 use Rattle.probe.proofs.steps.are_columns.Tie as tie
@@ -12,14 +13,14 @@ returns : tie.Need-returns
 unfolding areColumns
 returns c =
     let a = c .before .args in
-    rw (lt-leb (a .n) 64 (omega arith))
+    rw (lt-leb (a .n) maxStates (omega arith))
 
 returns-2 : tie.Need-returns-2
 unfolding areColumns
 returns-2 c =
     let a = c .before .before .args in
     rw (
-      le-leb (a .n) 64 (omega arith),
+      le-leb (a .n) maxStates (omega arith),
       lt-leb (a .nq) 12 (omega arith),
     )
 
@@ -31,7 +32,7 @@ unfolding areColumns
 returns-3 c =
     let a = c .before .before .before .args in
     rw (
-      le-leb (a .n) 64 (omega arith),
+      le-leb (a .n) maxStates (omega arith),
       le-leb (a .nq) 12 (omega arith),
       lt-leb (a .nq * a .n) (a .nqnyh) (omega arith),
     )
@@ -41,7 +42,7 @@ unfolding areColumns
 returns-4 c =
     let a = c .before .before .before .before .args in
     rw (
-      le-leb (a .n) 64 (omega arith),
+      le-leb (a .n) maxStates (omega arith),
       le-leb (a .nq) 12 (omega arith),
       le-leb (a .nq * a .n) (a .nqnyh) (omega arith),
       lt-leb (a .nqnyh + a .n) (a .len) (omega arith),
@@ -52,7 +53,7 @@ unfolding areColumns
 returns-5 c =
     let a = c .before .before .before .before .before .args in
     rw (
-      le-leb (a .n) 64 (omega arith),
+      le-leb (a .n) maxStates (omega arith),
       le-leb (a .nq) 12 (omega arith),
       le-leb (a .nq * a .n) (a .nqnyh) (omega arith),
       lt-leb (a .nqnyh + a .n) (a .len) (omega arith),
@@ -63,7 +64,7 @@ unfolding areColumns
 returns-6 c =
     let a = c .before .before .before .before .before .args in
     rw (
-      le-leb (a .n) 64 (omega arith),
+      le-leb (a .n) maxStates (omega arith),
       le-leb (a .nq) 12 (omega arith),
       le-leb (a .nq * a .n) (a .nqnyh) (omega arith),
       le-leb (a .nqnyh + a .n) (a .len) (omega arith),

@@ -3,6 +3,7 @@
 use native.Mathlib.Omega.{arith}
 use borrow.Author.Needs.{needs}
 use borrow.Author.Tests.{le-leb, lt-leb}
+use Rattle.common.specs.Limits.{maxStates}
 use Rattle.common.specs.Layout.{matrixAt}
 use Rattle.probe.specs.Lent.{inRange}
 use Rattle.probe.proofs.steps.in_range.Statement.{statement}
@@ -20,7 +21,7 @@ returns-2 c =
     let a = c .before .before .args in
     rw (
       le-leb 1 (a .n) (omega arith),
-      lt-leb (a .n) 64 (omega arith),
+      lt-leb (a .n) maxStates (omega arith),
     )
 
 returns-3 : tie.Need-returns-3
@@ -29,7 +30,7 @@ returns-3 c =
     let a = c .before .before .before .args in
     rw (
       le-leb 1 (a .n) (omega arith),
-      le-leb (a .n) 64 (omega arith),
+      le-leb (a .n) maxStates (omega arith),
       lt-leb 1 (a .nq) (omega arith),
     )
 
@@ -39,7 +40,7 @@ returns-4 c =
     let a = c .before .before .before .before .args in
     rw (
       le-leb 1 (a .n) (omega arith),
-      le-leb (a .n) 64 (omega arith),
+      le-leb (a .n) maxStates (omega arith),
       le-leb 1 (a .nq) (omega arith),
       lt-leb (a .table) 2 (omega arith),
     )
@@ -50,7 +51,7 @@ returns-5 c =
     let a = c .before .before .before .before .before .args in
     rw (
       le-leb 1 (a .n) (omega arith),
-      le-leb (a .n) 64 (omega arith),
+      le-leb (a .n) maxStates (omega arith),
       le-leb 1 (a .nq) (omega arith),
       le-leb (a .table) 2 (omega arith),
       lt-leb (matrixAt (a .n)) (a .work) (omega arith),
@@ -62,7 +63,7 @@ returns-6 c =
     let a = c .before .before .before .before .before .before .args in
     rw (
       le-leb 1 (a .n) (omega arith),
-      le-leb (a .n) 64 (omega arith),
+      le-leb (a .n) maxStates (omega arith),
       le-leb 1 (a .nq) (omega arith),
       le-leb (a .table) 2 (omega arith),
       le-leb (matrixAt (a .n)) (a .work) (omega arith),

@@ -2,30 +2,35 @@
 -- Assumes nothing.
 use borrow.Author.Needs.{needs}
 use borrow.Author.Tests.{le-leb, lt-leb}
+use Rattle.common.specs.Limits.{maxStates}
 use Rattle.replay.specs.Leaf.{leafFirstStep}
 use Rattle.replay.proofs.leaf.first_step.Statement.{statement}
 use Rattle.replay.proofs.leaf.first_step.Tie as tie
 
 returns : tie.Need-returns
 unfolding leafFirstStep
-returns c = rw (lt-leb _ 64 (c .if1 .taken))
+returns c = rw (lt-leb _ maxStates (c .if1 .taken))
 
 returns-2 : tie.Need-returns-2
 unfolding leafFirstStep
-returns-2 c = rw (le-leb _ 64 (c .before .if1 .left), lt-leb _ 64 (c .if2 .taken))
+returns-2 c = rw (le-leb _ maxStates (c .before .if1 .left), lt-leb _ maxStates (c .if2 .taken))
 
 returns-3 : tie.Need-returns-3
 unfolding leafFirstStep
 returns-3 c =
-    rw (le-leb _ 64 (c .before .before .if1 .left), le-leb _ 64 (c .before .if2 .left), lt-leb _ _ (c .if3 .taken))
+    rw (
+      le-leb _ maxStates (c .before .before .if1 .left),
+      le-leb _ maxStates (c .before .if2 .left),
+      lt-leb _ _ (c .if3 .taken),
+    )
 
 returns-4 : tie.Need-returns-4
 unfolding leafFirstStep
 returns-4 c =
     let i = c .before .before .before .before .before .before in
     rw (
-      le-leb _ 64 (i .before .before .if1 .left),
-      le-leb _ 64 (i .before .if2 .left),
+      le-leb _ maxStates (i .before .before .if1 .left),
+      le-leb _ maxStates (i .before .if2 .left),
       le-leb _ _ (i .if3 .left),
       c .to-bits .ensures,
       c .before .probe-initial-step-size .ensures,

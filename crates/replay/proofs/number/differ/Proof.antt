@@ -7,7 +7,7 @@ use lib.ListN.{length}
 use Rattle.loops.specs.For.{for}
 use Rattle.loops.proofs.For.{onward, ended}
 use Rattle.loops.specs.Count.{countedAt, differing}
-use Rattle.replay.specs.Replay.{isStored, casesDiffer}
+use Rattle.replay.specs.Number.{isStored, casesDiffer}
 use Rattle.replay.proofs.number.differ.Statement.{statement}
 use Rattle.replay.proofs.number.differ.Tie as tie
 

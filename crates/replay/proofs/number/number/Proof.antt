@@ -2,7 +2,7 @@
 -- Assumes nothing.
 use borrow.Author.Needs.{needs}
 use borrow.Author.Tests.{ne-eqb}
-use Rattle.replay.specs.Replay.{caseNumber}
+use Rattle.replay.specs.Number.{caseNumber}
 use Rattle.replay.proofs.number.number.Statement.{statement}
 use Rattle.replay.proofs.number.number.Tie as tie
 

@@ -4,15 +4,15 @@ use mathlib.Core.Path.{_≡_}
 use native.Mathlib.Omega.{arith}
 use borrow.Author.Needs.{needs}
 use lib.ListN.{length, length-set}
+use Rattle.replay_runs.specs.Words.{mostNumbers}
 use Rattle.replay_runs.proofs.words.floats.Statement.{statement}
 use Rattle.replay_runs.proofs.words.floats.Tie as tie
 
 abbrev Inv-loop : tie.InvT-loop
-Inv-loop words at out₀ i₀ out i =
-    (i ≤ 4096) × (length out ≡ 4096)
+Inv-loop words at out₀ i₀ out i = (i ≤ mostNumbers) × (length out ≡ mostNumbers)
 
 abbrev μ-loop : tie.MeasureT-loop
-μ-loop words at out₀ i₀ out i = 4096 - i
+μ-loop words at out₀ i₀ out i = mostNumbers - i
 
 loop-again : tie.Need-loop-again Inv-loop μ-loop
 loop-again c = simp length-set (omega arith)
