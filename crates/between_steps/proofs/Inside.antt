@@ -1,9 +1,10 @@
 -- What the functions inside a reply ask of the record (`Inside`) holds at each of their calls: it is `Within` with one
 -- step under way, and bounds on the counts.
---     inside-ranges                  a session in range
---     in-range, prepared-range       what a step's functions ask
---     inside-tn, inside-restart, inside-column, inside-open, inside-judged, inside-factored     what each change keeps
---     lent-length, lent-factored     the work and the pivots after a change
+--     inside-ranges                                a session in range
+--     in-range, prepared-range                     what a step's functions ask
+--     inside-tn, inside-restart, inside-column     what each change keeps
+--     within-of, inside-by                         of any other change: to `Within`, and back from what it keeps
+--     lent-length                                  the work and the pivots after a change of the work
 -- Assumes nothing.
 use mathlib.Core.Path.{_≡_, _∙_}
 use mathlib.Core.List.{List}
@@ -16,16 +17,10 @@ use Rattle.common.specs.declared.Common.{Common}
 use Rattle.common.specs.Record.{with-tn, with-column}
 use Rattle.common.specs.Ranges.{Ranges, Inside, StepInRange, Lent}
 use Rattle.common.proofs.Ranges.{wider}
-use Rattle.jacobian.specs.Jacobian.{finishJacobianOf}
-use Rattle.jacobian.proofs.Laws.{length-finished, length-finished-ipiv, finished-below}
-use Rattle.corrector.specs.declared.Correction.{Correction}
-use Rattle.corrector.specs.Verdict.{judgeOf}
-use Rattle.corrector.proofs.Judged.{same-judge}
-use Rattle.corrector.specs.Iterate.{openOf}
 use Rattle.between_steps.specs.Begin.{preparedOf}
 use Rattle.between_steps.specs.Start.{restartOf}
-use Rattle.between_steps.proofs.Within.{coreOf, Within, counters-of, range-of, within-open, within-judged}
-use Rattle.between_steps.proofs.Within.{within-factored, within-column, within-restart, within-prepared}
+use Rattle.between_steps.proofs.Within.{coreOf, Within, counters-of, range-of, within-column, within-restart}
+use Rattle.between_steps.proofs.Within.{within-prepared}
 
 pub inside-ranges : {s : Settings} {c : Common} → Ranges s c → Inside s c
 inside-ranges p =
@@ -40,16 +35,16 @@ inside-ranges p =
 
 -- nst stays inside a reply until a step is accepted, so icount stays at least 20
 module _ {s : Settings} {c : Common} (p : Inside s c) where
-  abbrev WithinStep : Common → Type 0
+  abbrev pub WithinStep : Common → Type 0
   WithinStep d = Within s (20 + c .nst) (c .nst + 1) (c .ialth) 1 (coreOf d)
 
-  within-of : WithinStep c
+  pub within-of : WithinStep c
   within-of = record {
     orders = p .orders; counters = wider (omega arith) (omega arith) (omega arith) (p .counters);
     ialth = omega arith; nslp = p .steps .0; steps = omega arith;
   }
 
-  inside-by : (d : Common) → WithinStep d → (d .nfe < 2 ^ 63) × (d .count < 2 ^ 63) × (d .rejected < 2 ^ 63)
+  pub inside-by : (d : Common) → WithinStep d → (d .nfe < 2 ^ 63) × (d .count < 2 ^ 63) × (d .rejected < 2 ^ 63)
       → Inside s d
   inside-by d q k = record {
     settings = p .settings;
@@ -74,32 +69,9 @@ module _ {s : Settings} {c : Common} (p : Inside s c) where
   pub inside-column : (j : ℕ) → j < s .n → Inside s (with-column j c)
   inside-column j h = inside-by (with-column j c) (within-column (p .settings) c within-of j h) (p .counts)
 
-  pub inside-open : Inside s (openOf c)
-  unfolding openOf
-  inside-open = inside-by (openOf c) (within-open (p .settings) c within-of) (p .counts)
-
-  pub inside-judged : (x : Correction) (pnorm : Float) → Inside s (judgeOf s c x pnorm .common)
-  inside-judged x pnorm =
-      let q = same-judge s c x pnorm in
-      inside-by _ (within-judged (p .settings) c within-of x pnorm) (rw (q .nfe, q .count, q .rejected) (p .counts))
-
-  pub inside-factored : (work : List Float) (ipiv : List ℕ) → Inside s (finishJacobianOf s c work ipiv .common)
-  unfolding finishJacobianOf
-  inside-factored work ipiv =
-      inside-by (finishJacobianOf s c work ipiv .common)
-      (within-factored (p .settings) c within-of (p .steps .1) work ipiv) (p .counts)
-
 -- ---- the work and the pivots
 
 -- another work of the same length
 pub lent-length : {n : ℕ} {work : List Float} {ipiv : List ℕ} (w : List Float) → length w ≡ length work
     → Lent n work ipiv → Lent n w ipiv
 lent-length w e p = record { sized = e ∙ p .sized; pivots = p .pivots; below = p .below }
-
-pub lent-factored : (s : Settings) (c : Common) (work : List Float) (ipiv : List ℕ) → Lent (s .n) work ipiv
-    → Lent (s .n) (finishJacobianOf s c work ipiv .work) (finishJacobianOf s c work ipiv .ipiv)
-lent-factored s c work ipiv p = record {
-  sized = length-finished s c work ipiv ∙ p .sized;
-  pivots = length-finished-ipiv s c work ipiv ∙ p .pivots;
-  below = finished-below s c work ipiv (p .below);
-}

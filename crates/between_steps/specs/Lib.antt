@@ -1,4 +1,3 @@
 pub mod Begin
 pub mod Start
-pub mod Pass
 pub mod Replies

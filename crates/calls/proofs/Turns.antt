@@ -24,7 +24,7 @@ use Rattle.common.specs.declared.Common.{Common}
 use Rattle.common.specs.Limits.{mxncfOf}
 use Rattle.common.specs.Rules.{tinyOf}
 use Rattle.common.specs.State.{Given, State, put-c}
-use Rattle.jacobian.specs.Jacobian.{beginOf, finishJacobianOf as factorsOf}
+use Rattle.jacobian.specs.Jacobian.{isSupplied, beginOf, finishJacobianOf as factorsOf}
 use Rattle.corrector.specs.declared.Pass.{Pass}
 use Rattle.corrector.specs.declared.Pass.the-variants as Pass
 use Rattle.attempt.specs.Attempt.{poorOf, noConvergenceAt, noConvergenceOf, errorOf, missedAt, missedOf, overshotOf}
@@ -48,7 +48,6 @@ use Rattle.passes.specs.Pass.{errorTestAt, errorTestOf, passFailedOf, concluded
 use Rattle.passes.specs.Pass.{matrixDoneAt, matrixDoneOf, askColumnOf, askJacobianAt, askJacobianOf, openedReplyAt}
 use Rattle.passes.specs.Pass.{openedReplyOf, jacobianReplyOf, columnReplyAt, columnReplyOf, furtherReplyOf}
 use Rattle.passes.specs.Pass.{restepReplyOf}
-use Rattle.between_steps.specs.Pass.{isSupplied}
 use Rattle.reports.specs.Reports.{sizedAt, sizedOf, weightedAt, firstDerivativeOf, afterFirstReportOf}
 use Rattle.reports.specs.Reports.{firstModifiedOf, afterReportOf, modifiedOf}
 use Rattle.machine.specs.Resume.{isAsked, unasked, resumeAt, resumeOf}

@@ -35,7 +35,7 @@ use Rattle.questions.specs.declared.Step.{Step}
 use Rattle.questions.specs.Turns.{turnIn}
 use Rattle.between_steps.specs.Begin.{isGoing}
 use Rattle.passes.specs.Pass.{acceptedOf}
-use Rattle.between_steps.specs.Pass.{isSupplied}
+use Rattle.jacobian.specs.Jacobian.{isSupplied}
 use Rattle.session.specs.Session.{decodeOf, encodeOf}
 use Rattle.refusals.specs.Rows.{NoneHolds}
 use Rattle.answers.specs.declared.Reply.{Reply}

@@ -15,9 +15,11 @@ use Rattle.common.specs.declared.Common.{Common}
 use Rattle.common.specs.Record.{isBdf, with-rate, with-convrate, with-pdest, with-pdlast, with-jcur, with-due, with-m}
 use Rattle.common.specs.Record.{with-delp}
 use Rattle.common.specs.Rules.{elOf}
+use Rattle.history.specs.Parts.{normAtOf}
 use Rattle.corrector.specs.declared.Pass.the-variants.{Converged, Retry, NoConvergence, Further}
 use Rattle.corrector.specs.declared.Verdict.{Verdict}
 use Rattle.corrector.specs.declared.Correction.{Correction}
+use Rattle.corrector.specs.Iterate.{Corrected}
 
 -- del / delp, or 1024 if that is more
 abbrev pub rmOf : Common → Float → Float
@@ -81,3 +83,7 @@ solvedVerdict s c del pnorm =
 
 unfoldable pub judgeOf : Settings → Common → Correction → Float → Verdict
 judgeOf s c x pnorm = cond (x .solved) (solvedVerdict s c (x .del) pnorm) (giveUpOf c)
+
+-- of an iteration: its correction beside the norm of the prediction
+abbrev pub verdictOf : Settings → Common → Corrected → Verdict
+verdictOf s c x = judgeOf s c (record { solved = x .solved; del = x .del }) (normAtOf (s .n) 0 (x .work) .value)

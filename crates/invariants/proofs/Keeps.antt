@@ -17,6 +17,7 @@ use Rattle.common.specs.State.{Given, State, state, put-c, put-w}
 use Rattle.common.specs.Layout.{matrixAt}
 use Rattle.common.specs.Record.{with-tn, with-h, with-nfe, with-count, with-total, with-column}
 use Rattle.jacobian.specs.Jacobian.{beginOf, finishJacobianOf}
+use Rattle.corrector.specs.Verdict.{verdictOf}
 use Rattle.corrector.specs.Iterate.{openOf, correctOf}
 use Rattle.attempt.specs.declared.Next.{Next}
 use Rattle.attempt.specs.declared.Next.the-variants as Next
@@ -24,7 +25,6 @@ use Rattle.attempt.specs.Attempt.{noConvergenceOf, failedOf, restepOf}
 use Rattle.acceptance.specs.Accept.{acceptOf}
 use Rattle.between_steps.specs.Begin.{firstPredictionOf}
 use Rattle.between_steps.specs.Start.{firstStepOf, firstSizeOf, restartOf}
-use Rattle.between_steps.specs.Pass.{verdictOf}
 use Rattle.questions.specs.declared.Phase.{Phase}
 use Rattle.questions.specs.declared.Phase.the-variants as Phase
 use Rattle.questions.specs.Turns.{RunState}

@@ -11,7 +11,8 @@ use Rattle.common.specs.Layout.{matrixAt}
 use Rattle.attempt.specs.Attempt.{noConvergenceOf, failedOf}
 use Rattle.between_steps.specs.declared.Kind.{Kind}
 use Rattle.common.specs.Ranges.{Lent}
-use Rattle.between_steps.proofs.Inside.{lent-length, lent-factored}
+use Rattle.between_steps.proofs.Inside.{lent-length}
+use Rattle.passes.proofs.PassInside.{lent-factored}
 use Rattle.questions.specs.declared.Phase.{Phase}
 use Rattle.machine.specs.Resume.{resumeOf}
 use Rattle.invariants.proofs.Keeps.{Invariant, each, any, after-pass, Keeps}

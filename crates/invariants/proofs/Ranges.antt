@@ -26,9 +26,10 @@ use Rattle.attempt.specs.declared.Next.the-variants as Next
 use Rattle.attempt.specs.Attempt.{noConvergenceOf, failedOf}
 use Rattle.attempt.proofs.Laws.{Kept, unconverged, failed}
 use Rattle.between_steps.specs.declared.Kind.{Kind}
-use Rattle.between_steps.proofs.Within.{Core, coreOf, Within, kept-ialth, within-open, within-judged, within-factored}
-use Rattle.between_steps.proofs.Within.{within-column, within-unconverged, within-failed, failed-pass, failed-restep}
-use Rattle.between_steps.proofs.Within.{within-restep, within-restart, within-first, within-another, within-accept}
+use Rattle.between_steps.proofs.Within.{Core, coreOf, Within, within-column, within-restart, within-first}
+use Rattle.between_steps.proofs.Within.{within-another}
+use Rattle.passes.proofs.PassWithin.{within-open, within-judged, within-factored, kept-ialth, within-unconverged}
+use Rattle.passes.proofs.PassWithin.{within-failed, failed-pass, failed-restep, within-restep, within-accept}
 use Rattle.questions.specs.declared.Phase.{Phase}
 use Rattle.common.specs.Initial.{initialOf}
 use Rattle.machine.specs.Resume.{resumeOf}

@@ -23,6 +23,7 @@ use Rattle.common.specs.State.{Given, State}
 use Rattle.history.specs.Columns.{copyOf, slopeOf}
 use Rattle.history.specs.Parts.{storedOf}
 use Rattle.history.proofs.Laws.{length-copy, length-slope, length-fill}
+use Rattle.jacobian.specs.Jacobian.{isSupplied}
 use Rattle.jacobian.proofs.Laws.{length-perturb, length-restore, length-supplied}
 use Rattle.corrector.specs.declared.Pass.{Pass}
 use Rattle.corrector.specs.declared.Pass.the-variants as Pass
@@ -40,7 +41,6 @@ use Rattle.between_steps.specs.declared.Kind.{Kind}
 use Rattle.between_steps.specs.declared.Kind.the-variants as Kind
 use Rattle.between_steps.specs.Begin.{isGoing}
 use Rattle.between_steps.specs.Start.{withDerivative, firstStepOf, takenOf as stateOf}
-use Rattle.between_steps.specs.Pass.{isSupplied}
 use Rattle.between_steps.proofs.Lengths.{length-first, length-stored, length-taken, length-inverted}
 use Rattle.questions.specs.declared.Phase.{Phase}
 use Rattle.questions.specs.declared.Phase.the-variants as Phase

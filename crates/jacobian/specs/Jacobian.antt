@@ -2,7 +2,7 @@
 -- norm, the identity added, its factors. The Rust's y_fd stands in work; r0 and an increment are computed anew where
 -- they are used, from what no column changes: savf, the weights and y.
 -- How near a difference column is to the derivative is not claimed, nor that a matrix that factors is well conditioned.
-use mathlib.Core.Bool.{Bool, true, false, cond}
+use mathlib.Core.Bool.{Bool, true, false, cond, _&&_}
 use mathlib.Core.List.{List}
 use Prim.Native.Nat.{ℕ, _+_, _*_}
 use lib.ListN.{length, getD, set}
@@ -18,8 +18,13 @@ use Rattle.dense.specs.Factor.{Factors, factorOf}
 use Rattle.common.specs.declared.Settings.{Settings}
 use Rattle.common.specs.declared.Common.{Common}
 use Rattle.common.specs.Layout.{ewt, matrix, ewtAt, savfAt, ftemAt, yAt, yfdAt, matrixAt}
-use Rattle.common.specs.Record.{with-nje, with-jcur, with-due, with-pdnorm, with-rc, with-nslp, with-convrate, with-nlu}
+use Rattle.common.specs.Record.{isBdf, with-nje, with-jcur, with-due, with-pdnorm, with-rc, with-nslp, with-convrate}
+use Rattle.common.specs.Record.{with-nlu}
 use Rattle.history.specs.Parts.{normAtOf}
+
+-- the host's Jacobian, in the second family alone
+abbrev pub isSupplied : Settings → Common → Bool
+isSupplied s c = isBdf (c .meth) && s .supplied
 
 -- a Jacobian begins
 unfoldable pub beginOf : Common → Common

@@ -16,10 +16,11 @@ use Rattle.common.specs.Record.{with-total, with-column}
 use Rattle.common.specs.State.{Given, State, state, made, put-c, put-w, movedTo}
 use Rattle.history.specs.Columns.{copyOf, fillOf}
 use Rattle.history.specs.Parts.{storedOf}
-use Rattle.jacobian.specs.Jacobian.{beginOf, perturbOf, restoreOf, finishJacobianOf as factorsOf}
+use Rattle.jacobian.specs.Jacobian.{isSupplied, beginOf, perturbOf, restoreOf, finishJacobianOf as factorsOf}
 use Rattle.jacobian.specs.Jacobian as Jacobian
 use Rattle.corrector.specs.declared.Pass.{Pass}
 use Rattle.corrector.specs.declared.Pass.the-variants as Pass
+use Rattle.corrector.specs.Verdict.{verdictOf}
 use Rattle.corrector.specs.Iterate.{openOf, correctOf}
 use Rattle.attempt.specs.declared.Next.{Next}
 use Rattle.attempt.specs.declared.Next.the-variants as Next
@@ -29,7 +30,6 @@ use Rattle.acceptance.specs.declared.Branch.{Branch}
 use Rattle.acceptance.specs.declared.Branch.the-variants.{Unchanged, SmallGain, Lowered, Kept as KeptOrder, Raised}
 use Rattle.acceptance.specs.declared.Branch.the-variants.{HeldBySm1, FamilyChanged, CoefficientGap}
 use Rattle.acceptance.specs.Accept.{acceptOf, closedOf}
-use Rattle.between_steps.specs.Pass.{verdictOf, isSupplied}
 use Rattle.between_steps.specs.declared.Status.the-variants.{StepTooSmall, PoorConvergence}
 use Rattle.between_steps.specs.declared.Status.the-variants as Status
 use Rattle.between_steps.specs.Start.{withDerivative}

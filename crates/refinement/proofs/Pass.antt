@@ -10,9 +10,9 @@ use lib.Dec.{ltb}
 use lib.Ieee.{Float}
 use borrow.Author.Tests.{lt-ltb, le-ltb}
 use Rattle.common.specs.State.{Given, State}
+use Rattle.jacobian.specs.Jacobian.{isSupplied}
 use Rattle.corrector.specs.declared.Pass.{Pass}
 use Rattle.corrector.specs.declared.Pass.the-variants.{Converged, Retry, NoConvergence, Further}
-use Rattle.between_steps.specs.Pass.{isSupplied}
 use Rattle.questions.specs.declared.Phase.the-variants as Phase
 use Rattle.questions.specs.Turns.{RunState, askedInStepOf}
 use Rattle.questions.specs.Begin.{openPassOf}

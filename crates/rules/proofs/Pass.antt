@@ -16,13 +16,12 @@ use Rattle.common.specs.declared.Settings.{Settings}
 use Rattle.common.specs.declared.Common.{Common}
 use Rattle.common.specs.Record.{with-column, with-nje}
 use Rattle.common.specs.State.{Given, State}
-use Rattle.jacobian.specs.Jacobian.{beginOf}
+use Rattle.jacobian.specs.Jacobian.{isSupplied, beginOf}
 use Rattle.jacobian.proofs.Laws.{SameStep, same-begin, begin-flags, counted, same-finished, finished-flags}
 use Rattle.corrector.specs.declared.Pass.{Pass}
 use Rattle.corrector.specs.declared.Pass.the-variants.{Converged, Retry, NoConvergence, Further}
 use Rattle.corrector.proofs.Judged.{same-judge, judged}
 use Rattle.corrector.proofs.Iterated.{same-open, open-flags}
-use Rattle.between_steps.specs.Pass.{isSupplied}
 use Rattle.rules.specs.Play.{Play}
 use Rattle.rules.specs.Pass.{askedInStep, stored, Outcome, converged, toRetry, unconverged}
 use Rattle.rules.specs.Pass.{Iterated, iterated, further, furtherAllowed, turns, fresh, iterations, factored}

@@ -14,12 +14,13 @@ use Rattle.common.specs.Record.{with-nfe, with-count, with-column}
 use Rattle.common.specs.State.{Given, State, made, put-c, put-w}
 use Rattle.history.specs.Columns.{copyOf, fillOf}
 use Rattle.history.specs.Parts.{storedOf}
+use Rattle.jacobian.specs.Jacobian.{isSupplied}
 use Rattle.jacobian.specs.Jacobian.{beginOf, perturbOf, restoreOf, suppliedOf, Factored, finishJacobianOf as factorsOf}
 use Rattle.corrector.specs.declared.Pass.{Pass}
 use Rattle.corrector.specs.declared.Pass.the-variants.{Converged, Retry, NoConvergence, Further}
+use Rattle.corrector.specs.Verdict.{verdictOf}
 use Rattle.corrector.specs.Iterate.{openOf, correctOf}
 use Rattle.between_steps.specs.Start.{withDerivative}
-use Rattle.between_steps.specs.Pass.{verdictOf, isSupplied}
 use Rattle.rules.specs.Play.{Question, derivativeAt, jacobianAt, Source, byDifferences, supplied, opens, jacobian}
 use Rattle.rules.specs.Play.{retries, exhausted, Play, ret, ask, say}
 

@@ -5,8 +5,7 @@ use mathlib.Core.Bool.{false}
 use mathlib.Core.Logic.{⊎-elim}
 use native.Mathlib.Omega.{arith}
 use borrow.Author.Needs.{needs}
-use Rattle.jacobian.specs.Jacobian.{beginOf}
-use Rattle.between_steps.specs.Pass.{isSupplied}
+use Rattle.jacobian.specs.Jacobian.{isSupplied, beginOf}
 use Rattle.passes.specs.Pass.{askJacobianOf, askJacobianAt}
 use Rattle.passes.proofs.ask_jacobian.Statement.{statement}
 use Rattle.passes.proofs.ask_jacobian.Tie as tie

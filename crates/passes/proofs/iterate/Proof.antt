@@ -7,7 +7,8 @@ use borrow.Author.Needs.{needs}
 use Rattle.corrector.specs.Iterate.{Corrected}
 use Rattle.corrector.proofs.Iterated.{length-iteration}
 use Rattle.common.specs.Ranges.{Inside}
-use Rattle.between_steps.proofs.Inside.{in-range, inside-judged}
+use Rattle.between_steps.proofs.Inside.{in-range}
+use Rattle.passes.proofs.PassInside.{inside-judged}
 use Rattle.passes.specs.Pass.{iterateOf, concludedAt}
 use Rattle.passes.proofs.iterate.Statement.{statement}
 use Rattle.passes.proofs.iterate.Tie as tie

@@ -7,7 +7,8 @@ use Rattle.loops.proofs.Part.{length-part}
 use borrow.Author.Needs.{needs}
 use Rattle.common.specs.Layout.{acorAt, yAt}
 use Rattle.history.specs.Columns.{fillOf}
-use Rattle.between_steps.proofs.Inside.{inside-open, lent-length}
+use Rattle.between_steps.proofs.Inside.{lent-length}
+use Rattle.passes.proofs.PassInside.{inside-open}
 use Rattle.passes.specs.Pass.{iterationsOf}
 use Rattle.passes.proofs.iterations.Statement.{statement}
 use Rattle.passes.proofs.iterations.Tie as tie

@@ -2,7 +2,7 @@
 -- Assumes nothing.
 use native.Mathlib.Omega.{arith}
 use borrow.Author.Needs.{needs}
-use Rattle.between_steps.proofs.Inside.{inside-factored, lent-factored}
+use Rattle.passes.proofs.PassInside.{inside-factored, lent-factored}
 use Rattle.passes.specs.Pass.{matrixDoneOf, matrixDoneAt}
 use Rattle.passes.proofs.matrix_done.Statement.{statement}
 use Rattle.passes.proofs.matrix_done.Tie as tie

@@ -1,0 +1,2 @@
+pub mod PassWithin
+pub mod PassInside
