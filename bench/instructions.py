@@ -49,7 +49,8 @@ class Profile:
 def profile(bench, side, family, n, repeats):
     with tempfile.TemporaryDirectory() as folder:
         out = os.path.join(folder, "out")
-        command = ["valgrind", "--tool=callgrind", "--callgrind-out-file=" + out, bench, "once", side, family, str(n), str(repeats)]
+        command = ["valgrind", "--tool=callgrind", "--callgrind-out-file=" + out]
+        command += [bench, "once", side, family, str(n), str(repeats)]
         said = subprocess.run(command, check=True, capture_output=True, text=True).stdout
         with open(out) as file:
             return Profile(file.read()), int(said.split()[0])
@@ -58,7 +59,8 @@ def profile(bench, side, family, n, repeats):
 def main():
     bench = sys.argv[1]
     print("instructions per request")
-    print(f"{'family':6} {'n':>3} {'requests':>9}" + "".join(f"{side:>9}" for side in SIDES) + "  kept/root kept/powf  root's own  share of ours")
+    sides = "".join(f"{side:>9}" for side in SIDES)
+    print(f"{'family':6} {'n':>3} {'requests':>9}{sides}  kept/root kept/powf  root's own  share of ours")
     parts = {}
     for family in ["adams", "bdf"]:
         for n in [2, 8, 24, 64]:
@@ -79,7 +81,8 @@ def main():
             print(
                 f"{family:6} {n:3} {asked:9}"
                 + "".join(f"{per[side]:9.0f}" for side in SIDES)
-                + f"{per['kept'] / per['root']:11.2f}{per['kept'] / per['powf']:10.2f}{own_root:12.0f}{own_root / per['kept']:14.0%}",
+                + f"{per['kept'] / per['root']:11.2f}{per['kept'] / per['powf']:10.2f}"
+                + f"{own_root:12.0f}{own_root / per['kept']:14.0%}",
                 flush=True,
             )
     for family in ["adams", "bdf"]:

@@ -1,4 +1,4 @@
-"""Requests and steps of ODEPACK's LSODA, as scipy has it, on the problems of `bench counts`, and tight runs to judge by.
+"""Requests and steps of ODEPACK's LSODA, as scipy has it, on the problems of `bench counts`; tight runs to judge by.
 
 A line for each run: solver, problem, tolerance, derivatives, Jacobians, steps, rejected (- where unknown), and the end.
 """
@@ -42,7 +42,8 @@ def main():
             r = solve_ivp(counted, (0.0, end), y0, method="LSODA", rtol=rtol, atol=scaled)
             assert r.success, r.message
             solver = "tight" if rtol == 1e-12 else "odepack"
-            print(solver, name, f"{rtol:.0e}", asked[0], r.njev, len(r.t) - 1, "-", *[repr(float(x)) for x in r.y[:, -1]])
+            end = [repr(float(x)) for x in r.y[:, -1]]
+            print(solver, name, f"{rtol:.0e}", asked[0], r.njev, len(r.t) - 1, "-", *end)
 
 
 main()

@@ -111,7 +111,7 @@ fn calls_alone() {
         let start = least(2_000, &mut || {
             black_box(calls::start(0.0, xend, &y0, &rtol, &atol, calls::defaults(), &mut lent));
         });
-        // 9 is no kind: refused by 14 once the stored values are found in range. 3 is one, but a derivative was asked for.
+        // 9 is no kind: refused by 14 once the stored values are found in range. 3 is one, but a derivative was asked.
         let unknown = least(2_000, &mut || assert_eq!(calls::reply(9, &y0, 0.0, &mut lent).number, 14));
         let unasked = least(2_000, &mut || assert_eq!(calls::reply(3, &y0, 0.0, &mut lent).number, 14));
         println!("{n:3} {clear:6.1} {start:7.1} {unknown:13.1} {unasked:13.1}");
