@@ -31,11 +31,11 @@ def number_at(t):
 
 def frames(rig, result):
     """The pose of each frame. A run that ended early has none after its last accepted step, nor from a NaN on."""
-    found = []
+    found, end = [], result.sol.t_max
     for k in range(number_at(rig.seconds) + 1):
-        t = k / RATE
-        if t > result.sol.t_max:
+        if k / RATE > end + 1e-9:
             break
+        t = min(k / RATE, end)  # the last step may end a rounding before the end that was asked for
         state = [float(v) for v in result.sol(t)]
         if not all(map(math.isfinite, state)):
             break
