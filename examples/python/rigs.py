@@ -1,6 +1,11 @@
-"""The right sides of the examples: a tail of twelve links and a hanging hand."""
+"""The rigs of the examples: a tail of twelve links and a hanging hand, as formulas and as links to draw.
+
+A state is the angles of the links (rad), then their speeds (rad/s). Angles are absolute, measured from hanging straight
+down.
+"""
 
 import math
+from collections import namedtuple
 
 LINKS = 12
 
@@ -20,7 +25,7 @@ def tail(t, y):
     return out
 
 
-HAND = ["wrist", "thumb", "index", "little"]
+HAND_LENGTHS = [0.25] + [0.06 + 0.01 * i for i in (1, 2, 3)]
 
 
 def hand(t, y):
@@ -29,7 +34,33 @@ def hand(t, y):
     out = [0.0] * 8
     for i in range(4):
         out[i] = speed[i]
-        length = 0.25 if i == 0 else 0.06 + 0.01 * i
         spring = 0.0 if i == 0 else 80.0 * (angle[0] - angle[i])
-        out[4 + i] = spring - 9.81 / length * math.sin(angle[i]) - (1.2 if i == 0 else 4.0) * speed[i]
+        out[4 + i] = spring - 9.81 / HAND_LENGTHS[i] * math.sin(angle[i]) - (1.2 if i == 0 else 4.0) * speed[i]
     return out
+
+
+# start: the state at time 0. seconds: how long it is solved. links: their names. lengths: of the links (m).
+# hangs_from: for each link the number of the link from whose end it hangs, None for the fixed point.
+Rig = namedtuple("Rig", "name title fun start seconds links lengths hangs_from")
+
+TAIL = Rig(
+    "tail",
+    "A tail of twelve links",
+    tail,
+    [0.0] * (2 * LINKS),
+    4.0,
+    [f"link {i + 1}" for i in range(LINKS)],
+    [0.09 * 0.95**i for i in range(LINKS)],  # for the drawing alone: the formula of the tail has no length
+    [None, *range(LINKS - 1)],
+)
+
+HAND = Rig(
+    "hand",
+    "A hanging hand",
+    hand,
+    [1.4, 1.4, 1.2, 1.0, 0.0, 0.0, 0.0, 0.0],
+    4.0,
+    ["wrist", "thumb", "index", "little"],
+    HAND_LENGTHS,
+    [None, 0, 0, 0],
+)
