@@ -25,6 +25,33 @@ fn refusals() {
 }
 
 #[test]
+fn every_refusal_has_its_number_and_text() {
+    let told = [
+        (Reason::TooManyStates, "more than 64 states"),
+        (Reason::ToleranceLength, "a tolerance list is neither 1 long nor as long as y0"),
+        (Reason::BufferLength, "the length of a buffer is wrong"),
+        (Reason::SettingTooLarge, "a setting is above 1,000,000"),
+        (Reason::NoSteps, "max_steps is 0"),
+        (Reason::NoIterations, "maxcor is 0"),
+        (Reason::NoOrder, "mxordn or mxords is 0"),
+        (Reason::Banded, "banded storage is not supported"),
+        (Reason::NegativeRelative, "rtol[3] is below 0"),
+        (Reason::NegativeAbsolute, "atol[3] is below 0"),
+        (Reason::FirstStep, "the first step NaN is zero, NaN or leads away from the end"),
+        (Reason::Weight, "the weight rtol*|y|+atol of state 3 is at most 0"),
+        (Reason::DamagedSession, "the session holds a value out of its range"),
+        (Reason::Unasked, "another reply was asked for, or the run has ended"),
+        (Reason::DamagedSnapshot, "the snapshot's header is damaged"),
+        (Reason::PoseLength, "the pose has another length than the snapshot's states"),
+        (Reason::ShortSnapshot, "the snapshot's history is too short or its step is zero"),
+    ];
+    for (number, (reason, text)) in (1..).zip(told) {
+        let refused = Refused { reason, index: 3, value: f64::NAN };
+        assert_eq!((refused.number(), refused.to_string()), (number, format!("refused ({number}): {text}")));
+    }
+}
+
+#[test]
 fn too_many_states_are_refused_before_any_buffer() {
     // buffers for so many would not fit any memory
     let y0 = vec![0.0; 10_000_000];
