@@ -3,7 +3,7 @@
 //!
 //!     cargo run --release --example tail
 
-use raimsklo::{solve_dense, End, Options, Problem, Refused};
+use raimsklo::{solve_dense, Error, Options, Problem};
 
 const LINKS: usize = 12;
 
@@ -22,15 +22,9 @@ fn tail(t: f64, y: &[f64], f: &mut [f64]) {
     }
 }
 
-fn main() -> Result<(), Refused> {
-    let problem = Problem {
-        x0: 0.0,
-        xend: 2.0,
-        y0: &[0.0; 2 * LINKS],
-        rtol: &[1e-6],
-        atol: &[1e-9],
-        options: Options::default(),
-    };
+fn main() -> Result<(), Error> {
+    let options = Options::default();
+    let problem = Problem { x0: 0.0, xend: 2.0, y0: &[0.0; 2 * LINKS], rtol: &[1e-6], atol: &[1e-9], options };
     let (finished, curve) = solve_dense(&problem, tail)?;
 
     println!("frame   root  middle     tip");
@@ -39,8 +33,7 @@ fn main() -> Result<(), Refused> {
         println!("{frame:5} {:6.3} {:7.3} {:7.3}", pose[0], pose[LINKS / 2], pose[LINKS - 1]);
     }
     let (most, cap) = (curve.steps().iter().map(|step| step.count).max().unwrap(), problem.options.cap(2 * LINKS));
-    println!("{:?}: {} steps; at most {most} derivatives in a step, cap {cap}", finished.end, finished.accepted);
-    assert_eq!(finished.end, End::Success);
+    println!("{finished}: {} steps; at most {most} derivatives in a step, cap {cap}", finished.accepted);
     assert!(most <= cap);
     Ok(())
 }

@@ -22,6 +22,7 @@ pub struct Answer {
     pub rejected: usize,
 }
 
+#[rustfmt::skip]
 extern "C" {
     pub fn raimsklo_defaults() -> Options;
     pub fn raimsklo_start(

@@ -3,30 +3,43 @@
 use std::fmt;
 
 /// Why a call was refused; `reason as usize` is its number.
-#[derive(Clone, Copy, Debug, PartialEq, Eq)]
+#[derive(Clone, Copy, Debug, PartialEq, Eq, Hash)]
 #[repr(usize)]
 pub enum Reason {
+    /// More than 64 states.
     TooManyStates = 1,
+    /// A tolerance list is neither 1 long nor as long as y0.
     ToleranceLength = 2,
+    /// The length of a buffer is wrong; [`Solver`](crate::Solver) has its own, of the right length.
     BufferLength = 3,
+    /// A setting is above 1,000,000.
     SettingTooLarge = 4,
+    /// `max_steps` is 0.
     NoSteps = 5,
+    /// `maxcor` is 0.
     NoIterations = 6,
+    /// `mxordn` or `mxords` is 0.
     NoOrder = 7,
+    /// Banded storage is not supported; [`Options`](crate::Options) cannot ask for it.
     Banded = 8,
     /// An entry of rtol is below 0.
     NegativeRelative = 9,
     /// An entry of atol is below 0.
     NegativeAbsolute = 10,
-    /// The first step is zero, NaN or leads away from the end.
+    /// The first step, given or computed, is zero, NaN or leads away from the end.
     FirstStep = 11,
-    /// The weight of a state is at most 0.
+    /// The weight rtol·|y|+atol of a state is at most 0.
     Weight = 12,
+    /// The session holds a value out of its range; nobody but the library writes that of a
+    /// [`Solver`](crate::Solver).
     DamagedSession = 13,
     /// Another reply was asked for, or the run has ended.
     Unasked = 14,
+    /// The snapshot's header is damaged.
     DamagedSnapshot = 15,
+    /// The pose has another length than the snapshot's states.
     PoseLength = 16,
+    /// The snapshot's history is too short or its step is zero.
     ShortSnapshot = 17,
 }
 
@@ -51,13 +64,19 @@ const REASONS: [Reason; 17] = [
     Reason::ShortSnapshot,
 ];
 
-/// A refused call. It has changed nothing.
+/// A refused call.
+///
+/// A refused start has begun nothing, and a refused reply has changed nothing: the question stands as it was. But 11
+/// and 12 as the answer to a reply have **ended the run**. 12 comes after the first derivative or at the end of an
+/// accepted step, before its report; 11 after the first derivative, for the step computed from it. The reply was taken,
+/// there is no further question, and every further reply is refused with 14.
 #[derive(Clone, Copy, Debug, PartialEq)]
 pub struct Refused {
+    /// Why.
     pub reason: Reason,
-    /// The entry of 9 and 10, the state of 12.
+    /// The entry of 9 and 10, the state of 12; else 0.
     pub index: usize,
-    /// The step of 11.
+    /// The step of 11; else 0.
     pub value: f64,
 }
 

@@ -1,34 +1,9 @@
-//! The classic problems, the ends and the refusals through the crate.
+//! Whole runs: the classic problems, what a report may say, and two runs that are kept with their bits.
 
-use raimsklo::{solve, solve_dense, solve_with_jacobian, steps};
-use raimsklo::{Control, End, Options, Problem, Question, Reason, Refused, Solver};
+mod common;
 
-fn problem<'a>(xend: f64, y0: &'a [f64], rtol: &'a [f64], atol: &'a [f64]) -> Problem<'a> {
-    Problem { x0: 0.0, xend, y0, rtol, atol, options: Options::default() }
-}
-
-fn swing(_: f64, y: &[f64], f: &mut [f64]) {
-    f[0] = y[1];
-    f[1] = -y[0];
-}
-
-fn van_der_pol(_: f64, y: &[f64], f: &mut [f64]) {
-    f[0] = y[1];
-    f[1] = 1000.0 * (1.0 - y[0] * y[0]) * y[1] - y[0];
-}
-
-fn robertson(_: f64, y: &[f64], f: &mut [f64]) {
-    f[0] = -0.04 * y[0] + 1e4 * y[1] * y[2];
-    f[2] = 3e7 * y[1] * y[1];
-    f[1] = -f[0] - f[2];
-}
-
-fn robertson_jacobian(_: f64, y: &[f64], columns: &mut [f64]) {
-    let (b, c) = (y[1], y[2]);
-    columns[..3].copy_from_slice(&[-0.04, 0.04, 0.0]);
-    columns[3..6].copy_from_slice(&[1e4 * c, -1e4 * c - 6e7 * b, 6e7 * b]);
-    columns[6..].copy_from_slice(&[1e4 * b, -1e4 * b, 0.0]);
-}
+use common::{problem, robertson, robertson_jacobian, swing, swinging};
+use raimsklo::{solve, steps, Control, End, Options, Problem, RightSide};
 
 #[test]
 fn oscillator() {
@@ -40,29 +15,21 @@ fn oscillator() {
         steps += 1;
         last = step.y.to_vec();
         Control::Continue
-    });
-    let finished = finished.unwrap();
+    })
+    .unwrap();
     assert_eq!((finished.end, finished.accepted), (End::Success, steps));
+    assert_eq!((finished.time, finished.nonfinite_at), (10.0, None));
     assert!((last[0] - 10f64.cos()).abs() < 1e-4);
 }
 
 #[test]
-fn interpolation_within_a_step() {
-    let problem = problem(5.0, &[1.0, 0.0], &[1e-8], &[1e-10]);
-    let finished = solve(&problem, swing, |step| {
-        let middle = 0.5 * (step.previous + step.time);
-        assert!((step.at(middle).unwrap()[0] - middle.cos()).abs() < 1e-4);
-        assert_eq!(raimsklo::interpolate(middle, &mut [0.0; 3], step.snapshot).unwrap_err().number(), 16);
-        Control::Continue
-    });
-    assert_eq!(finished.unwrap().end, End::Success);
-}
-
-#[test]
 fn stiff_problems() {
-    let finished = solve(&problem(2000.0, &[2.0, 0.0], &[1e-5], &[1e-8]), van_der_pol, |_| Control::Continue).unwrap();
-    assert_eq!(finished.end, End::Success);
-    assert!(finished.nje > 0);
+    let van_der_pol = |_: f64, y: &[f64], f: &mut [f64]| {
+        f[0] = y[1];
+        f[1] = 1000.0 * (1.0 - y[0] * y[0]) * y[1] - y[0];
+    };
+    let stiff = problem(2000.0, &[2.0, 0.0], &[1e-5], &[1e-8]);
+    assert!(solve(&stiff, van_der_pol, |_| Control::Continue).unwrap().nje > 0);
 
     let chemistry = problem(40.0, &[1.0, 0.0, 0.0], &[1e-6], &[1e-8, 1e-12, 1e-8]);
     let (mut by_differences, mut supplied) = (vec![], vec![]);
@@ -71,63 +38,34 @@ fn stiff_problems() {
         Control::Continue
     })
     .unwrap();
-    solve_with_jacobian(&chemistry, robertson, robertson_jacobian, |step| {
+    let with_jacobian = RightSide::new(robertson).jacobian(robertson_jacobian);
+    let finished = chemistry.solve(with_jacobian, |step| {
         supplied = step.y.to_vec();
         Control::Continue
-    })
-    .unwrap();
+    });
+    assert!(finished.unwrap().nje > 0);
     for y in [by_differences, supplied] {
         assert!((y[0] - 0.7158271).abs() < 1e-4 && (y[2] - 0.2841637).abs() < 1e-4, "{y:?}");
     }
 }
 
 #[test]
-fn ends() {
-    let mut short = problem(10.0, &[1.0, 0.0], &[1e-3], &[1e-6]);
-    short.options.max_steps = 3;
-    let finished = solve(&short, swing, |_| Control::Continue).unwrap();
-    assert_eq!((finished.end, finished.accepted), (End::NeedsMoreSteps, 3));
-
+fn what_a_report_says() {
     let whole = problem(10.0, &[1.0, 0.0], &[1e-3], &[1e-6]);
-    assert_eq!(solve(&whole, swing, |_| Control::Interrupt).unwrap().end, End::Interrupted);
-    let mut reports = 0;
+    let finished = solve(&whole, swing, |_| Control::Interrupt).unwrap();
+    assert_eq!((finished.end, finished.accepted), (End::Interrupted, 1));
+    assert!(finished.time > 0.0 && finished.time < 10.0);
+
+    let mut poses = vec![];
     let finished = solve(&whole, swing, |step| {
-        reports += 1;
-        match reports {
+        poses.push(step.y[0]);
+        match poses.len() {
             1 => Control::Modified(vec![2.0 * step.y[0], step.y[1]]),
             _ => Control::Continue,
         }
     });
     assert_eq!(finished.unwrap().end, End::Success);
-    let wild = problem(1.0, &[1.0], &[1e-3], &[1e-6]);
-    solve(&wild, |t, _, f| f[0] = if t > 0.0 { f64::NAN } else { 1.0 }, |_| Control::Continue).unwrap();
-}
-
-#[test]
-fn refusals() {
-    let refused = |problem: &Problem| Solver::start(problem).unwrap_err();
-    assert_eq!(refused(&problem(1.0, &[0.0; 65], &[1e-3], &[1e-6])).number(), 1);
-    assert_eq!(refused(&problem(1.0, &[0.0; 2], &[1e-3; 3], &[1e-6])).number(), 2);
-    let negative = Refused { reason: Reason::NegativeRelative, index: 1, value: 0.0 };
-    assert_eq!(refused(&problem(1.0, &[0.0; 2], &[1e-3, -1.0], &[1e-6])), negative);
-    assert_eq!(refused(&problem(1.0, &[0.0; 2], &[1e-3], &[-1.0])).number(), 10);
-    let options = Options::default().first_step(-0.5);
-    let backward = Problem { options, ..problem(1.0, &[0.0], &[1e-3], &[1e-6]) };
-    assert_eq!(refused(&backward), Refused { reason: Reason::FirstStep, index: 0, value: -0.5 });
-    let told = "refused (11): the first step -0.5 is zero, NaN or leads away from the end";
-    assert_eq!(refused(&backward).to_string(), told);
-    let weightless = problem(1.0, &[0.0], &[1e-3], &[0.0]);
-    assert_eq!(solve(&weightless, |_, _, f| f[0] = 0.0, |_| Control::Continue).unwrap_err().number(), 12);
-}
-
-#[test]
-fn a_refused_reply_changes_nothing() {
-    let mut run = Solver::start(&problem(1.0, &[1.0, 0.0], &[1e-3], &[1e-6])).unwrap();
-    assert_eq!(run.derivative(&[0.0]).unwrap_err().number(), 14);
-    assert_eq!(run.go_on(&[1.0, 0.0], 0.0).unwrap_err().number(), 14);
-    assert!(matches!(run.question(), Question::Derivative { time, y } if time == 0.0 && y == [1.0, 0.0]));
-    run.derivative(&[0.0, -1.0]).unwrap();
-    assert!(matches!(run.question(), Question::FirstReport { .. }));
+    assert!(poses[0] < 1.0 && poses[1] > 1.9);
 }
 
 #[test]
@@ -138,7 +76,7 @@ fn nothing_to_do() {
 
 #[test]
 fn steps_one_at_a_time() {
-    let problem = problem(10.0, &[1.0, 0.0], &[1e-6], &[1e-9]);
+    let problem = swinging(10.0);
     let mut reported = vec![];
     let finished = solve(&problem, swing, |step| {
         reported.push((step.previous, step.time, step.y.to_vec(), step.count));
@@ -149,52 +87,55 @@ fn steps_one_at_a_time() {
     let taken: Vec<_> = run.by_ref().map(|step| step.unwrap()).map(|s| (s.previous, s.time, s.y, s.count)).collect();
     assert_eq!((taken, run.finished()), (reported, finished.ok()));
     assert!(run.next().is_none());
-
-    // a weight that comes to be at most 0 ends the run, and its steps
-    let falling = Problem { atol: &[0.0], ..problem };
-    let mut run = steps(&falling, |_, y, f| f.copy_from_slice(&[-y[0], 0.0])).unwrap();
-    assert_eq!(run.next().unwrap().unwrap_err(), Refused { reason: Reason::Weight, index: 1, value: 0.0 });
-    assert!(run.next().is_none() && run.finished().is_none());
-}
-
-#[test]
-fn poses_at_any_time() {
-    for (x0, xend) in [(0.0, 10.0), (10.0, 0.0)] {
-        let y0 = [f64::cos(x0), -f64::sin(x0)];
-        let problem = Problem { x0, ..problem(xend, &y0, &[1e-8], &[1e-10]) };
-        let (finished, dense) = solve_dense(&problem, swing).unwrap();
-        assert_eq!((finished.end, finished.accepted), (End::Success, dense.steps().len()));
-        assert_eq!(dense.span(), (x0, xend));
-        for i in 0..=1000 {
-            let t = 0.01 * f64::from(i);
-            assert!((dense.at(t).unwrap()[0] - t.cos()).abs() < 1e-4, "{t}");
-        }
-        assert_eq!(dense.at(x0).unwrap(), y0);
-        assert_eq!(dense.at(xend).unwrap(), dense.steps().last().unwrap().at(xend).unwrap());
-        assert!(dense.at(-0.1).is_none() && dense.at(10.1).is_none() && dense.at(f64::NAN).is_none());
-    }
-    let mut short = problem(10.0, &[1.0, 0.0], &[1e-3], &[1e-6]);
-    short.options.max_steps = 3;
-    let (finished, dense) = solve_dense(&short, swing).unwrap();
-    assert_eq!(finished.end, End::NeedsMoreSteps);
-    assert!(dense.at(dense.span().1).is_some() && dense.at(10.0).is_none());
 }
 
 #[test]
 fn a_closure_that_panics_stops_the_run() {
-    let problem = problem(10.0, &[1.0, 0.0], &[1e-6], &[1e-9]);
+    let problem = swinging(10.0);
     let mut calls = 0;
     let caught = std::panic::catch_unwind(std::panic::AssertUnwindSafe(|| {
-        solve(&problem, |_, _, _| { calls += 1; assert!(calls < 5, "the rig is gone") }, |_| Control::Continue)
+        let derivative = |_: f64, y: &[f64], f: &mut [f64]| {
+            calls += 1;
+            assert!(calls < 5, "the rig is gone");
+            swing(0.0, y, f);
+        };
+        solve(&problem, derivative, |_| Control::Continue)
     }));
     assert_eq!((caught.is_err(), calls), (true, 5));
 }
 
 #[test]
-fn options_that_ask_for_a_jacobian_do_not_mislead_solve() {
-    let whole = problem(10.0, &[1.0, 0.0], &[1e-6], &[1e-9]);
-    let asking = Problem { options: whole.options.with_jacobian(), ..whole };
-    assert_eq!(solve(&asking, swing, |_| Control::Continue), solve(&whole, swing, |_| Control::Continue));
+fn caps_are_known_beforehand() {
+    let mut options = Options::default();
+    assert_eq!((options.cap(2), options.jacobian_cap()), (22 * 3 + 7 + 2 * 19, 19));
+    assert_eq!(options.with_jacobian().cap(2), 22 * 3 + 7);
+    options.mxncf = 0;
+    assert_eq!((options.cap(2), options.jacobian_cap()), (13 * 3 + 7 + 2 * 10, 10));
+    (options.mxncf, options.maxcor) = (usize::MAX, usize::MAX);
+    assert_eq!((options.cap(2), options.jacobian_cap()), (usize::MAX, usize::MAX));
+}
+
+#[test]
+fn options_say_what_they_were_given() {
+    let options = Options::default();
+    assert_eq!((options.given_max_step(), options.given_min_step(), options.given_first_step()), (None, None, None));
+    assert!(!options.asks_jacobian() && options.with_jacobian().asks_jacobian());
+    let given = options.max_step(2.0).min_step(0.5).first_step(-1.0);
+    let told = (given.given_max_step(), given.given_min_step(), given.given_first_step());
+    assert_eq!(told, (Some(2.0), Some(0.5), Some(-1.0)));
+    assert_ne!(given, options);
+
+    // a first step has the direction of time
+    let y0 = [10f64.cos(), -10f64.sin()];
+    let backward = Problem { x0: 10.0, options: options.first_step(-1e-3), ..problem(0.0, &y0, &[1e-6], &[1e-9]) };
+    let first = steps(&backward, swing).unwrap().next().unwrap().unwrap();
+    assert_eq!((first.previous, first.time), (10.0, 10.0 - 1e-3));
+}
+
+#[test]
+fn the_root_is_the_solvers() {
+    assert_eq!((raimsklo::root(8.0, 3), raimsklo::root(1.0, 13)), (2.0, 1.0));
+    assert!(raimsklo::root(8.0, 1).is_nan() && raimsklo::root(8.0, 14).is_nan() && raimsklo::root(-8.0, 3).is_nan());
 }
 
 // Two runs of the published solver that are kept with its bits: docs/DIFFERENCES.md.

@@ -1,0 +1,210 @@
+//! What a driver's `Ok` and its errors mean: early ends, poses that are not finite, equal ends of the interval.
+
+mod common;
+
+use std::convert::Infallible;
+use std::error::Error as _;
+
+use common::{breaking, cut_after, problem, swing};
+use raimsklo::{solve, solve_dense, steps, Control, Dense, End, Error, Finished, Incomplete, NoPose, Options, Problem};
+use raimsklo::{Reason, Refused, Solver};
+
+fn run(problem: &Problem, derivative: fn(f64, &[f64], &mut [f64])) -> Result<Finished, Error> {
+    solve(problem, derivative, |_| Control::Continue)
+}
+
+fn ended<E>(error: Error<E>) -> Finished {
+    match error {
+        Error::Ended(finished) => finished,
+        _ => panic!("another error than an end"),
+    }
+}
+
+#[test]
+fn an_early_end_is_an_error_of_every_driver() {
+    let short = cut_after(3);
+    let finished = ended(run(&short, swing).unwrap_err());
+    assert_eq!((finished.end, finished.accepted, finished.nonfinite_at), (End::NeedsMoreSteps, 3, None));
+    assert!(!finished.is_ok() && finished.check() == Err(Error::Ended(finished)));
+
+    let mut taken = steps(&short, swing).unwrap();
+    let times: Vec<f64> = taken.by_ref().take(3).map(|step| step.unwrap().time).collect();
+    assert_eq!((times.len(), times[2], taken.finished()), (3, finished.time, None));
+    assert_eq!(ended(taken.next().unwrap().unwrap_err()), finished);
+    assert_eq!(taken.finished(), Some(finished));
+    assert!(taken.next().is_none());
+
+    let Incomplete { error, curve } = solve_dense(&short, swing).unwrap_err();
+    assert_eq!((ended(error), curve.steps().len(), curve.span()), (finished, 3, (0.0, finished.time)));
+    assert!(curve.at(finished.time).is_some() && curve.at(10.0).is_none());
+}
+
+#[test]
+fn every_early_end_has_its_name_and_advice() {
+    let told = [
+        (End::Success, 110, "success", ""),
+        (End::Interrupted, 111, "interrupted", ""),
+        (
+            End::NeedsMoreSteps,
+            112,
+            "needs more steps",
+            "raise max_steps, loosen the tolerances or shorten the interval",
+        ),
+        (
+            End::StepTooSmall,
+            113,
+            "step too small",
+            "loosen the tolerances, lower min_step, or look for a jump or a pole of the right side near this time",
+        ),
+        (
+            End::PoorConvergence,
+            114,
+            "poor convergence",
+            "give a Jacobian, raise maxcor or mxncf, lower min_step, or look for a jump or a pole of the right side \
+             near this time",
+        ),
+        (End::CoefficientGap, 115, "coefficient gap", "set mxordn to 5 or less"),
+    ];
+    for (end, number, text, advice) in told {
+        assert_eq!((end.number(), end.to_string().as_str(), end.advice()), (number, text, advice));
+        let _: &dyn std::error::Error = &end;
+    }
+
+    let error = run(&cut_after(3), swing).unwrap_err();
+    let time = error.finished().unwrap().time;
+    let advice = End::NeedsMoreSteps.advice();
+    assert_eq!(error.to_string(), format!("needs more steps: {advice} (the last pose is at time {time:?})"));
+    assert!(error.source().is_none());
+
+    // the sums of the scope: poor convergence, and a step too small
+    let mut options = Options::default().first_step(1.0);
+    let jumping = |time: f64, _: &[f64], f: &mut [f64]| f[0] = if time > 0.0 { 100.0 } else { 0.0 };
+    let at_rest = Problem { options: options.min_step(1.0), ..problem(1.0, &[0.0], &[0.0], &[1.0]) };
+    let finished = ended(run(&at_rest, jumping).unwrap_err());
+    assert_eq!((finished.end, finished.total, finished.rejected), (End::StepTooSmall, 0, 1));
+    (options.maxcor, options.mxncf) = (1, 1);
+    let finished = ended(run(&Problem { options, ..at_rest }, jumping).unwrap_err());
+    assert_eq!((finished.end, finished.total, finished.rejected), (End::PoorConvergence, 0, 0));
+}
+
+#[test]
+fn a_pose_that_is_not_finite_is_no_success() {
+    let problem = problem(1.0, &[1.0], &[1e-3], &[1e-6]);
+    let mut first = None;
+    let error = solve(&problem, breaking, |step| {
+        if step.y[0].is_nan() && first.is_none() {
+            first = Some(step.time);
+        }
+        Control::Continue
+    })
+    .unwrap_err();
+    let text = format!("success, but the pose at time {:?} is not finite", first.unwrap());
+    assert_eq!(error.to_string(), text);
+    let finished = ended(error);
+    assert_eq!((finished.end, finished.nonfinite_at, finished.time), (End::Success, first, 1.0));
+
+    // the run itself goes on as the library has it: every driver has the same steps, and says so at the end
+    let mut taken = steps(&problem, breaking).unwrap();
+    assert_eq!(taken.by_ref().take_while(|step| step.is_ok()).count(), finished.accepted);
+    assert_eq!(taken.finished(), Some(finished));
+    let Incomplete { error, curve } = solve_dense(&problem, breaking).unwrap_err();
+    assert_eq!((ended(error), curve.steps().len()), (finished, finished.accepted));
+    assert!((curve.at(0.25).unwrap()[0] - 1.25).abs() < 1e-9);
+
+    // the start's own pose, an infinity, an interrupt after it, and an early end, which keeps its name
+    for y0 in [f64::NAN, f64::INFINITY] {
+        let lost = Problem { y0: &[y0], ..problem };
+        assert_eq!(ended(run(&lost, |_, _, f| f[0] = 0.0).unwrap_err()).nonfinite_at, Some(0.0));
+        let finished = ended(solve(&lost, |_, _, f| f[0] = 0.0, |_| Control::Interrupt).unwrap_err());
+        assert_eq!((finished.end, finished.nonfinite_at), (End::Interrupted, Some(0.0)));
+    }
+    let mut lost = Problem { y0: &[f64::NAN], ..problem };
+    lost.options.max_steps = 2;
+    let error = run(&lost, |_, _, f| f[0] = 0.0).unwrap_err();
+    assert!(error.to_string().ends_with("; the pose at time 0.0 is not finite"), "{error}");
+    assert_eq!(ended(error).end, End::NeedsMoreSteps);
+}
+
+#[test]
+fn equal_ends_are_a_success_without_a_step() {
+    let y0 = [1.0, 0.0];
+    let still = Problem { x0: 3.0, ..problem(3.0, &y0, &[1e-3], &[1e-6]) };
+    let finished = run(&still, swing).unwrap();
+    assert_eq!((finished.end, finished.h, finished.time), (End::Success, 0.0, 3.0));
+    assert_eq!((finished.nfe, finished.accepted), (1, 0));
+    let mut taken = steps(&still, swing).unwrap();
+    assert!(taken.next().is_none());
+    assert_eq!(taken.finished(), Some(finished));
+    let (dense_finished, curve) = solve_dense(&still, swing).unwrap();
+    assert_eq!((dense_finished, curve.span(), curve.at(3.0).unwrap()), (finished, (3.0, 3.0), y0.to_vec()));
+
+    for (x0, xend) in [(0.0, -0.0), (-0.0, 0.0)] {
+        let finished = run(&Problem { x0, xend, ..still }, swing).unwrap();
+        assert_eq!((finished.end, finished.accepted), (End::Success, 0));
+    }
+
+    // everything else is refused as ever
+    let refused = |problem: &Problem| match run(problem, swing).unwrap_err() {
+        Error::Refused(refused) => refused.number(),
+        error => panic!("{error}"),
+    };
+    assert_eq!(refused(&Problem { rtol: &[-1.0], ..still }), 9);
+    assert_eq!(refused(&Problem { atol: &[0.0], ..still }), 12);
+    assert_eq!(refused(&Problem { options: still.options.first_step(0.0), ..still }), 11);
+    assert_eq!(ended(run(&Problem { y0: &[1.0, f64::NAN], ..still }, swing).unwrap_err()).nonfinite_at, Some(3.0));
+    // the machine hands on what it is given
+    assert_eq!(Solver::start(&still).unwrap().derivative(&[0.0, -1.0]).unwrap_err().reason, Reason::FirstStep);
+}
+
+#[test]
+fn a_refusal_keeps_the_steps_before_it() {
+    // it falls by a sixteenth in each step, and its weight is 0 at the end of the last
+    let options = Options::default().first_step(0.0625).max_step(0.0625);
+    let falling = Problem { options, ..problem(10.0, &[1.0], &[0.5], &[0.0]) };
+    let to_zero = |_: f64, _: &[f64], f: &mut [f64]| f[0] = -1.0;
+    let mut taken = steps(&falling, to_zero).unwrap();
+    let mut count = 0;
+    let last = loop {
+        match taken.next().unwrap() {
+            Ok(_) => count += 1,
+            Err(error) => break error,
+        }
+    };
+    let Error::Refused(Refused { reason: Reason::Weight, index: 0, .. }) = last else { panic!("{last}") };
+    assert!(taken.next().is_none() && taken.finished().is_none());
+    assert_eq!(count, 15);
+    let cut = solve_dense(&falling, to_zero).unwrap_err();
+    assert_eq!((cut.error, cut.curve.steps().len()), (last, count));
+}
+
+#[test]
+fn question_mark_lets_no_early_end_pass() {
+    fn table() -> Result<usize, Box<dyn std::error::Error>> {
+        let finished = solve(&cut_after(3), swing, |_| Control::Continue)?;
+        Ok(finished.accepted)
+    }
+    fn curve() -> Result<Dense, Error> {
+        Ok(solve_dense(&cut_after(3), swing)?.1)
+    }
+    fn rows() -> Result<usize, Box<dyn std::error::Error + Send + Sync>> {
+        let mut rows = 0;
+        for step in steps(&cut_after(3), swing)? {
+            rows += step?.y.len();
+        }
+        Ok(rows)
+    }
+    assert!(table().unwrap_err().downcast_ref::<Error>().unwrap().finished().is_some());
+    assert_eq!(ended(curve().unwrap_err()).end, End::NeedsMoreSteps);
+    assert!(rows().unwrap_err().to_string().starts_with("needs more steps"));
+}
+
+#[test]
+fn errors_go_to_other_threads() {
+    fn sent<T: std::error::Error + Send + Sync + 'static>() {}
+    sent::<Error>();
+    sent::<Error<std::io::Error>>();
+    sent::<Incomplete<Infallible>>();
+    sent::<NoPose>();
+    sent::<Refused>();
+    sent::<End>();
+}

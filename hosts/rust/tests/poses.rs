@@ -1,0 +1,60 @@
+//! Poses between and beyond the ends of steps.
+
+mod common;
+
+use common::{problem, swing, swinging};
+use raimsklo::{interpolate, solve, solve_dense, steps, Control, End, NoPose, Problem};
+
+#[test]
+fn interpolation_within_a_step() {
+    let problem = problem(5.0, &[1.0, 0.0], &[1e-8], &[1e-10]);
+    let finished = solve(&problem, swing, |step| {
+        let middle = 0.5 * (step.previous + step.time);
+        assert!((step.at(middle).unwrap()[0] - middle.cos()).abs() < 1e-4);
+        assert_eq!(step.at(step.time).unwrap(), step.y);
+        assert_eq!(interpolate(middle, &mut [0.0; 3], step.snapshot).unwrap_err().number(), 16);
+        Control::Continue
+    });
+    assert_eq!(finished.unwrap().end, End::Success);
+}
+
+#[test]
+fn a_step_has_no_pose_outside_its_ends() {
+    for (x0, xend) in [(0.0, 10.0), (10.0, 0.0)] {
+        let y0 = [f64::cos(x0), -f64::sin(x0)];
+        let problem = Problem { x0, y0: &y0, ..swinging(xend) };
+        let mut taken = steps(&problem, swing).unwrap();
+        let (_, step) = (taken.next(), taken.next().unwrap().unwrap());
+        let (previous, end) = (step.previous, step.time);
+        let beyond = end + 0.5 * (end - previous);
+        for time in [x0, beyond, f64::INFINITY, f64::NEG_INFINITY] {
+            assert_eq!(step.at(time), Err(NoPose::OutsideStep { time, previous, end }));
+            assert_eq!(step.as_step().at(time), step.at(time));
+        }
+        assert!(step.at(f64::NAN).is_err() && step.at(previous).is_ok() && step.at(end).is_ok());
+        let told = format!("time {beyond:?} is outside the step from {previous:?} to {end:?}");
+        assert_eq!(step.at(beyond).unwrap_err().to_string(), told);
+        // the library's own goes on
+        let mut pose = [0.0; 2];
+        interpolate(beyond, &mut pose, &step.snapshot).unwrap();
+        assert!((pose[0] - beyond.cos()).abs() < 1e-3);
+    }
+}
+
+#[test]
+fn poses_at_any_time() {
+    for (x0, xend) in [(0.0, 10.0), (10.0, 0.0)] {
+        let y0 = [f64::cos(x0), -f64::sin(x0)];
+        let problem = Problem { x0, ..problem(xend, &y0, &[1e-8], &[1e-10]) };
+        let (finished, dense) = solve_dense(&problem, swing).unwrap();
+        assert_eq!((finished.end, finished.accepted), (End::Success, dense.steps().len()));
+        assert_eq!(dense.span(), (x0, xend));
+        for i in 0..=1000 {
+            let t = 0.01 * f64::from(i);
+            assert!((dense.at(t).unwrap()[0] - t.cos()).abs() < 1e-4, "{t}");
+        }
+        assert_eq!(dense.at(x0).unwrap(), y0);
+        assert_eq!(dense.at(xend).unwrap(), dense.steps().last().unwrap().at(xend).unwrap());
+        assert!(dense.at(-0.1).is_none() && dense.at(10.1).is_none() && dense.at(f64::NAN).is_none());
+    }
+}
