@@ -40,8 +40,9 @@
  * checked for 3, 13 and 14. A refused call leaves everything as it was, and another one can be made; but 11 and 12 in a
  * reply end the run. 11 comes there after the first derivative, for the first step computed from it; 12 after the first
  * derivative, or at the end of an accepted step, whose pose is then not reported. They leave work and pivots as far as
- * the call had come and a session that has ended (14 from then on); the question stays as it was, and there are no
- * counts. An end, too, leaves the question as it was: the last accepted pose is that of the last report.
+ * the call had come and a session that has ended (14 from then on), and there are no counts. What ends a run, 11 and 12
+ * included, leaves the question as it was: after 12 and 113 to 115 a trial pose may stand there that was not accepted.
+ * The last accepted pose is that of the last report.
  *
  * Reports. A pose is handed out by a report alone, and a report follows an accepted step alone. After a step `continue`
  * keeps y and time as given: hand back those of the report, unless the run shall go on from others. `modified` takes y

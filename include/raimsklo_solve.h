@@ -1,4 +1,5 @@
-/* raimsklo_solve.h: y' = f(t, y) solved in one call, with callbacks; a header alone, over raimsklo.h.
+/* raimsklo_solve.h: y' = f(t, y) solved in one call, with callbacks; a header alone, over raimsklo.h, whose comment has
+ * what to know before use, the numbers and the options.
  *
  * Example: y'' = -y from 0 to 10; derivative is int derivative(double time, const double *y, double *f, size_t n, void
  * *user), which sets f[0] = y[1], f[1] = -y[0] and returns 0 (examples/c/tail.c and hand.c are whole programs).
@@ -26,10 +27,10 @@
  *     RAIMSKLO_STATUS_OUTSIDE        -6    raimsklo_pose_at: the time is not of the report's step; raimsklo_solve:
  *                                          number 110, but a time of t_eval lies in no accepted step
  *
- * Whatever the status: result.time and result.y are the last accepted pose (x0 and y0 where there is none; after 1 and
- * -4 y is all 0), has_nonfinite and nonfinite_at are set where an accepted pose, the start's included, or a pose of
- * t_eval is not finite. The run itself goes on as the library has it: its requests, reports and bits are those of the
- * question loop in raimsklo.h.
+ * Whatever the status, result.time and result.y are the last accepted pose, x0 and y0 where there is none (number 1 and
+ * statuses -4 and -5 leave y at 0), and has_nonfinite and nonfinite_at are set where an accepted pose, the start's
+ * included, or a pose of t_eval is not finite. The run itself goes on as the library has it: its requests, reports and
+ * bits are those of the question loop in raimsklo.h.
  *
  * Callbacks return 0 to go on, anything else to stop the run, and get callbacks->user:
  *   derivative  writes f(time, y) to f, which holds NaN before each call: a forgotten entry shows as not finite

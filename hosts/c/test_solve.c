@@ -230,7 +230,8 @@ static void ends(void) {
     p = raimsklo_make_problem(0, 1, NULL, 0, NULL, 0, NULL, 0);
     CHECK(raimsklo_solve(&p, &none, NULL, 0, &result) == RAIMSKLO_STATUS_SOLVED && result.number == RAIMSKLO_SUCCESS);
     CHECK(result.h == 0 && result.nfe == 0 && result.accepted == 0 && result.time == 0 && !result.has_nonfinite);
-    CHECK(raimsklo_solve_alloc(&p, &none, &result) == RAIMSKLO_STATUS_SOLVED);
+    p.t_eval = time, p.t_eval_len = 2; /* poses of no numbers, which need no room */
+    CHECK(raimsklo_solve_alloc(&p, &none, &result) == RAIMSKLO_STATUS_SOLVED && result.evaluated == 2);
 }
 
 /* ---- refusals, by number with index or value ---- */
@@ -469,6 +470,38 @@ static void poses(void) {
     for (k = 0; k < 2 * TIMES; k++) CHECK((out[k] == 7) == (k >= 2 * result.evaluated));
 }
 
+/* A host that changes t_eval under way: a time that lies in no step is no success. */
+static int moves_the_time(raimsklo_report *report, void *user) {
+    *(double *)user = report->previous / 2 - 1;
+    return 0;
+}
+
+static int turns(double t, const double *y, double *f, size_t n, void *user) {
+    (void)t, (void)n, (void)user;
+    f[0] = y[1], f[1] = -y[0];
+    return 0;
+}
+
+static void poses_that_are_missing(void) {
+    const double columns[8] = {1, 1, 1, 0.5, 0.5, 0, 2, INFINITY}, y = 2; /* n 1, order 1, step 0.5 to 1 */
+    double time = 10, out[2] = {7, 7};
+    raimsklo_callbacks c = calls(turns, NULL, moves_the_time, &time);
+    raimsklo_problem p = oscillation(0, 10);
+    raimsklo_report report;
+    p.t_eval = &time, p.t_eval_len = 1, p.poses = out;
+    CHECK(solve(&p, &c) == RAIMSKLO_STATUS_OUTSIDE && result.number == RAIMSKLO_SUCCESS);
+    CHECK(result.evaluated == 0 && out[0] == 7 && !result.has_nonfinite);
+
+    /* a step whose end is finite, and a pose within it that is not */
+    memset(&result, 0, sizeof result), memset(&report, 0, sizeof report);
+    report.previous = 0.5, report.time = 1, report.y = &y, report.n = 1;
+    report.snapshot = columns, report.snapshot_len = 8;
+    time = 0.75, p.n = 1;
+    raimsklo_hand_out_(&p, &report, &result);
+    CHECK(result.evaluated == 1 && result.time == 1 && result.y[0] == 2);
+    CHECK(result.has_nonfinite && result.nonfinite_at == 0.75);
+}
+
 /* ---- the run against the question loop ---- */
 
 /* The loop of raimsklo.h, which notes what the driver's callbacks note. */
@@ -571,6 +604,7 @@ int main(void) {
     buffers();
     columns();
     poses();
+    poses_that_are_missing();
     bits();
     modified();
     return passed("hosts/c/test_solve");
