@@ -1,5 +1,6 @@
 /* include/raimsklo_solve.h: every status, the rules of its buffers, and its run against the question loop, by bits. */
 #include <math.h>
+#include <setjmp.h>
 #include <stdlib.h>
 #include <string.h>
 
@@ -372,6 +373,59 @@ static void stopped(void) {
     CHECK(solve(&p, &c) == RAIMSKLO_STATUS_SOLVED && result.stopped == 0);
 }
 
+/* ---- callbacks that solve something else, and that do not return ---- */
+
+static int solves_another(double t, const double *y, double *f, size_t n, void *user) {
+    raimsklo_problem other = oscillation(0, 0.1);
+    raimsklo_callbacks c = calls(oscillator, NULL, NULL, user);
+    raimsklo_result there;
+    CHECK(raimsklo_solve_alloc(&other, &c, &there) == RAIMSKLO_STATUS_SOLVED);
+    return oscillator(t, y, f, n, user);
+}
+
+#ifndef __cplusplus
+static jmp_buf out_of_the_run;
+#endif
+
+static int leaves(double t, const double *y, double *f, size_t n, void *user) {
+    if (oscillator(t, y, f, n, user) != 0) {
+#ifdef __cplusplus
+        throw 5;
+#else
+        longjmp(out_of_the_run, 5);
+#endif
+    }
+    return 0;
+}
+
+static int leaving(const raimsklo_problem *p, const raimsklo_callbacks *c) {
+#ifdef __cplusplus
+    try {
+        raimsklo_solve(p, c, memory, LENGTH, &result);
+    } catch (int number) {
+        return number;
+    }
+#else
+    if (setjmp(out_of_the_run) != 0) return 5;
+    raimsklo_solve(p, c, memory, LENGTH, &result);
+#endif
+    return 0;
+}
+
+static void elsewhere(void) {
+    seen s = nothing_seen();
+    raimsklo_callbacks c = calls(oscillator, NULL, NULL, &s);
+    raimsklo_problem p = oscillation(0, 1);
+    raimsklo_result alone;
+    CHECK(solve(&p, &c) == RAIMSKLO_STATUS_SOLVED);
+    alone = result;
+    c.derivative = leaves, s = nothing_seen(), s.stop_derivative = 10;
+    CHECK(leaving(&p, &c) == 5 && s.derivatives == 10);
+    c.derivative = solves_another; /* in the memory that was left behind */
+    CHECK(solve(&p, &c) == RAIMSKLO_STATUS_SOLVED && result.nfe == alone.nfe && result.accepted == alone.accepted);
+    CHECK(memcmp(result.y, alone.y, sizeof alone.y) == 0);
+}
+
 /* ---- what buffers hold before a callback, and poses that are not finite ---- */
 
 static void buffers(void) {
@@ -601,6 +655,7 @@ int main(void) {
     arguments();
     status_messages();
     stopped();
+    elsewhere();
     buffers();
     columns();
     poses();
