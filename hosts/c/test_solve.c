@@ -1,0 +1,666 @@
+/* include/raimsklo_solve.h: every status, the rules of its buffers, and its run against the question loop, by bits. */
+#include <math.h>
+#include <setjmp.h>
+#include <stdlib.h>
+#include <string.h>
+
+/* raimsklo_solve_alloc finds no memory while this is set. */
+static int no_memory;
+static inline void *asked_malloc(size_t size) { return no_memory ? NULL : malloc(size); }
+#define malloc asked_malloc
+#include "raimsklo_solve.h"
+#undef malloc
+#include "check.h"
+
+enum { MOST = RAIMSKLO_MAX_STATES, LENGTH = RAIMSKLO_SOLVE_LENGTH(MOST) };
+static double memory[LENGTH + 1];
+static raimsklo_result result;
+
+/* ---- what is solved ---- */
+
+/* What the callbacks are told, and what they saw. */
+typedef struct {
+    double values[4];        /* the first derivatives, for one state; the last stands for all further ones */
+    size_t derivatives, jacobians, reports;
+    size_t stop_derivative, stop_jacobian, stop_report; /* the call that stops the run, 0: none */
+    int buffers;             /* whether each buffer held what is promised before its call */
+    int transposed;          /* the Jacobian by rows, which is wrong */
+    size_t modify;           /* the report that goes on from half the pose */
+    int scribble;            /* write to changed without asking for modified */
+    double *log;             /* all that is seen, in its order */
+    size_t logged;
+} seen;
+
+static seen nothing_seen(void) {
+    seen s;
+    memset(&s, 0, sizeof s);
+    s.buffers = 1;
+    return s;
+}
+
+enum { LOG = 400000 };
+static double plain_log[LOG], driver_log[LOG];
+
+static void note(seen *s, double what, double time, const double *numbers, size_t n) {
+    if (s->log == NULL || s->logged + n + 2 > LOG) return;
+    s->log[s->logged++] = what, s->log[s->logged++] = time;
+    memcpy(s->log + s->logged, numbers, n * sizeof *numbers);
+    s->logged += n;
+}
+
+static int stops(size_t call, size_t at, int number) { return call == at ? number : 0; }
+
+static int scripted(double t, const double *y, double *f, size_t n, void *user) {
+    seen *s = (seen *)user;
+    (void)t, (void)y, (void)n;
+    f[0] = s->values[s->derivatives < 3 ? s->derivatives : 3];
+    return stops(++s->derivatives, s->stop_derivative, 5);
+}
+
+static int oscillator(double t, const double *y, double *f, size_t n, void *user) {
+    seen *s = (seen *)user;
+    size_t i;
+    for (i = 0; i < n; i++) s->buffers = s->buffers && f[i] != f[i];
+    note(s, 100, t, y, n);
+    f[0] = y[1], f[1] = -y[0];
+    return stops(++s->derivatives, s->stop_derivative, 5);
+}
+
+static int forgetful(double t, const double *y, double *f, size_t n, void *user) {
+    (void)t, (void)n, (void)user;
+    f[0] = y[1];
+    return 0;
+}
+
+/* Stiff, and not symmetric: eigenvalues -1 and -1000, and the slow motion is that of the first state. */
+static const double stiff_rows[2][2] = {{-1, 2000}, {0, -1000}};
+
+static int stiff(double t, const double *y, double *f, size_t n, void *user) {
+    seen *s = (seen *)user;
+    note(s, 100, t, y, n);
+    s->derivatives++;
+    f[0] = stiff_rows[0][0] * y[0] + stiff_rows[0][1] * y[1];
+    f[1] = stiff_rows[1][0] * y[0] + stiff_rows[1][1] * y[1];
+    return 0;
+}
+
+static int stiff_columns(double t, const double *y, double *columns, size_t n, void *user) {
+    seen *s = (seen *)user;
+    size_t i, j;
+    note(s, 101, t, y, n);
+    for (i = 0; i < n * n; i++) s->buffers = s->buffers && columns[i] == 0;
+    for (i = 0; i < n; i++) {
+        for (j = 0; j < n; j++) {
+            if (stiff_rows[i][j] != 0) columns[s->transposed ? i * n + j : j * n + i] = stiff_rows[i][j];
+        }
+    }
+    return stops(++s->jacobians, s->stop_jacobian, -3);
+}
+
+static int decays(double t, const double *y, double *f, size_t n, void *user) {
+    seen *s = (seen *)user;
+    size_t i;
+    note(s, 100, t, y, n);
+    for (i = 0; i < n; i++) f[i] = -(double)(i + 1) / 8 * y[i];
+    return 0;
+}
+
+static int watch(raimsklo_report *report, void *user) {
+    seen *s = (seen *)user;
+    size_t i;
+    note(s, 103, report->previous, &report->time, 1);
+    note(s, (double)report->count, report->y[0], report->snapshot, report->snapshot_len);
+    CHECK(report->accepted == s->reports + 1);
+    CHECK(memcmp(report->changed, report->y, report->n * sizeof *report->y) == 0);
+    if (++s->reports == s->modify) {
+        for (i = 0; i < report->n; i++) report->changed[i] = report->y[i] / 2;
+        report->modified = 1;
+    }
+    if (s->scribble) report->changed[0] = 1e9;
+    return stops(s->reports, s->stop_report, 42);
+}
+
+static raimsklo_callbacks calls(raimsklo_derivative derivative, raimsklo_jacobian jacobian, raimsklo_observer report,
+                                void *user) {
+    raimsklo_callbacks c;
+    c.derivative = derivative, c.jacobian = jacobian, c.report = report, c.user = user;
+    return c;
+}
+
+/* Solves with exactly the memory of n states and says whether nothing behind it was written. */
+static int solve(const raimsklo_problem *p, const raimsklo_callbacks *c) {
+    size_t length = RAIMSKLO_SOLVE_LENGTH(p->n);
+    int status;
+    memory[length] = 123;
+    status = raimsklo_solve(p, c, memory, length, &result);
+    CHECK(memory[length] == 123);
+    CHECK(status == result.status);
+    return status;
+}
+
+static const double tight = 1e-6, fine = 1e-9;
+static const double start2[2] = {1, 0};
+
+static raimsklo_problem oscillation(double x0, double xend) {
+    return raimsklo_make_problem(x0, xend, start2, 2, &tight, 1, &fine, 1);
+}
+
+/* ---- the sums worked by hand, of one state ---- */
+
+typedef struct {
+    double y0, rtol, atol;
+} scalar;
+
+static raimsklo_problem sum(const scalar *s, double xend) {
+    raimsklo_problem p = raimsklo_make_problem(0, xend, &s->y0, 1, &s->rtol, 1, &s->atol, 1);
+    p.options.has_first_step = 1, p.options.first_step = 1;
+    return p;
+}
+
+static void sums(void) {
+    scalar two = {2, 0.5, 0}, zero = {0, 0, 1};
+    seen s = nothing_seen();
+    raimsklo_callbacks c = calls(scripted, NULL, watch, &s);
+    raimsklo_problem p = sum(&two, 1);
+
+    /* (8) */
+    CHECK(solve(&p, &c) == RAIMSKLO_STATUS_SOLVED && result.number == RAIMSKLO_SUCCESS);
+    CHECK(result.h == 1 && result.nfe == 2 && result.total == 1 && result.accepted == 1 && result.rejected == 0);
+    CHECK(result.time == 1 && result.y[0] == 2 && !result.has_nonfinite && s.reports == 1);
+    CHECK(result.largest_count == 1 && result.cap == 73 + 19 && result.jacobian_cap == 19);
+
+    /* (9): success to the library, and not to the host */
+    s = nothing_seen(), s.values[1] = NAN;
+    CHECK(solve(&p, &c) == RAIMSKLO_STATUS_NOT_FINITE && result.number == RAIMSKLO_SUCCESS);
+    CHECK(result.has_nonfinite && result.nonfinite_at == 1 && result.y[0] != result.y[0] && result.time == 1);
+    CHECK(result.h == 1 && result.nfe == 2 && result.total == 1 && result.accepted == 1 && result.rejected == 0);
+
+    /* (10), with and without (9)'s NaN: the early end wins */
+    s = nothing_seen(), p = sum(&two, 2), p.options.max_steps = 1;
+    CHECK(solve(&p, &c) == RAIMSKLO_STATUS_ENDED_EARLY && result.number == RAIMSKLO_NEEDS_MORE_STEPS);
+    CHECK(result.time == 1 && result.y[0] == 2 && !result.has_nonfinite);
+    s = nothing_seen(), s.values[1] = NAN;
+    CHECK(solve(&p, &c) == RAIMSKLO_STATUS_ENDED_EARLY && result.has_nonfinite && result.nonfinite_at == 1);
+
+    /* (11) */
+    s = nothing_seen(), s.values[1] = 100;
+    p = sum(&zero, 1), p.options.maxcor = 1, p.options.mxncf = 1;
+    CHECK(solve(&p, &c) == RAIMSKLO_STATUS_ENDED_EARLY && result.number == RAIMSKLO_POOR_CONVERGENCE);
+    CHECK(result.total == 0 && result.accepted == 0 && result.rejected == 0 && s.reports == 0);
+    CHECK(result.time == 0 && result.y[0] == 0);
+
+    /* (12) */
+    s = nothing_seen(), s.values[1] = s.values[2] = 100;
+    p = sum(&zero, 1), p.options.has_min_step = 1, p.options.min_step = 1;
+    CHECK(solve(&p, &c) == RAIMSKLO_STATUS_ENDED_EARLY && result.number == RAIMSKLO_STEP_TOO_SMALL);
+    CHECK(result.total == 0 && result.accepted == 0 && result.rejected == 1);
+
+    /* (8) with minimum step 2: h 0, steps that have no length; their poses are y, and there are none between */
+    s = nothing_seen(), p = sum(&two, 1), p.options.has_min_step = 1, p.options.min_step = 2, p.options.max_steps = 5;
+    CHECK(solve(&p, &c) == RAIMSKLO_STATUS_ENDED_EARLY && result.number == RAIMSKLO_NEEDS_MORE_STEPS && result.h == 0);
+}
+
+/* ---- the ends of the interval, and no states ---- */
+
+static void ends(void) {
+    scalar one = {1, 1e-3, 1e-6}, weightless = {0, 1e-3, 0}, broken = {INFINITY, 1e-3, 1e-6};
+    double time[2] = {2, 2}, poses[2] = {0, 0};
+    seen s = nothing_seen();
+    raimsklo_callbacks c = calls(scripted, NULL, watch, &s), none = calls(NULL, NULL, NULL, NULL);
+    raimsklo_problem p = sum(&one, 2);
+    p.x0 = 2, p.options.has_first_step = 0, p.t_eval = time, p.t_eval_len = 2, p.poses = poses;
+    CHECK(solve(&p, &c) == RAIMSKLO_STATUS_SOLVED && result.number == RAIMSKLO_SUCCESS);
+    CHECK(result.h == 0 && result.nfe == 1 && result.accepted == 0 && s.derivatives == 1 && s.reports == 0);
+    CHECK(result.time == 2 && result.y[0] == 1 && result.evaluated == 2 && poses[0] == 1 && poses[1] == 1);
+    p.t_eval_len = 0;
+    p.options.has_first_step = 1, p.options.first_step = -1; /* what is given is handed on */
+    CHECK(solve(&p, &c) == RAIMSKLO_STATUS_REFUSED && result.number == RAIMSKLO_REFUSED_FIRST_STEP);
+    p.options.has_first_step = 0;
+    p.x0 = 0.0, p.xend = -0.0; /* equal, and their difference is -0 */
+    CHECK(solve(&p, &c) == RAIMSKLO_STATUS_SOLVED);
+    p.x0 = -0.0, p.xend = 0.0;
+    CHECK(solve(&p, &c) == RAIMSKLO_STATUS_SOLVED);
+    p.options.max_steps = 0;
+    CHECK(solve(&p, &c) == RAIMSKLO_STATUS_REFUSED && result.number == RAIMSKLO_REFUSED_NO_STEPS);
+    p = sum(&weightless, 0), p.options.has_first_step = 0;
+    CHECK(solve(&p, &c) == RAIMSKLO_STATUS_REFUSED && result.number == RAIMSKLO_REFUSED_WEIGHT && result.index == 0);
+    p = sum(&broken, 0), p.options.has_first_step = 0;
+    CHECK(solve(&p, &c) == RAIMSKLO_STATUS_NOT_FINITE && result.number == RAIMSKLO_SUCCESS);
+    CHECK(result.has_nonfinite && result.nonfinite_at == 0 && result.y[0] == INFINITY);
+
+    p = raimsklo_make_problem(0, 1, NULL, 0, NULL, 0, NULL, 0);
+    CHECK(raimsklo_solve(&p, &none, NULL, 0, &result) == RAIMSKLO_STATUS_SOLVED && result.number == RAIMSKLO_SUCCESS);
+    CHECK(result.h == 0 && result.nfe == 0 && result.accepted == 0 && result.time == 0 && !result.has_nonfinite);
+    p.t_eval = time, p.t_eval_len = 2; /* poses of no numbers, which need no room */
+    CHECK(raimsklo_solve_alloc(&p, &none, &result) == RAIMSKLO_STATUS_SOLVED && result.evaluated == 2);
+}
+
+/* ---- refusals, by number with index or value ---- */
+
+static void refused(const raimsklo_problem *p, size_t number, size_t index, double value) {
+    seen s = nothing_seen();
+    raimsklo_callbacks c = calls(oscillator, NULL, NULL, &s);
+    raimsklo_solve(p, &c, memory, LENGTH, &result);
+    CHECK_AT(result.status == RAIMSKLO_STATUS_REFUSED && result.number == number, raimsklo_message(number));
+    CHECK_AT(result.index == index && result.value == value, raimsklo_message(number));
+    CHECK_AT(result.stopped == 0 && result.accepted == 0 && result.time == p->x0, raimsklo_message(number));
+    CHECK_AT(result.y[0] == (number == RAIMSKLO_REFUSED_TOO_MANY_STATES ? 0 : p->y0[0]), raimsklo_message(number));
+}
+
+static void refusals(void) {
+    static const double many[MOST + 1] = {1};
+    const double below[2] = {1e-3, -1e-3}, weights[2] = {1, 0}, falls = 1, none = 0;
+    raimsklo_problem good = oscillation(0, 10), p = good;
+    seen s = nothing_seen();
+    raimsklo_callbacks c = calls(oscillator, NULL, NULL, &s);
+    p.y0 = many, p.n = MOST + 1;
+    refused(&p, RAIMSKLO_REFUSED_TOO_MANY_STATES, 0, 0);
+    CHECK(raimsklo_solve_alloc(&p, &c, &result) == RAIMSKLO_STATUS_REFUSED && result.number == 1 && result.cap == 0);
+    p = good, p.rtol_len = 3;
+    refused(&p, RAIMSKLO_REFUSED_TOLERANCE_LENGTH, 0, 0);
+    p = good, p.atol = NULL, p.atol_len = 0;
+    refused(&p, RAIMSKLO_REFUSED_TOLERANCE_LENGTH, 0, 0);
+    p = good, p.options.mxncf = (size_t)-1;
+    refused(&p, RAIMSKLO_REFUSED_SETTING_TOO_LARGE, 0, 0);
+    p = good, memset(&p.options, 0, sizeof p.options);
+    refused(&p, RAIMSKLO_REFUSED_NO_STEPS, 0, 0);
+    p = good, p.options.maxcor = 0;
+    refused(&p, RAIMSKLO_REFUSED_NO_ITERATIONS, 0, 0);
+    p = good, p.options.mxordn = 0;
+    refused(&p, RAIMSKLO_REFUSED_NO_ORDER, 0, 0);
+    p = good, p.options.banded = 1;
+    refused(&p, RAIMSKLO_REFUSED_BANDED, 0, 0);
+    p = good, p.rtol = below, p.rtol_len = 2;
+    refused(&p, RAIMSKLO_REFUSED_NEGATIVE_RELATIVE, 1, 0);
+    p = good, p.atol = below, p.atol_len = 2;
+    refused(&p, RAIMSKLO_REFUSED_NEGATIVE_ABSOLUTE, 1, 0);
+    p = good, p.options.has_first_step = 1, p.options.first_step = -0.5;
+    refused(&p, RAIMSKLO_REFUSED_FIRST_STEP, 0, -0.5);
+    p = good, p.xend = NAN; /* after the first derivative */
+    refused(&p, RAIMSKLO_REFUSED_FIRST_STEP, 0, 0);
+    CHECK(result.nfe == 1);
+    p = good, p.atol = weights, p.atol_len = 2;
+    refused(&p, RAIMSKLO_REFUSED_WEIGHT, 1, 0);
+    CHECK(result.nfe == 1);
+
+    /* 12 at the end of an accepted step: y falls from 1 to 0, whose pose is not reported */
+    s = nothing_seen(), s.values[0] = s.values[1] = -1;
+    c = calls(scripted, NULL, watch, &s);
+    p = raimsklo_make_problem(0, 1, &falls, 1, &falls, 1, &none, 1);
+    p.options.has_first_step = 1, p.options.first_step = 1;
+    CHECK(solve(&p, &c) == RAIMSKLO_STATUS_REFUSED && result.number == RAIMSKLO_REFUSED_WEIGHT);
+    CHECK(result.index == 0 && result.nfe == 2 && result.time == 0 && result.y[0] == 1 && s.reports == 0);
+
+    /* one double too few */
+    c = calls(oscillator, NULL, NULL, &s);
+    CHECK(raimsklo_solve(&good, &c, memory, RAIMSKLO_SOLVE_LENGTH(2) - 1, &result) == RAIMSKLO_STATUS_REFUSED);
+    CHECK(result.number == RAIMSKLO_REFUSED_BUFFER_LENGTH);
+    CHECK(raimsklo_solve(&good, &c, NULL, 0, &result) == RAIMSKLO_STATUS_REFUSED && result.number == 3);
+}
+
+static void arguments(void) {
+    const double backwards[2] = {2, 1}, outside[2] = {1, 11}, unknown[1] = {NAN};
+    double poses[4];
+    seen s = nothing_seen();
+    raimsklo_callbacks c = calls(oscillator, NULL, NULL, &s), none = calls(NULL, NULL, NULL, NULL);
+    raimsklo_problem good = oscillation(0, 10), p = good;
+    CHECK(raimsklo_solve(NULL, &c, memory, LENGTH, &result) == RAIMSKLO_STATUS_ARGUMENT);
+    CHECK(raimsklo_solve(&p, NULL, memory, LENGTH, &result) == RAIMSKLO_STATUS_ARGUMENT);
+    CHECK(raimsklo_solve(&p, &c, memory, LENGTH, NULL) == RAIMSKLO_STATUS_ARGUMENT);
+    CHECK(raimsklo_solve(&p, &c, NULL, LENGTH, &result) == RAIMSKLO_STATUS_ARGUMENT);
+    CHECK(raimsklo_solve_alloc(NULL, &c, &result) == RAIMSKLO_STATUS_ARGUMENT);
+    CHECK(solve(&p, &none) == RAIMSKLO_STATUS_ARGUMENT && result.number == 0);
+    p = good, p.y0 = NULL;
+    CHECK(solve(&p, &c) == RAIMSKLO_STATUS_ARGUMENT);
+    p = good, p.rtol = NULL;
+    CHECK(solve(&p, &c) == RAIMSKLO_STATUS_ARGUMENT);
+    p = good, p.t_eval = backwards, p.t_eval_len = 2;
+    CHECK(solve(&p, &c) == RAIMSKLO_STATUS_ARGUMENT);
+    p.poses = poses;
+    CHECK(solve(&p, &c) == RAIMSKLO_STATUS_ARGUMENT);
+    p.t_eval = outside;
+    CHECK(solve(&p, &c) == RAIMSKLO_STATUS_ARGUMENT);
+    p.t_eval = unknown, p.t_eval_len = 1;
+    CHECK(solve(&p, &c) == RAIMSKLO_STATUS_ARGUMENT);
+    CHECK(s.derivatives == 0);
+
+    no_memory = 1;
+    CHECK(raimsklo_solve_alloc(&good, &c, &result) == RAIMSKLO_STATUS_MEMORY && result.number == 0);
+    CHECK(raimsklo_solve_alloc(&good, &c, NULL) == RAIMSKLO_STATUS_MEMORY);
+    no_memory = 0;
+    CHECK(raimsklo_solve_alloc(&good, &c, &result) == RAIMSKLO_STATUS_SOLVED);
+    CHECK(fabs(result.y[0] - cos(10)) < 1e-3 && result.time == 10);
+}
+
+static void status_messages(void) {
+    int a, b;
+    for (a = RAIMSKLO_STATUS_OUTSIDE; a <= RAIMSKLO_STATUS_STOPPED; a++) {
+        for (b = RAIMSKLO_STATUS_OUTSIDE; b < a; b++) {
+            CHECK(strcmp(raimsklo_status_message(a), raimsklo_status_message(b)) != 0);
+        }
+        CHECK(strcmp(raimsklo_status_message(a), "unknown status") != 0);
+    }
+    CHECK(strcmp(raimsklo_status_message(RAIMSKLO_STATUS_STOPPED + 1), "unknown status") == 0);
+}
+
+/* ---- stopped by each callback ---- */
+
+static void stopped(void) {
+    const double slow[2] = {1, 1};
+    seen s = nothing_seen();
+    raimsklo_callbacks c = calls(oscillator, NULL, watch, &s);
+    raimsklo_problem p = oscillation(0, 10);
+
+    s.stop_derivative = 10;
+    CHECK(solve(&p, &c) == RAIMSKLO_STATUS_STOPPED && result.number == RAIMSKLO_INTERRUPTED && result.stopped == 5);
+    CHECK(s.derivatives == 10 && result.nfe == 10 && result.accepted == s.reports && s.reports > 0);
+    CHECK(result.time > 0 && result.nlu == 0);
+
+    s = nothing_seen(), s.stop_derivative = 1;
+    CHECK(solve(&p, &c) == RAIMSKLO_STATUS_STOPPED && result.stopped == 5 && result.nfe == 1 && s.reports == 0);
+    CHECK(result.time == 0 && result.y[0] == 1);
+
+    s = nothing_seen(), s.stop_report = 3, s.scribble = 1;
+    CHECK(solve(&p, &c) == RAIMSKLO_STATUS_STOPPED && result.number == RAIMSKLO_INTERRUPTED && result.stopped == 42);
+    CHECK(s.reports == 3 && result.accepted == 3 && result.nfe == s.derivatives && result.h > 0);
+
+    p = raimsklo_make_problem(0, 10, slow, 2, &tight, 1, &fine, 1), c = calls(stiff, stiff_columns, watch, &s);
+    s = nothing_seen(), s.stop_jacobian = 2;
+    CHECK(solve(&p, &c) == RAIMSKLO_STATUS_STOPPED && result.number == RAIMSKLO_INTERRUPTED && result.stopped == -3);
+    CHECK(s.jacobians == 2 && result.nje == 2 && result.nfe == s.derivatives && result.accepted == s.reports);
+
+    s = nothing_seen();
+    CHECK(solve(&p, &c) == RAIMSKLO_STATUS_SOLVED && result.stopped == 0);
+}
+
+/* ---- callbacks that solve something else, and that do not return ---- */
+
+static int solves_another(double t, const double *y, double *f, size_t n, void *user) {
+    raimsklo_problem other = oscillation(0, 0.1);
+    raimsklo_callbacks c = calls(oscillator, NULL, NULL, user);
+    raimsklo_result there;
+    CHECK(raimsklo_solve_alloc(&other, &c, &there) == RAIMSKLO_STATUS_SOLVED);
+    return oscillator(t, y, f, n, user);
+}
+
+#ifndef __cplusplus
+static jmp_buf out_of_the_run;
+#endif
+
+static int leaves(double t, const double *y, double *f, size_t n, void *user) {
+    if (oscillator(t, y, f, n, user) != 0) {
+#ifdef __cplusplus
+        throw 5;
+#else
+        longjmp(out_of_the_run, 5);
+#endif
+    }
+    return 0;
+}
+
+static int leaving(const raimsklo_problem *p, const raimsklo_callbacks *c) {
+#ifdef __cplusplus
+    try {
+        raimsklo_solve(p, c, memory, LENGTH, &result);
+    } catch (int number) {
+        return number;
+    }
+#else
+    if (setjmp(out_of_the_run) != 0) return 5;
+    raimsklo_solve(p, c, memory, LENGTH, &result);
+#endif
+    return 0;
+}
+
+static void elsewhere(void) {
+    seen s = nothing_seen();
+    raimsklo_callbacks c = calls(oscillator, NULL, NULL, &s);
+    raimsklo_problem p = oscillation(0, 1);
+    raimsklo_result alone;
+    CHECK(solve(&p, &c) == RAIMSKLO_STATUS_SOLVED);
+    alone = result;
+    c.derivative = leaves, s = nothing_seen(), s.stop_derivative = 10;
+    CHECK(leaving(&p, &c) == 5 && s.derivatives == 10);
+    c.derivative = solves_another; /* in the memory that was left behind */
+    CHECK(solve(&p, &c) == RAIMSKLO_STATUS_SOLVED && result.nfe == alone.nfe && result.accepted == alone.accepted);
+    CHECK(memcmp(result.y, alone.y, sizeof alone.y) == 0);
+}
+
+/* ---- what buffers hold before a callback, and poses that are not finite ---- */
+
+static void buffers(void) {
+    const double slow[2] = {1, 1}, nan_start[2] = {1, NAN};
+    const double time = 5;
+    double pose[2];
+    seen s = nothing_seen();
+    raimsklo_callbacks c = calls(oscillator, NULL, watch, &s);
+    raimsklo_problem p = oscillation(0, 10);
+    CHECK(solve(&p, &c) == RAIMSKLO_STATUS_SOLVED && s.buffers && s.derivatives > 100);
+
+    p = raimsklo_make_problem(0, 10, slow, 2, &tight, 1, &fine, 1), c = calls(stiff, stiff_columns, NULL, &s);
+    CHECK(solve(&p, &c) == RAIMSKLO_STATUS_SOLVED && s.buffers && s.jacobians > 1);
+
+    p = oscillation(0, 10), c = calls(forgetful, NULL, NULL, NULL);
+    p.options.max_steps = 1000;
+    CHECK(solve(&p, &c) != RAIMSKLO_STATUS_SOLVED && result.has_nonfinite && result.nonfinite_at > 0);
+
+    s = nothing_seen(), c = calls(oscillator, NULL, watch, &s);
+    p.y0 = nan_start, p.t_eval = &time, p.t_eval_len = 1, p.poses = pose;
+    CHECK(solve(&p, &c) != RAIMSKLO_STATUS_SOLVED && result.has_nonfinite && result.nonfinite_at == 0);
+    s = nothing_seen(), s.stop_derivative = 1;
+    CHECK(solve(&p, &c) == RAIMSKLO_STATUS_STOPPED && result.has_nonfinite && result.nonfinite_at == 0);
+}
+
+/* ---- the Jacobian, column by column ---- */
+
+static void columns(void) {
+    const double slow[2] = {1, 1};
+    double exact = 1 * exp(-10.0) + 2000.0 / 999 * exp(-10.0); /* y0 once the fast motion is over */
+    size_t given, differences, nje;
+    seen s = nothing_seen();
+    raimsklo_callbacks c = calls(stiff, stiff_columns, NULL, &s);
+    raimsklo_problem p = raimsklo_make_problem(0, 10, slow, 2, &tight, 1, &fine, 1);
+    CHECK(solve(&p, &c) == RAIMSKLO_STATUS_SOLVED && result.nje == s.jacobians && result.cap == 73);
+    CHECK(fabs(result.y[0] - exact) < 0.05 * exact);
+    given = result.nfe, nje = result.nje;
+    c.jacobian = NULL, p.options.supplied = 1; /* which follows the callback */
+    CHECK(solve(&p, &c) == RAIMSKLO_STATUS_SOLVED && result.cap == 73 + 2 * 19);
+    CHECK(fabs(result.y[0] - exact) < 0.05 * exact);
+    differences = result.nfe - 2 * result.nje; /* but for the columns */
+    CHECK(given < differences + differences / 10 && differences < given + given / 10 && nje > 1);
+    s = nothing_seen(), s.transposed = 1, c.jacobian = stiff_columns;
+    solve(&p, &c);
+    CHECK(result.nfe > given + given / 2); /* the wrong order costs */
+}
+
+/* ---- poses within a step, and at given times ---- */
+
+static int poses_of_step(raimsklo_report *r, void *user) {
+    seen *s = (seen *)user;
+    double pose[2] = {7, 7}, middle = (r->previous + r->time) / 2, away = r->time - r->previous;
+    s->reports++;
+    CHECK(raimsklo_pose_at(r, r->time + away / 100, pose) == RAIMSKLO_STATUS_OUTSIDE);
+    CHECK(raimsklo_pose_at(r, r->previous - away / 100, pose) == RAIMSKLO_STATUS_OUTSIDE);
+    CHECK(raimsklo_pose_at(r, NAN, pose) == RAIMSKLO_STATUS_OUTSIDE);
+    CHECK(pose[0] == 7 && pose[1] == 7);
+    CHECK(raimsklo_pose_at(r, middle, pose) == 0 && fabs(pose[0] - cos(middle)) < 1e-3);
+    CHECK(raimsklo_pose_at(r, r->previous, pose) == 0 && fabs(pose[0] - cos(r->previous)) < 1e-3);
+    CHECK(raimsklo_pose_at(r, r->time, pose) == 0 && memcmp(pose, r->y, sizeof pose) == 0);
+    return stops(s->reports, s->stop_report, 1);
+}
+
+static void poses(void) {
+    enum { TIMES = 12 };
+    double times[TIMES], out[TIMES * 2], back[2] = {cos(10.0), -sin(10.0)};
+    size_t k;
+    seen s = nothing_seen();
+    raimsklo_callbacks c = calls(oscillator, NULL, poses_of_step, &s);
+    raimsklo_problem p = oscillation(0, 10);
+    CHECK(solve(&p, &c) == RAIMSKLO_STATUS_SOLVED && s.reports == result.accepted && result.evaluated == 0);
+
+    for (k = 0; k < TIMES; k++) times[k] = k < 11 ? (double)k : 10; /* the last twice */
+    p.t_eval = times, p.t_eval_len = TIMES, p.poses = out;
+    CHECK(solve(&p, &c) == RAIMSKLO_STATUS_SOLVED && result.evaluated == TIMES);
+    for (k = 0; k < TIMES; k++) {
+        CHECK(fabs(out[2 * k] - cos(times[k])) < 1e-3);
+        CHECK(fabs(out[2 * k + 1] + sin(times[k])) < 1e-3);
+    }
+    CHECK(out[0] == 1 && out[1] == 0);
+    CHECK(memcmp(out + 2 * (TIMES - 1), result.y, 2 * sizeof *out) == 0);
+
+    /* backward in time */
+    for (k = 0; k < TIMES; k++) times[k] = k < 11 ? 10 - (double)k : 0;
+    p.x0 = 10, p.xend = 0, p.y0 = back;
+    CHECK(solve(&p, &c) == RAIMSKLO_STATUS_SOLVED && result.evaluated == TIMES && result.time == 0);
+    for (k = 0; k < TIMES; k++) CHECK(fabs(out[2 * k] - cos(times[k])) < 1e-3);
+    CHECK(fabs(result.y[0] - 1) < 1e-3);
+
+    /* where the run stops, no pose is made */
+    for (k = 0; k < TIMES; k++) times[k] = (double)k / 2;
+    p = oscillation(0, 10), p.t_eval = times, p.t_eval_len = TIMES, p.poses = out, p.options.max_steps = 200;
+    for (k = 0; k < 2 * TIMES; k++) out[k] = 7;
+    CHECK(solve(&p, &c) == RAIMSKLO_STATUS_ENDED_EARLY && result.evaluated > 1 && result.evaluated < TIMES);
+    CHECK(times[result.evaluated - 1] <= result.time && times[result.evaluated] > result.time);
+    for (k = 0; k < 2 * TIMES; k++) CHECK((out[k] == 7) == (k >= 2 * result.evaluated));
+}
+
+/* A host that changes t_eval under way: a time that lies in no step is no success. */
+static int moves_the_time(raimsklo_report *report, void *user) {
+    *(double *)user = report->previous / 2 - 1;
+    return 0;
+}
+
+static int turns(double t, const double *y, double *f, size_t n, void *user) {
+    (void)t, (void)n, (void)user;
+    f[0] = y[1], f[1] = -y[0];
+    return 0;
+}
+
+static void poses_that_are_missing(void) {
+    const double columns[8] = {1, 1, 1, 0.5, 0.5, 0, 2, INFINITY}, y = 2; /* n 1, order 1, step 0.5 to 1 */
+    double time = 10, out[2] = {7, 7};
+    raimsklo_callbacks c = calls(turns, NULL, moves_the_time, &time);
+    raimsklo_problem p = oscillation(0, 10);
+    raimsklo_report report;
+    p.t_eval = &time, p.t_eval_len = 1, p.poses = out;
+    CHECK(solve(&p, &c) == RAIMSKLO_STATUS_OUTSIDE && result.number == RAIMSKLO_SUCCESS);
+    CHECK(result.evaluated == 0 && out[0] == 7 && !result.has_nonfinite);
+
+    /* a step whose end is finite, and a pose within it that is not */
+    memset(&result, 0, sizeof result), memset(&report, 0, sizeof report);
+    report.previous = 0.5, report.time = 1, report.y = &y, report.n = 1;
+    report.snapshot = columns, report.snapshot_len = 8;
+    time = 0.75, p.n = 1;
+    raimsklo_hand_out_(&p, &report, &result);
+    CHECK(result.evaluated == 1 && result.time == 1 && result.y[0] == 2);
+    CHECK(result.has_nonfinite && result.nonfinite_at == 0.75);
+}
+
+/* ---- the run against the question loop ---- */
+
+/* The loop of raimsklo.h, which notes what the driver's callbacks note. */
+static raimsklo_answer loop(const raimsklo_problem *p, const raimsklo_callbacks *c, seen *s) {
+    static double work[RAIMSKLO_WORK_LENGTH(MOST)], question[RAIMSKLO_QUESTION_LENGTH(MOST)], numbers[MOST * MOST];
+    static size_t pivots[MOST];
+    static uint8_t session[RAIMSKLO_SESSION_LENGTH];
+    size_t n = p->n, i, kind, length, work_len = RAIMSKLO_WORK_LENGTH(n), question_len = RAIMSKLO_QUESTION_LENGTH(n);
+    raimsklo_options options = p->options;
+    raimsklo_answer a;
+    options.supplied = c->jacobian != NULL;
+    a = raimsklo_start(p->x0, p->xend, p->y0, n, p->rtol, p->rtol_len, p->atol, p->atol_len, options, work, work_len,
+                       pivots, n, session, sizeof session, question, question_len);
+    while (raimsklo_is_question(a.number)) {
+        kind = RAIMSKLO_CONTINUE, length = n;
+        for (i = 0; i < n * n; i++) numbers[i] = 0;
+        if (a.number == RAIMSKLO_WANTS_DERIVATIVE) {
+            kind = RAIMSKLO_DERIVATIVE;
+            c->derivative(a.time, question, numbers, n, s);
+        } else if (a.number == RAIMSKLO_WANTS_JACOBIAN) {
+            kind = RAIMSKLO_JACOBIAN, length = n * n;
+            c->jacobian(a.time, question, numbers, n, s);
+        } else {
+            memcpy(numbers, question, n * sizeof *numbers);
+        }
+        if (a.number == RAIMSKLO_REPORT) {
+            note(s, 103, a.previous, &a.time, 1);
+            note(s, (double)a.count, question[0], question + n, RAIMSKLO_SNAPSHOT_LENGTH(n, a.order));
+            if (++s->reports == s->modify) {
+                kind = RAIMSKLO_MODIFIED;
+                for (i = 0; i < n; i++) numbers[i] = question[i] / 2;
+            }
+            if (s->reports == s->stop_report) kind = RAIMSKLO_INTERRUPT;
+        }
+        a = raimsklo_reply(kind, numbers, length, a.time, work, work_len, pivots, n, session, sizeof session,
+                           question, question_len);
+    }
+    return a;
+}
+
+static void same(const char *what, const raimsklo_problem *p, raimsklo_callbacks c, size_t modify, size_t stop) {
+    seen plain = nothing_seen(), driver = nothing_seen();
+    raimsklo_answer a;
+    plain.log = plain_log, driver.log = driver_log;
+    plain.modify = driver.modify = modify, plain.stop_report = driver.stop_report = stop;
+    driver.scribble = modify == 0;
+    a = loop(p, &c, &plain);
+    c.user = &driver, c.report = watch;
+    solve(p, &c);
+    CHECK_AT(plain.logged == driver.logged && plain.logged > 1000 && plain.logged < LOG - 1000, what);
+    CHECK_AT(memcmp(plain_log, driver_log, plain.logged * sizeof *plain_log) == 0, what);
+    CHECK_AT(a.number == result.number && a.h == result.h, what);
+    CHECK_AT(a.nfe == result.nfe && a.nje == result.nje && a.nlu == result.nlu, what);
+    CHECK_AT(a.total == result.total && a.accepted == result.accepted && a.rejected == result.rejected, what);
+    CHECK_AT(plain.reports == driver.reports && driver.reports == result.accepted, what);
+    CHECK_AT(result.largest_count > 0 && result.largest_count <= result.cap, what);
+}
+
+static void bits(void) {
+    static double many[MOST];
+    const double slow[2] = {1, 1}, loose = 1e-4;
+    size_t i;
+    raimsklo_problem p = oscillation(0, 10);
+    same("oscillator", &p, calls(oscillator, NULL, NULL, NULL), 0, 0);
+    same("oscillator, modified", &p, calls(oscillator, NULL, NULL, NULL), 100, 0);
+    same("oscillator, stopped", &p, calls(oscillator, NULL, NULL, NULL), 0, 150);
+    p.options.max_steps = 200;
+    same("oscillator, needs more steps", &p, calls(oscillator, NULL, NULL, NULL), 0, 0);
+    p = oscillation(10, 0);
+    same("oscillator, backward", &p, calls(oscillator, NULL, NULL, NULL), 50, 0);
+    p = raimsklo_make_problem(0, 10, slow, 2, &tight, 1, &fine, 1);
+    same("stiff", &p, calls(stiff, NULL, NULL, NULL), 0, 0);
+    same("stiff, Jacobian given", &p, calls(stiff, stiff_columns, NULL, NULL), 0, 0);
+    for (i = 0; i < MOST; i++) many[i] = 1;
+    p = raimsklo_make_problem(0, 1, many, MOST, &loose, 1, &tight, 1);
+    same("64 states", &p, calls(decays, NULL, NULL, NULL), 0, 0);
+    for (i = 0; i < MOST; i++) CHECK(fabs(result.y[i] - exp(-(double)(i + 1) / 8)) < 1e-2);
+}
+
+/* Halved at the 100th report, the oscillator has half its length from there on. */
+static void modified(void) {
+    seen s = nothing_seen();
+    raimsklo_callbacks c = calls(oscillator, NULL, watch, &s);
+    raimsklo_problem p = oscillation(0, 10);
+    double length;
+    s.modify = 100;
+    CHECK(solve(&p, &c) == RAIMSKLO_STATUS_SOLVED);
+    length = sqrt(result.y[0] * result.y[0] + result.y[1] * result.y[1]);
+    CHECK(fabs(length - 0.5) < 1e-3);
+    CHECK(fabs(result.y[0] - cos(10.0) / 2) < 1e-3);
+}
+
+int main(void) {
+    sums();
+    ends();
+    refusals();
+    arguments();
+    status_messages();
+    stopped();
+    elsewhere();
+    buffers();
+    columns();
+    poses();
+    poses_that_are_missing();
+    bits();
+    modified();
+    return passed("hosts/c/test_solve");
+}
