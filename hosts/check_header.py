@@ -250,7 +250,8 @@ def words(text):
 def know_before_use(same):
     told = re.search(r"Know before use: .*? a pose comes only from an accepted step\.", words(read(HEADER)))
     same("'Know before use' in the header", True, told is not None)
-    for host, pattern in (("Rust crate", "hosts/rust/README.md"), ("Python package", PYTHON)):  # the crate's page is its README
+    crate = "hosts/rust/README.md"  # lib.rs includes it
+    for host, pattern in (("Rust crate", crate), ("Python package", PYTHON)):
         there = told is not None and any(told.group(0) in words(text) for text in read_all(pattern))
         same(f"'Know before use' in the {host}, in the header's words", True, there)
 
