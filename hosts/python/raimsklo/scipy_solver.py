@@ -18,7 +18,7 @@ except ImportError as missing:
 from . import run as calls
 from .library import LIBRARY
 
-ADVICE = {
+_ADVICE = {
     112: "raise max_steps, loosen the tolerances or shorten the interval",
     113: "loosen the tolerances, lower min_step, or look for a jump or a pole of the right side near this time",
     114: "give a Jacobian, raise maxcor or mxncf, lower min_step, or look for a jump or a pole of the right side near"
@@ -175,7 +175,11 @@ class LSODA(OdeSolver):
         t0, t_bound = float(t0), float(t_bound)
         if not numpy.isfinite(t0) or numpy.isnan(t_bound):
             raise ValueError(f"no interval: t0 is {t0!r}, t_bound is {t_bound!r}")
-        super().__init__(_real(fun), t0, y0, t_bound, vectorized)
+        fun = _real(fun)
+        super().__init__(fun, t0, y0, t_bound, vectorized)
+        if not vectorized:
+            self.fun_single = fun  # scipy's conversion to floats is not needed once more
+        self.direction = float(self.direction)
         if not numpy.isfinite(self.y).all():
             raise ValueError(f"`y0`, the pose at {t0!r}, is not finite")
 
@@ -194,10 +198,12 @@ class LSODA(OdeSolver):
             options.has_max_step, options.max_step = 1, max_step
         if not min_step >= 0:
             raise ValueError("`min_step` must be nonnegative.")
+        if min_step > abs(t_bound - t0) > 0:
+            raise ValueError("`min_step` exceeds bounds.")
         if min_step != 0:
             options.has_min_step, options.min_step = 1, min_step
         if first_step is not None:
-            # the library would cut it to the interval, and then take it without its coefficients
+            # the library would cut it to the interval, and then take it with coefficients of 0
             if first_step > abs(t_bound - t0) > 0:
                 raise ValueError("`first_step` exceeds bounds.")
             options.has_first_step, options.first_step = 1, self.direction * first_step
@@ -225,7 +231,7 @@ class LSODA(OdeSolver):
         def columns(matrix: Any) -> numpy.ndarray:
             if hasattr(matrix, "toarray"):
                 matrix = matrix.toarray()
-            matrix = _real_array(matrix, "jac").astype(float, copy=False)
+            matrix = _floats(numpy.asarray(matrix), "jac")
             if matrix.shape != (n, n) and not matrix.size == n == 1:
                 raise calls.Refused(14, told=f"jac gave shape {matrix.shape}, and {(n, n)} is wanted")
             return matrix.ravel(order="F")
@@ -252,47 +258,45 @@ class LSODA(OdeSolver):
         return calls.ENDS.get(self.number)
 
     def _step_impl(self) -> tuple[bool, str | None]:
+        run, fun, shape, asarray = self._run, self.fun, (self.n,), numpy.asarray
+        wanted, kind = calls.DERIVATIVE_WANTED, calls.DERIVATIVE
         try:
-            return self._to_the_next_report()
+            if run.answer.number == calls.REPORT:
+                run.reply(calls.CONTINUE, run.y, run.answer.time)
+            while True:
+                asked = run.answer
+                number = asked.number
+                if number == wanted:
+                    f = fun(asked.time, asarray(run.y))
+                    run.reply(kind, f if f.shape == shape else self._derivative(f))
+                elif number == calls.REPORT:
+                    return self._take_report(asked)
+                elif number == calls.JACOBIAN_WANTED:
+                    columns = self._jacobian(asked.time, asarray(run.y))
+                    self.njev += 1
+                    run.reply(calls.JACOBIAN, columns)
+                elif number == calls.FIRST_REPORT:
+                    run.reply(calls.CONTINUE, run.y, asked.time)
+                else:
+                    self._take_end()
+                    return False, f"{self.end}: {_ADVICE[number]}" if number in _ADVICE else self.end
         except calls.Refused:
             self.status = "failed"
             raise
 
-    def _to_the_next_report(self) -> tuple[bool, str | None]:
-        run, fun, shape, asarray = self._run, self.fun, (self.n,), numpy.asarray
-        if run.answer.number == calls.REPORT:
-            run.reply(calls.CONTINUE, run.y, run.answer.time)
-        while True:
-            answer = run.answer
-            number = answer.number
-            if number == calls.DERIVATIVE_WANTED:
-                f = fun(answer.time, asarray(run.y))
-                run.reply(calls.DERIVATIVE, f if f.shape == shape else self._derivative(f))
-            elif number == calls.JACOBIAN_WANTED:
-                columns = self._jacobian(answer.time, asarray(run.y))
-                self.njev += 1
-                run.reply(calls.JACOBIAN, columns)
-            elif number == calls.FIRST_REPORT:
-                run.reply(calls.CONTINUE, run.y, answer.time)
-            elif number == calls.REPORT:
-                return self._take_report(answer)
-            else:
-                self._take_end()
-                return False, f"{self.end}: {ADVICE[number]}" if number in ADVICE else self.end
-
-    def _take_report(self, answer: Any) -> tuple[bool, str | None]:
-        run = self._run
+    def _take_report(self, asked: Any) -> tuple[bool, str | None]:
+        run, time = self._run, asked.time
         pose = numpy.asarray(run.y)
         self.accepted += 1
-        self.count = answer.count
+        self.count = asked.count
         if not numpy.isfinite(pose).all():
-            self.nonfinite_at = answer.time
-            return False, f"the pose at {answer.time!r} is not finite"
+            self.nonfinite_at = time
+            return False, f"the pose at {time!r} has a NaN or an infinity"
         self._pose_old, self._pose, self._snapshot = self._pose, pose, run.snapshot
-        self.t, self.y = answer.time, pose.copy()
-        if self.direction * (self.t - self.t_bound) >= 0:
+        self.t, self.y = time, pose.copy()
+        if self.direction * (time - self.t_bound) >= 0:
             # scipy asks for no further step: the library says its end and its counts
-            run.reply(calls.CONTINUE, pose, answer.time)
+            run.reply(calls.CONTINUE, pose, time)
             self._take_end()
         return True, None
 
@@ -304,20 +308,29 @@ class LSODA(OdeSolver):
         return StepOutput(self.t_old, self.t, self._pose_old, self._pose, self._snapshot)
 
 
-def _real_array(given: Any, name: str) -> numpy.ndarray:
-    """The array, refused where it is complex: a conversion to floats would drop the imaginary parts."""
-    array = numpy.asarray(given)
-    if array.dtype.kind == "c":
-        raise ValueError(f"{name} gave complex numbers, and real ones are wanted")
-    return array
+def _floats(array: numpy.ndarray, name: str) -> numpy.ndarray:
+    """The array as doubles. Complex numbers are refused: numpy would drop their imaginary parts."""
+    if array.dtype.kind in "fiub":
+        return array.astype(float, copy=False)
+    if array.dtype.kind == "O":
+        return numpy.array([float(entry) for entry in array.flat]).reshape(array.shape)
+    raise ValueError(f"{name} gave numbers of type {array.dtype}, and real ones are wanted")
 
 
 def _real(fun: Callable) -> Callable:
-    return lambda t, y: _real_array(fun(t, y), "fun")
+    asarray, double = numpy.asarray, numpy.dtype(float)
+
+    def real(t: float, y: numpy.ndarray) -> numpy.ndarray:
+        f = asarray(fun(t, y))
+        return f if f.dtype is double else _floats(f, "fun")
+
+    return real
 
 
 def _tolerances(given: Any, name: str) -> list[float]:
-    numbers = numpy.atleast_1d(numpy.asarray(given, dtype=float))
+    numbers = numpy.atleast_1d(_floats(numpy.asarray(given), name))
     if numbers.ndim > 1:
         raise ValueError(f"`{name}` has more than one dimension")
+    if numpy.isnan(numbers).any():
+        raise ValueError(f"`{name}` has a NaN")
     return numbers.tolist()

@@ -280,7 +280,7 @@ class Values(unittest.TestCase):
 
     def test_attributes(self):
         for terminal in (-1, 2.5, math.nan, math.inf, "yes", [1, 2], 1j):
-            with self.assertRaisesRegex(ValueError, r"`terminal` of events\[0\] must be a boolean or a positive integer"):
+            with self.assertRaisesRegex(ValueError, r"`terminal` of events\[0\] must be a boolean or a positive int"):
                 Events(event(place, terminal=terminal), (), 0.0, [0.0])
         for direction in (math.nan, "up", [1, 2], 1j):
             with self.assertRaisesRegex(ValueError, r"`direction` of events\[0\] must be a number"):

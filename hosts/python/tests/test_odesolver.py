@@ -119,6 +119,7 @@ class Solves(unittest.TestCase):
         numpy.testing.assert_allclose(back.y[:, -1], [1.0, 0.0], atol=2e-4)
 
     def test_robertson(self):
+        warnings.simplefilter("ignore", PendingDeprecationWarning)  # of numpy.matrix
         given = dict(rtol=1e-6, atol=[1e-8, 1e-12, 1e-8])
         jacobians = [
             None,
@@ -137,9 +138,11 @@ class Solves(unittest.TestCase):
             self.assertGreater(result.njev, 0)
 
     def test_constant_jacobian(self):
+        warnings.simplefilter("ignore", PendingDeprecationWarning)  # of numpy.matrix
         stiff = lambda t, y: [1.0 - y[0] + y[1], 1e5 * (math.cos(t) - y[1])]  # noqa: E731
         matrix = [[-1.0, 1.0], [0.0, -1e5]]
-        given = [matrix, numpy.array(matrix), numpy.matrix(matrix), scipy.sparse.csr_matrix(matrix), lambda t, y: matrix]
+        given = [matrix, numpy.array(matrix), numpy.matrix(matrix), scipy.sparse.csr_matrix(matrix)]
+        given.append(lambda t, y: matrix)
         results = [solve(stiff, (0, 3), [0, 0], jac=jac, rtol=1e-6, atol=1e-9) for jac in given]
         for result in results:
             self.assertTrue(result.success, result.message)
@@ -207,6 +210,14 @@ class Solves(unittest.TestCase):
         sampled = solve(fall, (0, 10), [0.0, 20.0], events=ground, t_eval=[0, 1, 4, 9])
         self.assertEqual(sampled.t.tolist(), [0.0, 1.0, 4.0])
 
+    def test_counts_after_a_terminal_event(self):
+        down = lambda t, y: y[0]  # noqa: E731
+        down.terminal = True
+        for jac, njev in ((None, None), ([[0.0, 1.0], [-1.0, 0.0]], 0)):
+            result = solve(swing, (0, 10), [1, 0], events=down, jac=jac)
+            self.assertEqual((result.status, result.njev, result.nlu), (1, njev, None))  # what is not told is not 0
+            self.assertGreater(result.nfev, len(result.t))
+
     def test_equal_ends_and_no_states(self):
         for given in (dict(), dict(first_step=0.5), dict(jac=lambda t, y: numpy.zeros((2, 2)))):
             result = solve(swing, (1, 1), [1, 0], dense_output=True, **given)
@@ -239,7 +250,7 @@ class Fails(unittest.TestCase):
             late = lambda t, y: [y[1], -y[0] if t < 2.0 else bad]  # noqa: B023, E731
             result = solve(late, (0, 10), [1, 0], dense_output=True)
             self.assertEqual((result.status, result.success), (-1, False))
-            self.assertRegex(result.message, r"^the pose at 2\.[0-9]+ is not finite$")
+            self.assertRegex(result.message, r"^the pose at 2\.[0-9]+ has a NaN or an infinity$")
             self.assertTrue(numpy.isfinite(result.y).all())
             self.assertLessEqual(result.t[-1], 2.0)
             solver = LSODA(late, 0.0, [1, 0], 10.0)
@@ -298,12 +309,17 @@ class Fails(unittest.TestCase):
             (dict(min_step=math.nan), "min_step"),
             (dict(first_step=10.5), "first_step"),
             (dict(mxncf=-1), "mxncf"),
+            (dict(min_step=10.5), "min_step"),
             (dict(rtol=[[1e-3]]), "rtol"),
+            (dict(rtol=math.nan), "rtol"),
+            (dict(atol=[1e-6, math.nan]), "atol"),
+            (dict(atol=[1e-6, 1j]), "atol"),
         ):
             with self.assertRaisesRegex(ValueError, told):
                 solve(swing, (0, 10), [1, 0], **given)
-        with self.assertRaises(TypeError):
-            solve(swing, (0, 10), [1, 0], max_steps=3.5)
+        for given in (dict(max_steps=3.5), dict(fun=lambda t, y: None), dict(fun=lambda t, y: [None, 0.0])):
+            with self.assertRaises(TypeError):
+                solve(given.pop("fun", swing), (0, 10), [1, 0], **given)
         with self.assertWarnsRegex(UserWarning, "no effect for a chosen solver: `jac_sparsity`, `tune`"):
             solve(swing, (0, 1), [1, 0], jac_sparsity=None, tune=3)
         with warnings.catch_warnings():
@@ -314,11 +330,11 @@ class Fails(unittest.TestCase):
         with self.assertRaisesRegex(ValueError, "complex"):
             solve(swing, (0, 1), [1j, 0])
         for wrong in (numpy.array([1j, 0.0]), numpy.array([1.0, 0.0], dtype=complex), [1j, 0.0]):
-            with self.assertRaisesRegex(ValueError, "fun gave complex numbers"):
+            with self.assertRaisesRegex(ValueError, "fun gave numbers of type complex128, and real ones are wanted"):
                 solve(lambda t, y: wrong, (0, 1), [1, 0])  # noqa: B023
-            with self.assertRaisesRegex(ValueError, "fun gave complex numbers"):
+            with self.assertRaisesRegex(ValueError, "fun gave numbers of type complex128, and real ones are wanted"):
                 solve(lambda t, y: numpy.array(wrong)[:, None], (0, 1), [1, 0], vectorized=True)  # noqa: B023
-        with self.assertRaisesRegex(ValueError, "jac gave complex numbers"):
+        with self.assertRaisesRegex(ValueError, "jac gave numbers of type complex128"):
             solve(swing, (0, 1), [1, 0], jac=[[0.0, 1j], [0.0, 0.0]])
 
 
