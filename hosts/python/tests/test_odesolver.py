@@ -120,7 +120,7 @@ class Solves(unittest.TestCase):
 
     def test_robertson(self):
         warnings.simplefilter("ignore", PendingDeprecationWarning)  # of numpy.matrix
-        given = dict(rtol=1e-6, atol=[1e-8, 1e-12, 1e-8])
+        given = dict(rtol=1e-6, atol=[1e-8, 1e-12, 1e-8], max_steps=5000)
         jacobians = [
             None,
             robertson_jac,
@@ -143,7 +143,7 @@ class Solves(unittest.TestCase):
         matrix = [[-1.0, 1.0], [0.0, -1e5]]
         given = [matrix, numpy.array(matrix), numpy.matrix(matrix), scipy.sparse.csr_matrix(matrix)]
         given.append(lambda t, y: matrix)
-        results = [solve(stiff, (0, 3), [0, 0], jac=jac, rtol=1e-6, atol=1e-9) for jac in given]
+        results = [solve(stiff, (0, 3), [0, 0], jac=jac, rtol=1e-6, atol=1e-9, max_steps=5000) for jac in given]
         for result in results:
             self.assertTrue(result.success, result.message)
             self.assertGreater(result.njev, 0)
