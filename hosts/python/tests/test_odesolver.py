@@ -38,6 +38,9 @@ def robertson(t, y):
     return [-0.04 * a + 1e4 * b * c, 0.04 * a - 1e4 * b * c - 3e7 * b * b, 3e7 * b * b]
 
 
+TIGHT = dict(rtol=1e-6, atol=[1e-8, 1e-12, 1e-8], max_steps=5000)  # for Robertson's problem
+
+
 def robertson_jac(t, y):
     a, b, c = y
     return [
@@ -95,8 +98,8 @@ class Solves(unittest.TestCase):
         (swing, (10.0, 0.0), [1.0, 0.0], dict()),
         (swing, (0.0, 0.3), [1.0, 0.0], dict(rtol=[1e-6, 1e-4], atol=[1e-9, 1e-8])),
         (van_der_pol, (0.0, 2000.0), [2.0, 0.0], dict(rtol=1e-4, atol=1e-7)),
-        (robertson, (0.0, 40.0), [1.0, 0.0, 0.0], dict(rtol=1e-6, atol=[1e-8, 1e-12, 1e-8])),
-        (robertson, (0.0, 40.0), [1.0, 0.0, 0.0], dict(rtol=1e-6, atol=[1e-8, 1e-12, 1e-8], jac=robertson_jac)),
+        (robertson, (0.0, 40.0), [1.0, 0.0, 0.0], TIGHT),
+        (robertson, (0.0, 40.0), [1.0, 0.0, 0.0], dict(TIGHT, jac=robertson_jac)),
         (swing, (0.0, 10.0), [1.0, 0.0], dict(max_steps=3)),
         (swing, (0.0, 10.0), [1.0, 0.0], dict(mxordn=1, mxords=1, maxcor=5, msbp=3, mxncf=2)),
     ]
@@ -120,7 +123,6 @@ class Solves(unittest.TestCase):
 
     def test_robertson(self):
         warnings.simplefilter("ignore", PendingDeprecationWarning)  # of numpy.matrix
-        given = dict(rtol=1e-6, atol=[1e-8, 1e-12, 1e-8], max_steps=5000)
         jacobians = [
             None,
             robertson_jac,
@@ -130,7 +132,7 @@ class Solves(unittest.TestCase):
             lambda t, y: scipy.sparse.csc_matrix(robertson_jac(t, y)),
             lambda t, y: scipy.sparse.coo_matrix(robertson_jac(t, y)),
         ]
-        results = [solve(robertson, (0, 40), [1, 0, 0], jac=jac, **given) for jac in jacobians]
+        results = [solve(robertson, (0, 40), [1, 0, 0], jac=jac, **TIGHT) for jac in jacobians]
         for jac, result in zip(jacobians, results):
             self.assertTrue(result.success, result.message)
             numpy.testing.assert_allclose(result.y[:, -1], [0.7158271, 9.1855e-6, 0.2841637], atol=1e-4)
@@ -263,6 +265,11 @@ class Fails(unittest.TestCase):
             self.assertEqual((solver.t, solver.y.tolist()), (result.t[-1], result.y[:, -1].tolist()))
             self.assertEqual(solver.dense_output()(solver.t).tolist(), solver.y.tolist())
         self.assertEqual(solve(lambda t, y: [math.nan], (0, 1), [1]).status, -1)
+        one = solve(lambda t, y: [1.0, math.nan], (0, 1), [1, 0])
+        self.assertIn("NaN", one.message)
+        over = solve(lambda t, y: [1.0, 1e308], (0, 10), [1, 0], first_step=1.0, rtol=1.0, atol=1.0)
+        self.assertIn("infinity", over.message)
+        self.assertTrue(numpy.isfinite(over.y).all())
         with self.assertRaises(calls.Refused) as caught:  # the step size that is computed from it is 0
             solve(lambda t, y: [math.inf], (0, 1), [1])
         self.assertEqual(caught.exception.number, 11)
@@ -346,7 +353,7 @@ class Steps(unittest.TestCase):
 
     def test_attributes(self):
         for jac in (None, robertson_jac):
-            given = dict(rtol=1e-6, atol=[1e-8, 1e-12, 1e-8], jac=jac)
+            given = dict(TIGHT, jac=jac)
             times, poses, ended = by_hand(robertson, (0.0, 40.0), [1.0, 0.0, 0.0], **given)
             asked = []
             fun = lambda t, y: asked.append(t) or robertson(t, y)  # noqa: B023, E731
