@@ -83,7 +83,7 @@ class LSODA(OdeSolver):
     first_step : float or None, optional
         Size of the first step, at most that of the interval. None: the library chooses.
     min_step : float, optional
-        Smallest size of a step; 0 (default): none.
+        Smallest size of a step, at most that of the interval; 0 (default): none.
     max_step : float, optional
         Largest size of a step; infinity (default): that of the interval.
     rtol, atol : float or array_like, optional
