@@ -1,0 +1,9 @@
+"""Python looks here for `from raimsklo import LSODA` where the package has no such name, that is, where scipy is missing.
+
+Where scipy is there, `raimsklo.LSODA` is the class in scipy_solver.py.
+"""
+
+raise ImportError(
+    "raimsklo.LSODA is a solver class for scipy.integrate.solve_ivp and needs scipy, which is not installed; "
+    "raimsklo.solve_ivp works without it"
+)
