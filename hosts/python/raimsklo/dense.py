@@ -4,12 +4,11 @@ from __future__ import annotations
 
 import bisect
 from array import array
-from ctypes import byref, c_double
 from typing import Any
 
 from . import given
 from .refused import Refused
-from .run import DOUBLE, interpolate_into, size, time_of
+from .run import DOUBLE, interpolate_into, pointer, size, time_of
 
 
 class DenseOutput:
@@ -42,6 +41,9 @@ class DenseOutput:
         self._y0, self._sign = array("d", y0), sign
         self._ends = array("d")  # times the sign, so that they ascend
         self._snapshots, self._places = array("d"), array("q")
+
+    def __repr__(self) -> str:
+        return f"<DenseOutput of {self.n} states from {self.start!r} to {self._last!r} in {len(self._ends)} steps>"
 
     def _add(self, time: float, snapshot: Any) -> None:
         self._places.append(len(self._snapshots))
@@ -78,8 +80,7 @@ class DenseOutput:
             place = min(bisect.bisect_left(ends, self._sign * t), last - 1)
             begin = self._places[place]
             end = self._places[place + 1] if place + 1 < last else len(self._snapshots)
-            pose = byref(c_double.from_buffer(poses, DOUBLE * n * k))
-            snapshot = byref(c_double.from_buffer(self._snapshots, DOUBLE * begin))
+            pose, snapshot = pointer(poses, n * k), pointer(self._snapshots, begin)
             number = interpolate_into(time_of(t), pose, length, snapshot, size(end - begin))
             if number:
                 raise Refused(number)

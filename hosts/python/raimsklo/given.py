@@ -24,10 +24,14 @@ if numpy is not None:
     PLAIN |= {numpy.float64, numpy.float32, numpy.int64, numpy.int32}
 
 
+def _plain(value: Any) -> Any:
+    """Python's own number for one of numpy's, or for an array of one number."""
+    return value.item() if getattr(value, "size", 0) == 1 and hasattr(value, "item") else value
+
+
 def number(value: Any, what: str) -> float:
     """One real number."""
-    if getattr(value, "size", 0) == 1 and hasattr(value, "item"):
-        value = value.item()
+    value = _plain(value)
     if isinstance(value, Complex) and not isinstance(value, Real):
         raise _complex(what)
     if isinstance(value, (str, bytes, bytearray)):
@@ -41,7 +45,7 @@ def number(value: Any, what: str) -> float:
 def whole(value: Any, name: str) -> int:
     """A setting that counts something; a float that is whole will do."""
     try:
-        return operator.index(value)
+        return operator.index(_plain(value))
     except TypeError:
         given = number(value, f"`{name}`")
         if not given.is_integer():
@@ -54,7 +58,9 @@ def _complex(what: str) -> ValueError:
 
 
 def scalar(values: Any) -> bool:
-    """Whether this is one number, a 0-d array included."""
+    """Whether this is one thing: a number, a 0-d array, a text (which is refused as a number)."""
+    if isinstance(values, (str, bytes, bytearray)):
+        return True
     dimensions = getattr(values, "ndim", None)
     return not hasattr(values, "__iter__") if dimensions is None else dimensions == 0
 
@@ -74,23 +80,22 @@ def _real_array(values: Any, what: str) -> Any:
     return numpy.array([number(value, what) for value in values.ravel()], dtype=float).reshape(values.shape)
 
 
-def _entries(values: Any, what: str) -> list:
-    """The same without numpy, of one dimension."""
-    if scalar(values) or isinstance(values, (str, bytes, bytearray)):
-        return [number(values, what)]
-    values = list(values)
-    if any(not scalar(value) and not isinstance(value, (str, bytes)) for value in values):
-        raise ValueError(f"{what} must be 1-dimensional.")
-    return [number(value, what) for value in values]
+def _entries(values: Any, what: str, nested: ValueError) -> array:
+    """The same without numpy, of one dimension; what is raised for more is given."""
+    values = [values] if scalar(values) else list(values)
+    if not all(map(scalar, values)):
+        raise nested
+    return array("d", [number(value, what) for value in values])
 
 
 def vector(values: Any, what: str) -> array:
     """A list of numbers, or one number, as doubles."""
+    nested = ValueError(f"{what} must be 1-dimensional.")
     if numpy is None:
-        return array("d", _entries(values, what))
+        return _entries(values, what, nested)
     values = _real_array(values, what)
     if values.ndim > 1:
-        raise ValueError(f"{what} must be 1-dimensional.")
+        raise nested
     return array("d", values.tobytes())
 
 
@@ -98,9 +103,7 @@ def derivative(f: Any, n: int) -> array:
     """What `fun` gave, n numbers."""
     what = "what `fun` gave"
     if numpy is None:
-        if not scalar(f) and any(not scalar(row) for row in f):
-            raise Refused(14, told=f"fun gave lists within a list, and {n} numbers are wanted")
-        numbers = array("d", _entries(f, what))
+        numbers = _entries(f, what, Refused(14, told=f"fun gave lists within a list, and {n} numbers are wanted"))
     else:
         f = _real_array(f, what)
         if f.ndim > 1:
@@ -134,9 +137,7 @@ def arguments(args: Any) -> Tuple[Any, ...]:
     """`args` as scipy's unpacks them; what cannot be unpacked is one argument."""
     if args is None:
         return ()
-    if scalar(args) or isinstance(args, (str, bytes)):
-        return (args,)
-    return tuple(args)
+    return (args,) if scalar(args) else tuple(args)
 
 
 def handed_out(numbers: array) -> Any:
@@ -144,6 +145,11 @@ def handed_out(numbers: array) -> Any:
     if numpy is None:
         return numbers.tolist()
     return numpy.frombuffer(numbers, dtype=float) if len(numbers) else numpy.empty(0)
+
+
+def copied(octets: memoryview) -> Any:
+    """Bytes of a buffer as a caller gets them: a fresh array or list."""
+    return octets.cast("d").tolist() if numpy is None else numpy.array(octets.cast("d"))
 
 
 def rows_of_states(poses: array, n: int, times: int) -> Any:

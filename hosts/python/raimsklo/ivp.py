@@ -74,7 +74,7 @@ def solve_ivp(
         ``jac(t, y, *args)`` gives the Jacobian, jac[i][j] = df_i/dy_j; a matrix stands for one that is constant;
         without it the Jacobian is taken by differences.
     max_step, min_step, first_step : float, optional
-        Sizes of steps, above 0 in either direction of time. The first step is cut by the interval's end.
+        Sizes of steps, above 0 in either direction of time.
     max_steps : int
         The largest number of accepted steps.
     mxordn, mxords, maxcor, msbp, mxncf : int
@@ -122,7 +122,7 @@ def solve_ivp(
     >>> early.success, early.message
     (False, 'needs more steps: raise max_steps, loosen the tolerances or shorten the interval')
     """
-    if method != "LSODA" and (isinstance(method, str) or method is not _solver_class()):
+    if method != "LSODA" and not (isinstance(method, type) and method is _solver_class()):
         raise ValueError("`method` must be 'LSODA' or raimsklo.LSODA: this library has one method")
     if tolerances not in ("step", "answer"):
         raise ValueError('tolerances are those of a "step" or of the "answer"')
@@ -198,8 +198,7 @@ def _options(settings: dict, sizes: dict, t0: float, tend: float) -> Options:
     if not sizes.get("min_step", 0.0) >= 0.0:
         raise ValueError("`min_step` must be nonnegative.")
     for name in ("min_step", "first_step"):
-        longest = abs(tend - t0) if name == "min_step" and t0 != tend else sys.float_info.max
-        if sizes.get(name, 0.0) > longest:
+        if sizes.get(name, 0.0) > abs(tend - t0) and t0 != tend:
             raise ValueError(f"`{name}` exceeds bounds.")
     if sizes.get("max_step") == math.inf:
         del sizes["max_step"]
@@ -318,7 +317,7 @@ class _Kept:
 
     def pose_at(self, t: float) -> Any:
         """The pose at a time within the step that was reported last."""
-        return given.handed_out(array("d", bytes(self.buffers.interpolate(given.number(t, "`t`"), self.order))))
+        return given.copied(self.buffers.interpolate(given.number(t, "`t`"), self.order))
 
     def event(self, previous: float, t: float, y: Any, pose_at: Callable[[float], Any]) -> Optional[Tuple[float, array]]:
         """Time and pose where a terminal event stops the run; it is the last that is handed out."""
@@ -347,15 +346,13 @@ class _Kept:
                 self.nonfinite_at = t
 
     def finish(self) -> None:
-        """What no step has brought: times of t_eval before the first or beyond the last, and a run without states."""
+        """What no step has brought: the start where t_eval has it, and a run without states."""
         if self.run.n == 0:
             self.without_states()
         elif self.t_eval is not None and self.order == 0:
             while len(self.times) < len(self.t_eval) and self.t_eval[len(self.times)] == self.t0:
                 self.times.append(self.t0)
                 self.poses.extend(self.y0)
-        elif self.t_eval is not None and self.run.answer.number == SUCCESS:
-            self.between(self.tend)  # the last step's end may be short of it by a rounding
 
     def without_states(self) -> None:
         end, nothing = self.tend, lambda t: given.handed_out(array("d"))

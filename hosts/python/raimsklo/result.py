@@ -125,4 +125,4 @@ def _short(value: Any) -> str:
         half = SHOWN // 2
         shown = value if len(value) <= SHOWN else value[:half] + ["..."] + value[-half:]
         return "[" + " ".join(f"{entry:.6g}" if isinstance(entry, float) else str(entry) for entry in shown) + "]"
-    return repr(value)
+    return str(value)

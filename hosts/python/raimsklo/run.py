@@ -9,7 +9,7 @@ from struct import Struct
 from typing import Any, Callable, Optional
 
 from . import given
-from .library import LIBRARY, MOST_STATES, SESSION_LENGTH, Answer, Options, defaults, question_length, ready, work_length
+from .library import MOST_STATES, SESSION_LENGTH, Answer, Options, defaults, question_length, ready, work_length
 from .refused import DERIVATIVE_WANTED, ENDS, FIRST_REPORT, JACOBIAN_WANTED, REPORT, Refused, SUCCESS
 
 __all__ = [
@@ -106,7 +106,8 @@ class Run:
         self._question = (c_double * question_length(n))()
         lent = [(byref(b), size(len(b))) for b in (self._work, self._pivots, self._session, self._question)]
         self._lent = sum(lent, ())
-        numbers = [(byref((c_double * len(v))(*v)), size(len(v))) for v in (y0, rtol, atol)]
+        self._octets = memoryview(self._question).cast("B")
+        numbers = [(pointer(v), size(len(v))) for v in (y0, rtol, atol)]
         self._take(start(time_of(x0), time_of(xend), *sum(numbers, ()), options, *self._lent))
 
     def _take(self, answer: Answer) -> None:
@@ -127,9 +128,8 @@ class Run:
         time : float
             Of use after a report alone.
         """
-        numbers = given.vector(numbers, "what a reply gave")
-        numbers, length = (c_double * len(numbers))(*numbers), size(len(numbers))
-        self._take(reply(size(kind), byref(numbers), length, time_of(given.number(time, "`time`")), *self._lent))
+        numbers, time = given.vector(numbers, "what a reply gave"), given.number(time, "`time`")
+        self._take(reply(size(kind), pointer(numbers), size(len(numbers)), time_of(time), *self._lent))
 
     @property
     def ended(self) -> bool:
@@ -139,19 +139,28 @@ class Run:
     @property
     def y(self) -> Any:
         """The pose that the answer is about, a fresh array or list."""
-        return given.handed_out(array("d", self._question[: self.n]))
+        return given.copied(self._octets[: DOUBLE * self.n])
 
     @property
     def snapshot(self) -> Any:
         """The snapshot of the report that stands, a fresh array or list: what `interpolate` takes."""
         if self.answer.order == 0:
             return None
-        length = snapshot_length(self.n, self.answer.order)
-        return given.handed_out(array("d", self._question[self.n : self.n + length]))
+        return given.copied(snapshot_of(self._octets, self.n, self.answer.order))
 
 
 def snapshot_length(n: int, order: int) -> int:
     return HEADER + (order + 1) * n
+
+
+def snapshot_of(question: memoryview, n: int, order: int) -> memoryview:
+    """The bytes of the snapshot in those of a question."""
+    return question[DOUBLE * n : DOUBLE * (n + snapshot_length(n, order))]
+
+
+def pointer(numbers: array, place: int = 0) -> Any:
+    """To an entry of doubles, for a call of the library."""
+    return byref(c_double.from_buffer(numbers, DOUBLE * place)) if numbers else byref(c_double())
 
 
 def interpolate(t: float, snapshot: Any, n: int) -> Any:
@@ -171,14 +180,12 @@ def interpolate(t: float, snapshot: Any, n: int) -> Any:
     numpy.ndarray or list
         The pose, n numbers.
     """
-    numbers = given.vector(snapshot, "`snapshot`")
-    pose = (c_double * n)()
-    number = LIBRARY.raimsklo_interpolate(
-        given.number(t, "`t`"), pose, n, (c_double * len(numbers))(*numbers), len(numbers)
-    )
+    numbers, pose = given.vector(snapshot, "`snapshot`"), array("d", bytes(DOUBLE * n))
+    time = time_of(given.number(t, "`t`"))
+    number = interpolate_into(time, pointer(pose), size(n), pointer(numbers), size(len(numbers)))
     if number:
         raise Refused(number)
-    return given.handed_out(array("d", pose))
+    return given.handed_out(pose)
 
 
 class Buffers:
@@ -193,15 +200,14 @@ class Buffers:
         n = run.n
         self.run, self.n = run, n
         self._numbers, self._pose = (c_double * (n * n))(), (c_double * n)()
-        octets = memoryview(run._question).cast("B")
-        self.question, self.numbers = octets, memoryview(self._numbers).cast("B")
-        self.y, self.between = octets[: DOUBLE * n], memoryview(self._pose).cast("B")
+        self.numbers, self.between = memoryview(self._numbers).cast("B"), memoryview(self._pose).cast("B")
+        self.y = run._octets[: DOUBLE * n]
         self.kept_y = self.numbers[: DOUBLE * n]
         self._n = size(n)
-        pointer, zero = byref(self._numbers), time_of(0.0)
-        self.derivative = (size(DERIVATIVE), pointer, self._n, zero, *run._lent)
-        self.jacobian = (size(JACOBIAN), pointer, size(n * n), zero, *run._lent)
-        self._reported = {kind: (size(kind), pointer, self._n) for kind in (CONTINUE, INTERRUPT)}
+        numbers, zero = byref(self._numbers), time_of(0.0)
+        self.derivative = (size(DERIVATIVE), numbers, self._n, zero, *run._lent)
+        self.jacobian = (size(JACOBIAN), numbers, size(n * n), zero, *run._lent)
+        self._reported = {kind: (size(kind), numbers, self._n) for kind in (CONTINUE, INTERRUPT)}
         self._snapshot = byref(run._question, DOUBLE * n)
         self._lengths = [size(snapshot_length(n, order)) for order in range(ORDERS)]
         self._closures()
@@ -256,7 +262,7 @@ class Buffers:
 
     def snapshot(self, order: int) -> memoryview:
         """The bytes of the snapshot of the report that stands."""
-        return self.question[DOUBLE * self.n : DOUBLE * (self.n + snapshot_length(self.n, order))]
+        return snapshot_of(self.run._octets, self.n, order)
 
     def interpolate(self, t: float, order: int) -> memoryview:
         """The bytes of the pose at t, within the step that was reported last; they stand until the next call."""
