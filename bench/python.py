@@ -1,4 +1,4 @@
-"""The Python package beside scipy.integrate.solve_ivp(method="LSODA"): time for each call of fun, and memory for each step.
+"""The Python package beside scipy.integrate.solve_ivp(method="LSODA"): time for a call of fun, memory for a step.
 
     bash hosts/python/build && /usr/bin/python3 bench/python.py [ROUNDS]
 

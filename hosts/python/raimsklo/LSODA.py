@@ -1,4 +1,4 @@
-"""Python looks here for `from raimsklo import LSODA` where the package has no such name, that is, where scipy is missing.
+"""Where Python looks for `from raimsklo import LSODA` if the package has no such name, that is, if scipy is missing.
 
 Where scipy is there, `raimsklo.LSODA` is the class in scipy_solver.py.
 """

@@ -69,6 +69,8 @@ def _real_array(values: Any, what: str) -> Any:
     """A numpy array of doubles, of the shape that was given."""
     if hasattr(values, "toarray"):  # scipy's sparse matrices and arrays
         values = values.toarray()
+    if isinstance(values, numpy.ma.MaskedArray) and numpy.ma.is_masked(values):
+        raise ValueError(f"{what} has masked entries")
     try:
         values = numpy.asarray(values)
     except ValueError:

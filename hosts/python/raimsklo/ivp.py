@@ -48,8 +48,8 @@ def solve_ivp(
     Parameters
     ----------
     fun : callable
-        ``fun(t, y, *args)`` gives the derivative, one number for each state, as an array or a list. `y` is a fresh array
-        (without numpy a list) at each call.
+        ``fun(t, y, *args)`` gives the derivative, one number for each state, as an array or a list. `y` is a fresh
+        array (without numpy a list) at each call.
     t_span : (float, float)
         Start and end, in either direction. Where they are equal, the result is a success without a step.
     y0 : array_like
@@ -303,7 +303,7 @@ class _Kept:
             self.sol._add(t, buffers.snapshot(self.order))
         end = None if self.events is None else self.event(asked.previous, t, buffers.state(), self.pose_at)
         if self.t_eval is not None:
-            self.between(t if end is None else end[0])
+            self.between(t if end is None else end)
         else:
             self.counts.append(count)
         if end is None:
@@ -319,8 +319,8 @@ class _Kept:
         """The pose at a time within the step that was reported last."""
         return given.copied(self.buffers.interpolate(given.number(t, "`t`"), self.order))
 
-    def event(self, previous: float, t: float, y: Any, pose_at: Callable[[float], Any]) -> Optional[Tuple[float, array]]:
-        """Time and pose where a terminal event stops the run; it is the last that is handed out."""
+    def event(self, previous: float, t: float, y: Any, pose_at: Callable[[float], Any]) -> Optional[float]:
+        """The time at which a terminal event stops the run; the pose there is the last that is handed out."""
         end = self.events.after_step(previous, t, y, pose_at)
         if end is None:
             return None
@@ -333,7 +333,7 @@ class _Kept:
             self.poses.extend(pose)
         if self.nonfinite_at is None and not all(map(math.isfinite, pose)):
             self.nonfinite_at = time
-        return time, pose
+        return time
 
     def between(self, end: float) -> None:
         """Keeps the poses at the times of t_eval up to `end`, from the step that was reported last."""
@@ -361,7 +361,7 @@ class _Kept:
                 self.sol._add(end, b"")
             if self.events is not None:
                 stop = self.event(self.t0, end, nothing(end), nothing)
-                end = end if stop is None else stop[0]
+                end = end if stop is None else stop
             if self.t_eval is None and not self.stopped:
                 self.times.append(end)
         if self.t_eval is not None:

@@ -102,7 +102,7 @@ LIBRARY = _load()
 
 
 def ready(name, result):
-    """The function once more, for arguments that are C's already: they are passed as they are, which saves a third."""
+    """The function once more, for arguments that are C's already: they are passed on without a look at each."""
     function = LIBRARY["raimsklo_" + name]
     function.restype = result
     return function

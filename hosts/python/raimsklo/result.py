@@ -16,7 +16,8 @@ class Result(dict):
     Attributes
     ----------
     t : numpy.ndarray or list
-        The start and the ends of the accepted steps, or `t_eval` as far as the run came.
+        The start and the ends of the accepted steps, or `t_eval` as far as the run came. The last step may go beyond
+        the interval's end by a rounding.
     y : numpy.ndarray or list of lists
         The poses there: y[i][k] is state i at t[k].
     sol : DenseOutput or None

@@ -1,4 +1,4 @@
-"""What callers give: complex numbers, sizes of steps, shapes, settings, times; with numpy's arrays where it is there."""
+"""What callers give: complex numbers, sizes of steps, shapes, settings, times; numpy's arrays where it is there."""
 
 import math
 import os
@@ -137,7 +137,9 @@ class Sizes(unittest.TestCase):
 class Settings(unittest.TestCase):
     def test_whole(self):
         wanted = solve_ivp(swing, (0, 10), [1, 0], max_steps=5)
-        given = [5.0, Fraction(5), True + 4] + ([] if numpy is None else [numpy.int32(5), numpy.array(5), numpy.float32(5)])
+        given = [5.0, Fraction(5), True + 4]
+        if numpy is not None:
+            given += [numpy.int32(5), numpy.array(5), numpy.float32(5)]
         for steps in given:
             self.assertEqual(list(solve_ivp(swing, (0, 10), [1, 0], max_steps=steps).t), list(wanted.t))
         for wrong in (5.5, math.nan, math.inf, "5", None, [5, 6]):
@@ -148,9 +150,8 @@ class Settings(unittest.TestCase):
     def test_numpy_bools(self):
         with warnings.catch_warnings():
             warnings.simplefilter("error")
-            result = solve_ivp(
-                decay, (0, 1), [1.0], dense_output=numpy.bool_(True), vectorized=numpy.bool_(False), maxcor=numpy.bool_(True)
-            )
+            yes, no = numpy.bool_(True), numpy.bool_(False)
+            result = solve_ivp(decay, (0, 1), [1.0], dense_output=yes, vectorized=no, maxcor=yes)
         self.assertIsNotNone(result.sol)
         self.assertEqual(result.cap, 22 + 7 + 19)
 
@@ -192,7 +193,7 @@ class Shapes(unittest.TestCase):
             ([1.0], "fun gave 1 numbers, and 2 are wanted"),
             (1.0, "fun gave 1 numbers, and 2 are wanted"),
             ([1.0, 2.0, 3.0], "fun gave 3 numbers, and 2 are wanted"),
-            ([[1.0], [2.0]], "fun gave lists within a list" if numpy is None else r"shape \(2, 1\), and \(2,\) is wanted"),
+            ([[1.0], [2.0]], "fun gave lists within a list" if numpy is None else r"shape \(2, 1\), and \(2,\) is"),
         ):
             with self.assertRaisesRegex(Refused, told):
                 solve_ivp(lambda t, y: given, (0, 1), [1, 0])
@@ -237,6 +238,8 @@ class Shapes(unittest.TestCase):
             solve_ivp(lambda t, y: y[:, None], (0, 1), [1, 0])
         with self.assertRaisesRegex(ValueError, "what `fun` gave is no array"):
             solve_ivp(lambda t, y: [y[0], y], (0, 1), [1, 0])
+        with self.assertRaisesRegex(ValueError, "what `fun` gave has masked entries"):
+            solve_ivp(lambda t, y: numpy.ma.array(y, mask=[True, False]), (0, 1), [1, 0])
         matrix = numpy.array([[0.0, 1.0], [-1.0, 0.0]])
         columns = solve_ivp(lambda t, y: matrix @ y, (0, 10), [1, 0], vectorized=True)
         self.assertEqual(poses(columns), poses(solve_ivp(lambda t, y: matrix @ y, (0, 10), [1, 0])))
@@ -285,7 +288,8 @@ class Jacobians(unittest.TestCase):
             warnings.simplefilter("ignore", PendingDeprecationWarning)
             given = [matrix, numpy.matrix(matrix), numpy.asfortranarray(matrix), matrix.astype(int), list(matrix)]
         if sparse is not None:
-            given += [kind(matrix) for kind in (sparse.csr_matrix, sparse.csc_matrix, sparse.coo_array, sparse.dia_array)]
+            kinds = (sparse.csr_matrix, sparse.csc_matrix, sparse.coo_array, sparse.dia_array)
+            given += [kind(matrix) for kind in kinds]
         for jac in given:
             for result in (self.solved(jac), self.solved(lambda t, y: jac)):
                 self.assertEqual(poses(result), poses(wanted))
@@ -297,7 +301,8 @@ class Jacobians(unittest.TestCase):
     def test_sparse_and_not_symmetric(self):
         more = dict(rtol=1e-6, atol=[1e-8, 1e-12, 1e-8])
         wanted = solve_ivp(robertson, (0, 40), [1, 0, 0], jac=robertson_jac, **more)
-        given = solve_ivp(robertson, (0, 40), [1, 0, 0], jac=lambda t, y: sparse.csc_matrix(robertson_jac(t, y)), **more)
+        jac = lambda t, y: sparse.csc_matrix(robertson_jac(t, y))  # noqa: E731
+        given = solve_ivp(robertson, (0, 40), [1, 0, 0], jac=jac, **more)
         self.assertEqual(poses(given), poses(wanted))
 
     def test_one_state(self):

@@ -32,7 +32,8 @@ def refuses(number):
 
 class Refusals(unittest.TestCase):
     def test_copies(self):
-        for refused in (Refused(9, index=2), Refused(11, value=-0.5), Refused(14, told="fun gave 1 numbers"), Refused(5)):
+        told = Refused(14, told="fun gave 1 numbers")
+        for refused in (Refused(9, index=2), Refused(11, value=-0.5), told, Refused(5)):
             copies = [pickle.loads(pickle.dumps(refused, protocol)) for protocol in range(pickle.HIGHEST_PROTOCOL + 1)]
             for other in copies + [copy.copy(refused), copy.deepcopy(refused)]:
                 self.assertIs(type(other), Refused)

@@ -130,7 +130,8 @@ class Memory(unittest.TestCase):
         peaks = []
         for steps in (500, 2500):
             tracemalloc.start()
-            result = solve_ivp(lambda t, y: [1.0] * n, (0, steps), [0.0] * n, first_step=1, max_step=1, atol=1.0, **more)
+            given = dict(first_step=1, max_step=1, atol=1.0, **more)
+            result = solve_ivp(lambda t, y: [1.0] * n, (0, steps), [0.0] * n, **given)
             peaks.append(tracemalloc.get_traced_memory()[1])
             tracemalloc.stop()
             self.assertTrue(result.success and result.accepted >= steps)
@@ -205,7 +206,7 @@ class Loading(unittest.TestCase):
     def test_another_version(self):
         with tempfile.TemporaryDirectory() as folder:
             source, library = os.path.join(folder, "other.c"), os.path.join(folder, "other.so")
-            names = ("defaults", "work_length", "question_length", "session_length", "start", "reply", "interpolate", "root")
+            names = "defaults work_length question_length session_length start reply interpolate root".split()
             for present, why in ((names[:5], "raimsklo_reply"), (names, "is of another version than this package")):
                 with open(source, "w") as file:
                     file.write("".join(f"unsigned long raimsklo_{name}(void) {{ return 8; }}\n" for name in present))
