@@ -4,9 +4,9 @@
 
 It takes numpy and scipy: /usr/bin/python3 is Debian's, with its packages python3-numpy and python3-scipy. Both solvers
 get the same right side and tolerances, in alternating rounds of one process; of each the least time counts. A call's
-time is the whole time of the run, right side included, by that solver's own number of calls. Memory is what tracemalloc
-sees (numpy and Python, all that grows with a run; the buffers of both solvers' cores do not), at its peak, less that
-before the run. Where numpy is missing, it times the package alone.
+time is the processor's for the whole run, right side included, by that solver's own number of calls. Memory is what
+tracemalloc sees (Python's and numpy's, all that grows with a run) at its peak, less that before the run. Where numpy is
+missing, it times the package alone.
 """
 
 import gc
@@ -26,15 +26,26 @@ try:
 except ImportError:
     numpy = scipy_ivp = None
 
-ROUNDS = int(sys.argv[1]) if len(sys.argv) > 1 else 5
+ROUNDS = int(sys.argv[1]) if len(sys.argv) > 1 else 7
 STEPS = (2000, 20000)
+
+
+def listed(n):
+    """The oscillators once more, by a right side that gives a list."""
+    half = n // 2
+
+    def fun(t, y):
+        y = list(y)
+        return y[half:] + [-v for v in y[:half]]
+
+    return fun
 
 
 def oscillators(n):
     """Half the states are places, half velocities: y'' = -y. Adams throughout."""
     half = n // 2
     if numpy is None:
-        return lambda t, y: y[half:] + [-v for v in y[:half]]
+        return listed(n)
 
     def fun(t, y):
         f = numpy.empty(n)
@@ -78,16 +89,20 @@ def timed(solver, fun, span, y0, **more):
     assert result.success, result.message
     number = calls[0]
     gc.collect()
-    start = time.perf_counter()
+    start = time.process_time()
     solver(fun, span, y0, **more)
-    return (time.perf_counter() - start) / number
+    return (time.process_time() - start) / number
 
 
 def times():
     print(f"{'microseconds a call of fun':34}{'raimsklo':>10}{'scipy':>10}{'ratio':>8}")
     for n in (2, 64):
         pose = [1.0] * (n // 2) + [0.0] * (n // 2)
-        for family, fun, span in (("Adams", oscillators(n), (0.0, 50.0)), ("BDF", drawn(n), (0.0, 20.0))):
+        for family, fun, span in (
+            ("Adams", oscillators(n), (0.0, 50.0)),
+            ("Adams, a list", listed(n), (0.0, 50.0)),
+            ("BDF", drawn(n), (0.0, 20.0)),
+        ):
             more = dict(rtol=1e-5, atol=1e-8)
             least = {}
             for _ in range(ROUNDS):

@@ -3,7 +3,11 @@
 Where scipy is there, `raimsklo.LSODA` is the class in scipy_solver.py.
 """
 
-raise ImportError(
-    "raimsklo.LSODA is a solver class for scipy.integrate.solve_ivp and needs scipy, which is not installed; "
-    "raimsklo.solve_ivp works without it"
-)
+try:
+    from . import scipy_solver  # noqa: F401
+except ImportError as missing:
+    raise ImportError(
+        f"raimsklo.LSODA, a solver class for scipy.integrate.solve_ivp, needs scipy ({missing}); "
+        "raimsklo.solve_ivp works without it"
+    ) from missing
+raise ImportError("raimsklo.LSODA is a class, not a module: from raimsklo import LSODA")

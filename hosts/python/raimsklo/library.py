@@ -3,9 +3,12 @@
 The library is found beside this file, or where RAIMSKLO_LIBRARY names it; hosts/python/build makes it from the archive.
 """
 
+from __future__ import annotations
+
 import ctypes
 import os
 from ctypes import POINTER, Structure, c_double, c_size_t, c_uint8
+from typing import Any
 
 # made by tools/record.py: the length of a session
 SESSION_LENGTH = 1448
@@ -55,7 +58,7 @@ class Answer(Structure):
     ]
 
 
-def _declare(library):
+def _declare(library: ctypes.CDLL) -> None:
     """Results and arguments of the functions that the package calls."""
     doubles, sizes, octets = POINTER(c_double), POINTER(c_size_t), POINTER(c_uint8)
     lent = [doubles, c_size_t, sizes, c_size_t, octets, c_size_t, doubles, c_size_t]
@@ -73,7 +76,7 @@ def _declare(library):
         function.restype, function.argtypes = result, taken
 
 
-def _load():
+def _load() -> ctypes.CDLL:
     here = os.path.join(os.path.dirname(os.path.abspath(__file__)), "libraimsklo.so")
     path = os.environ.get("RAIMSKLO_LIBRARY", here)
     if not os.path.exists(path):
@@ -90,18 +93,18 @@ def _load():
     return library
 
 
-def work_length(n):
+def work_length(n: int) -> int:
     return n * n + 19 * n
 
 
-def question_length(n):
+def question_length(n: int) -> int:
     return 14 * n + 6
 
 
 LIBRARY = _load()
 
 
-def ready(name, result):
+def ready(name: str, result: Any) -> Any:
     """The function once more, for arguments that are C's already: they are passed on without a look at each."""
     function = LIBRARY["raimsklo_" + name]
     function.restype = result

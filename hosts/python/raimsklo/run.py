@@ -122,7 +122,7 @@ class Run:
         ----------
         kind : int
             DERIVATIVE with n numbers; JACOBIAN with n*n, column by column; after a report CONTINUE, INTERRUPT or
-            MODIFIED, with the pose and the time.
+            MODIFIED, with the pose and the time. MODIFIED takes another pose, and the run restarts from it at order 1.
         numbers : sequence of float
             What the kind goes with.
         time : float
