@@ -87,12 +87,7 @@ class DenseOutput:
         return poses
 
     def __call__(self, t: Any) -> Any:
-        try:
-            times = given.vector(t, "`t`")
-        except ValueError as error:
-            if "dimensional" in str(error):
-                raise ValueError("`t` must be a float or a 1-D array.") from None
-            raise
+        times = given.vector(t, "`t`", "{} must be a float or a 1-D array.")
         low, high = self.t_min, self.t_max
         for time in times:
             if not low <= time <= high:

@@ -90,9 +90,9 @@ def _entries(values: Any, what: str, nested: ValueError) -> array:
     return array("d", [number(value, what) for value in values])
 
 
-def vector(values: Any, what: str) -> array:
-    """A list of numbers, or one number, as doubles."""
-    nested = ValueError(f"{what} must be 1-dimensional.")
+def vector(values: Any, what: str, told: str = "{} must be 1-dimensional.") -> array:
+    """A list of numbers, or one number, as doubles; what is told where there are more dimensions."""
+    nested = ValueError(told.format(what))
     if numpy is None:
         return _entries(values, what, nested)
     values = _real_array(values, what)

@@ -301,12 +301,14 @@ class _Kept:
             self.largest_count = count
         if self.sol is not None:
             self.sol._add(t, buffers.snapshot(self.order))
-        end = None if self.events is None else self.event(asked.previous, t, buffers.state(), self.pose_at)
+        end = None if self.events is None else self.events.after_step(asked.previous, t, buffers.state(), self.pose_at)
         if self.t_eval is not None:
-            self.between(t if end is None else end)
+            self.between(t if end is None else end[0])
         else:
             self.counts.append(count)
-        if end is None:
+        if end is not None:
+            self.stop(*end)
+        else:
             if self.nonfinite_at is None and not buffers.finite():
                 self.nonfinite_at = t
             if self.t_eval is None:
@@ -319,12 +321,9 @@ class _Kept:
         """The pose at a time within the step that was reported last."""
         return given.copied(self.buffers.interpolate(given.number(t, "`t`"), self.order))
 
-    def event(self, previous: float, t: float, y: Any, pose_at: Callable[[float], Any]) -> Optional[float]:
-        """The time at which a terminal event stops the run; the pose there is the last that is handed out."""
-        end = self.events.after_step(previous, t, y, pose_at)
-        if end is None:
-            return None
-        time, pose = float(end[0]), given.vector(end[1], "the pose of an event")
+    def stop(self, time: float, pose: Any) -> None:
+        """A terminal event ends the run here; this pose is the last that is handed out."""
+        time, pose = float(time), given.vector(pose, "the pose of an event")
         self.stopped = True
         if self.sol is not None:
             self.sol._cut(time)
@@ -333,7 +332,6 @@ class _Kept:
             self.poses.extend(pose)
         if self.nonfinite_at is None and not all(map(math.isfinite, pose)):
             self.nonfinite_at = time
-        return time
 
     def between(self, end: float) -> None:
         """Keeps the poses at the times of t_eval up to `end`, from the step that was reported last."""
@@ -359,10 +357,11 @@ class _Kept:
         if end != self.t0:
             if self.sol is not None:
                 self.sol._add(end, b"")
-            if self.events is not None:
-                stop = self.event(self.t0, end, nothing(end), nothing)
-                end = end if stop is None else stop
-            if self.t_eval is None and not self.stopped:
+            stop = None if self.events is None else self.events.after_step(self.t0, end, nothing(end), nothing)
+            if stop is not None:
+                end = stop[0]
+                self.stop(*stop)
+            elif self.t_eval is None:
                 self.times.append(end)
         if self.t_eval is not None:
             self.times.extend(t for t in self.t_eval if self.sign * t <= self.sign * end)

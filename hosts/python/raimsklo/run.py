@@ -179,6 +179,14 @@ def interpolate(t: float, snapshot: Any, n: int) -> Any:
     -------
     numpy.ndarray or list
         The pose, n numbers.
+
+    Examples
+    --------
+    One state at order 1: 2 at the time 1, and 0.5 more for each step of 0.5.
+
+    >>> from raimsklo import interpolate
+    >>> [float(y) for y in interpolate(0.75, [1, 1, 1.0, 0.5, 0.5, 2.0**-52, 2.0, 0.5], 1)]
+    [1.75]
     """
     numbers, pose = given.vector(snapshot, "`snapshot`"), array("d", bytes(DOUBLE * n))
     time = time_of(given.number(t, "`t`"))
@@ -191,9 +199,10 @@ def interpolate(t: float, snapshot: Any, n: int) -> Any:
 class Buffers:
     """A run's buffers as a driver reads and writes them: nothing is made anew for a call that can be kept.
 
-    state()      the pose that the answer is about, fresh
-    put(f)       takes what `fun` gave for the next reply
-    finite()     whether each number of the pose is finite
+    state()             the pose that the answer is about, fresh
+    put(f)              takes what `fun` gave for the next reply
+    finite()            whether each number of that pose is finite
+    finite_between()    the same of the pose that was interpolated last
     """
 
     def __init__(self, run: Run) -> None:
@@ -221,36 +230,33 @@ class Buffers:
         n, octets, numbers = self.n, self.kept_y, self._numbers
         pack, plain, slow = Struct(f"{n}d").pack_into, given.PLAIN.issuperset, given.derivative
         numpy = given.numpy
+
+        def put_list(f: Any) -> None:
+            if (type(f) is list or type(f) is tuple) and len(f) == n and plain(map(type, f)):
+                pack(numbers, 0, *f)
+            else:
+                octets[:] = memoryview(slow(f, n)).cast("B")
+
         if numpy is None:
             y, between = self.y.cast("d"), self.between.cast("d")
-            self.state = y.tolist
+            self.state, self.put = y.tolist, put_list
             self.finite = lambda: all(map(math.isfinite, y))
             self.finite_between = lambda: all(map(math.isfinite, between))
+            return
+        y, between = (numpy.frombuffer(b, dtype=float, count=n) for b in (self.run._question, self._pose))
+        out = numpy.frombuffer(numbers, dtype=float, count=n)
+        shape, double, ndarray, zeros = (n,), numpy.dtype(float), numpy.ndarray, numpy.zeros(n)
 
-            def put(f: Any) -> None:
-                if (type(f) is list or type(f) is tuple) and len(f) == n and plain(map(type, f)):
-                    pack(numbers, 0, *f)
-                else:
-                    octets[:] = memoryview(slow(f, n)).cast("B")
+        def put(f: Any) -> None:
+            if type(f) is ndarray and f.dtype is double and f.shape == shape:
+                out[:] = f
+            else:
+                put_list(f)
 
-        else:
-            y, between = (numpy.frombuffer(b, dtype=float, count=n) for b in (self.run._question, self._pose))
-            out = numpy.frombuffer(numbers, dtype=float, count=n)
-            shape, double, ndarray, zeros = (n,), numpy.dtype(float), numpy.ndarray, numpy.zeros(n)
-            self.state = y.copy
-            # 0 times a number is 0 where the number is finite, and NaN otherwise; one call instead of two
-            self.finite = lambda: y.dot(zeros) == 0.0
-            self.finite_between = lambda: between.dot(zeros) == 0.0
-
-            def put(f: Any) -> None:
-                if type(f) is ndarray and f.dtype is double and f.shape == shape:
-                    out[:] = f
-                elif (type(f) is list or type(f) is tuple) and len(f) == n and plain(map(type, f)):
-                    pack(numbers, 0, *f)
-                else:
-                    octets[:] = memoryview(slow(f, n)).cast("B")
-
-        self.put = put
+        self.state, self.put = y.copy, put
+        # 0 times a number is 0 where the number is finite, and NaN otherwise; one call instead of two
+        self.finite = lambda: y.dot(zeros) == 0.0
+        self.finite_between = lambda: between.dot(zeros) == 0.0
 
     def put_jacobian(self, columns: array) -> None:
         self.numbers[:] = memoryview(columns).cast("B")

@@ -120,8 +120,11 @@ class Events(unittest.TestCase):
         result = solve_ivp(fun, (0, 1), [2.0, 0.0], events=stop, **more)
         self.assertEqual((result.status, result.success), (-2, False))
         self.assertEqual(result.nonfinite_at, [float(t) for t, y in zip(result.t, result.y[0]) if math.isnan(y)][0])
-        within = solve_ivp(fun, (0, 1), [2.0, 0.0], events=made(lambda t, y: t - 0.55, terminal=True), **more)
+        early = made(lambda t, y: t - 0.55, terminal=True)
+        within = solve_ivp(fun, (0, 1), [2.0, 0.0], events=early, **more)
         self.assertEqual((within.status, within.nonfinite_at), (-2, float(within.t[-1])))
+        asked = solve_ivp(fun, (0, 1), [2.0, 0.0], events=early, t_eval=[0.53], **more)
+        self.assertEqual((asked.status, asked.nonfinite_at), (-2, 0.53))
 
     def test_no_states(self):
         stop = made(lambda t, y: t - 0.5, terminal=True)
