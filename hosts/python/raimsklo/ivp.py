@@ -177,10 +177,8 @@ def _times(t_eval: Any, t0: float, tend: float) -> array:
     low, high = min(t0, tend), max(t0, tend)
     if not all(low <= t <= high for t in times):
         raise ValueError("Values in `t_eval` are not within `t_span`.")
-    later = times[1:]
-    if tend > t0 and any(b <= a for a, b in zip(times, later)) or tend < t0 and any(
-        b >= a for a, b in zip(times, later)
-    ):
+    rising = times if tend > t0 else times[::-1]
+    if t0 != tend and any(b <= a for a, b in zip(rising, rising[1:])):
         raise ValueError("Values in `t_eval` are not properly sorted.")
     return times
 
@@ -225,10 +223,11 @@ def _right_side(fun: Callable[..., Any], args: tuple, vectorized: bool) -> Calla
     with_args = (lambda t, y: fun(t, y, *args)) if args else fun
     if not vectorized:
         return with_args
-    if given.numpy is None:
-        return lambda t, y: [row if given.scalar(row) else row[0] for row in with_args(t, [[state] for state in y])]
 
     def column(t: float, y: Any) -> Any:
+        if given.numpy is None:
+            f = with_args(t, [[state] for state in y])
+            return [row if given.scalar(row) or len(row) != 1 else row[0] for row in f]
         f = given.numpy.asarray(with_args(t, y[:, None]))
         return f[:, 0] if f.ndim == 2 and f.shape[1] == 1 else f
 

@@ -215,6 +215,8 @@ class Shapes(unittest.TestCase):
         self.assertEqual(set(seen), {(2, 1)})
         flat = solve_ivp(lambda t, y: [y[1][0], -y[0][0]], (0, 1), [1, 0], vectorized=True)
         self.assertEqual(poses(flat), wanted)
+        with self.assertRaisesRegex(Refused, r"\(14\): fun gave"):
+            solve_ivp(lambda t, y: [[0.0, 1.0], [0.0, 1.0]], (0, 1), [1, 0], vectorized=True)
 
     @unittest.skipIf(numpy is None, "no numpy")
     def test_numpy_derivatives(self):
