@@ -26,7 +26,7 @@ try:
 except ImportError:
     numpy = scipy_ivp = None
 
-ROUNDS = int(sys.argv[1]) if len(sys.argv) > 1 else 7
+ROUNDS = int(sys.argv[1]) if len(sys.argv) > 1 else 25
 STEPS = (2000, 20000)
 
 
@@ -77,8 +77,8 @@ def theirs(fun, span, y0, **more):
     return scipy_ivp(fun, span, y0, method="LSODA", **more)
 
 
-def timed(solver, fun, span, y0, **more):
-    """Seconds for each call of fun."""
+def called(solver, fun, span, y0, **more):
+    """How often fun is called."""
     calls = [0]
 
     def counted(t, y):
@@ -87,11 +87,15 @@ def timed(solver, fun, span, y0, **more):
 
     result = solver(counted, span, y0, **more)
     assert result.success, result.message
-    number = calls[0]
+    return calls[0]
+
+
+def timed(solver, *given, **more):
+    """Seconds of a run."""
     gc.collect()
     start = time.process_time()
-    solver(fun, span, y0, **more)
-    return (time.process_time() - start) / number
+    solver(*given, **more)
+    return time.process_time() - start
 
 
 def times():
@@ -104,18 +108,15 @@ def times():
             ("BDF", drawn(n), (0.0, 20.0)),
         ):
             more = dict(rtol=1e-5, atol=1e-8)
-            least = {}
-            for _ in range(ROUNDS):
-                for solver in (ours, theirs) if scipy_ivp else (ours,):
-                    took = timed(solver, fun, span, pose, **more)
-                    least[solver] = min(took, least.get(solver, took))
-            line = "".join(f"{1e6 * took:10.2f}" for took in least.values())
-            ratio = f"{least[ours] / least[theirs]:8.2f}" if scipy_ivp else ""
-            print(f"{f'n = {n}, {family}':34}{line}{ratio}")
+            solvers = (ours, theirs) if scipy_ivp else (ours,)
+            rounds = [[timed(solver, fun, span, pose, **more) for solver in solvers] for _ in range(ROUNDS)]
+            least = [min(took) / called(s, fun, span, pose, **more) for s, took in zip(solvers, zip(*rounds))]
+            ratio = f"{least[0] / least[1]:8.2f}" if scipy_ivp else ""
+            print(f"{f'n = {n}, {family}':34}" + "".join(f"{1e6 * took:10.2f}" for took in least) + ratio)
 
 
 def grown(solver, fun, span, y0, **more):
-    """Bytes at the peak of a run above those before it, and the result's accepted steps."""
+    """Bytes at the peak of a run above those before it."""
     gc.collect()
     tracemalloc.start()
     before = tracemalloc.get_traced_memory()[0]

@@ -244,14 +244,16 @@ class Buffers:
             self.finite_between = lambda: all(map(math.isfinite, between))
             return
         y, between = (numpy.frombuffer(b, dtype=float, count=n) for b in (self.run._question, self._pose))
-        out = numpy.frombuffer(numbers, dtype=float, count=n)
-        shape, double, ndarray, zeros = (n,), numpy.dtype(float), numpy.ndarray, numpy.zeros(n)
+        doubles, ndarray, zeros = octets.cast("d"), numpy.ndarray, numpy.zeros(n)
 
         def put(f: Any) -> None:
-            if type(f) is ndarray and f.dtype is double and f.shape == shape:
-                out[:] = f
-            else:
-                put_list(f)
+            if type(f) is ndarray:
+                try:
+                    doubles[:] = f  # n doubles in a row are copied, and all else raises
+                    return
+                except ValueError:
+                    pass
+            put_list(f)
 
         self.state, self.put = y.copy, put
         # 0 times a number is 0 where the number is finite, and NaN otherwise; one call instead of two
