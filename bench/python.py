@@ -26,7 +26,7 @@ try:
 except ImportError:
     numpy = scipy_ivp = None
 
-ROUNDS = int(sys.argv[1]) if len(sys.argv) > 1 else 25
+ROUNDS = int(sys.argv[1]) if len(sys.argv) > 1 else 60
 STEPS = (2000, 20000)
 
 
@@ -103,9 +103,9 @@ def times():
     for n in (2, 64):
         pose = [1.0] * (n // 2) + [0.0] * (n // 2)
         for family, fun, span in (
-            ("Adams", oscillators(n), (0.0, 50.0)),
-            ("Adams, a list", listed(n), (0.0, 50.0)),
-            ("BDF", drawn(n), (0.0, 20.0)),
+            ("Adams", oscillators(n), (0.0, 20.0)),
+            ("Adams, a list", listed(n), (0.0, 20.0)),
+            ("BDF", drawn(n), (0.0, 4.0)),
         ):
             more = dict(rtol=1e-5, atol=1e-8)
             solvers = (ours, theirs) if scipy_ivp else (ours,)
