@@ -74,7 +74,8 @@ def solve_ivp(
         ``jac(t, y, *args)`` gives the Jacobian, jac[i][j] = df_i/dy_j; a matrix stands for one that is constant;
         without it the Jacobian is taken by differences.
     max_step, min_step, first_step : float, optional
-        Sizes of steps, above 0 in either direction of time.
+        Sizes of steps, above 0 in either direction of time (`min_step` may be 0), the latter two at most as long as
+        the interval.
     max_steps : int
         The largest number of accepted steps.
     mxordn, mxords, maxcor, msbp, mxncf : int
