@@ -2,24 +2,34 @@
 
 A tolerance that the method is given bounds the error of one step, and over a run errors add up. Here a run is made
 again and again, each time with tighter tolerances, until it repeats the one before it within the tolerances asked, at
-every time that is handed out. Like the error of a step, this is an estimate.
+every time that is handed out. Like the error of a step, this is an estimate: two runs that are wrong alike are not told
+apart.
 """
+
+from __future__ import annotations
+
+from typing import Any, Callable, Sequence
+
+from . import given
+from .result import Result
 
 CUT = 10.0  # how much tighter each run is than the one before it
 RUNS = 16  # at most: what is not met by a cut of 1e15 is not met in doubles
 
 
-def _entry(tolerances, i):
+def _entry(tolerances: Sequence[float], i: int) -> float:
     return tolerances[i if len(tolerances) > 1 else 0]
 
 
-def _apart(result, before, rtol, atol):
+def _apart(result: Result, before: Result, rtol: Sequence[float], atol: Sequence[float]) -> float:
     """The largest difference between two runs at the times of the second, in the tolerances asked."""
-    largest = 0.0
-    for k, t in enumerate(result.t):
-        for i, y in enumerate(before.sol._at(t)):  # the ends of two runs may differ by a rounding
-            difference = float(abs(result.y[i][k] - y))
-            allowed = float(_entry(atol, i) + _entry(rtol, i) * abs(result.y[i][k]))
+    largest, n = 0.0, len(result.y)
+    times = [float(t) for t in result.t]
+    poses = before.sol._at(times)  # the ends of two runs may differ by a rounding
+    for i in range(n):
+        absolute, relative = _entry(atol, i), _entry(rtol, i)
+        for y, earlier in zip(map(float, result.y[i]), poses[i::n]):
+            difference, allowed = abs(y - earlier), absolute + relative * abs(y)
             if allowed > 0.0:
                 difference /= allowed
             elif difference > 0.0:
@@ -29,30 +39,41 @@ def _apart(result, before, rtol, atol):
     return largest
 
 
-def within(solve, rtol, atol):
+def within(solve: Callable[[Any, Any], Result], rtol: Sequence[float], atol: Sequence[float]) -> Result:
     """The first run that repeats the one before it within the tolerances, with what all the runs cost.
 
-    `solve(rtol, atol)` makes one run with its dense output. Where none repeats the one before, or a run does not come to
-    its end, no pose is handed out, since none was seen to be within the tolerances.
+    Parameters
+    ----------
+    solve : callable
+        ``solve(rtol, atol)`` makes one run with its dense output.
+    rtol, atol : sequence of float
+        The tolerances asked.
+
+    Returns
+    -------
+    Result
+        With the fields `runs`, `cut` and `error`. Where no run repeats the one before it, or one ends early by name, no
+        pose is handed out, since none was seen to be within the tolerances. A run with a pose that is not finite
+        repeats none: tighter tolerances may do better.
     """
-    before, error, nfev, njev, nlu = None, None, 0, 0, 0
+    before, error, met, nfev, njev, nlu = None, None, False, 0, 0, 0
     for runs in range(1, RUNS + 1):
         cut = CUT ** (runs - 1)
         result = solve([r / cut for r in rtol], [a / cut for a in atol])
         nfev, njev, nlu = nfev + result.nfev, njev + result.njev, nlu + result.nlu
-        if not result.success:
+        if result.status == -1:
             break
         if before is not None:
             error = _apart(result, before, rtol, atol)
-            if error <= 1.0:
+            met = result.success and error <= 1.0
+            if met:
                 break
         before = result
     else:
-        result.update(number=None, end="tolerances not met")
-    met = result.number == 110
+        result.update(number=None, end="tolerances not met", message="tolerances not met", status=-1)
     if not met:
-        none = [row[:0] for row in result.y]
-        result.update(t=result.t[:0], y=result.y[:, :0] if hasattr(result.y, "shape") else none, sol=None, counts=[])
-    result.update(runs=runs, cut=cut, error=error, nfev=nfev, njev=njev, nlu=nlu, success=met, status=0 if met else -1)
-    result.update(message=result.end)
+        none = given.array("d")
+        rows = given.rows_of_states(none, len(result.y), 0)
+        result.update(t=given.handed_out(none), y=rows, sol=None, counts=[], success=False)
+    result.update(runs=runs, cut=cut, error=error, nfev=nfev, njev=njev, nlu=nlu)
     return result

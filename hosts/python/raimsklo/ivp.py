@@ -1,255 +1,407 @@
 """`solve_ivp`, so that a script written for scipy's LSODA changes one line."""
 
-import bisect
+from __future__ import annotations
 
-from . import answer
-from . import run as calls
-from .library import LIBRARY
+import math
+import sys
+from array import array
+from typing import Any, Callable, Optional, Sequence, Tuple, Union
 
-try:
-    import numpy
-except ImportError:
-    numpy = None
+from . import answer, given
+from .dense import DenseOutput
+from .library import Options, defaults
+from .refused import DERIVATIVE_WANTED, ENDS, FIRST_REPORT, JACOBIAN_WANTED, REPORT, SUCCESS, message
+from .result import Result
+from .run import CONTINUE, INTERRUPT, Buffers, Run, reply
 
-
-def _array(rows):
-    return rows if numpy is None else numpy.array(rows, dtype=float)
-
-
-def _state(y):
-    return y if numpy is None else numpy.array(y)
-
-
-class DenseOutput:
-    """The solution at and between its accepted steps: call it with a time, or with several.
-
-    A time outside t_min to t_max raises ValueError: beyond the last accepted step there is no pose.
-    """
-
-    def __init__(self, n, t0, y0):
-        self.n, self.start, self._y0 = n, t0, y0
-        self._ends, self._snapshots = [], []
-        self._sign = 1.0
-
-    def _add(self, previous, time, snapshot):
-        if time < previous:
-            self._sign = -1.0
-        self._ends.append(self._sign * time)
-        self._snapshots.append(snapshot)
-
-    @property
-    def _last(self):
-        return self._sign * self._ends[-1] if self._ends else self.start
-
-    @property
-    def t_min(self):
-        return min(self.start, self._last)
-
-    @property
-    def t_max(self):
-        return max(self.start, self._last)
-
-    def _at(self, t):
-        if not self._snapshots:
-            return list(self._y0)
-        place = min(bisect.bisect_left(self._ends, self._sign * t), len(self._ends) - 1)
-        return calls.interpolate(t, self._snapshots[place], self.n)
-
-    def _within(self, t):
-        if not self.t_min <= t <= self.t_max:
-            raise ValueError(f"no pose at {t!r}: the accepted steps are from {self.t_min!r} to {self.t_max!r}")
-        return self._at(t)
-
-    def __call__(self, t):
-        if hasattr(t, "__len__"):
-            return _columns([self._within(float(x)) for x in t], self.n)
-        return _state(self._within(float(t)))
-
-
-class Result(dict):
-    """What a run gave; its fields are attributes too, as scipy's OptimizeResult has them.
-
-    t, y        the times of the accepted steps (or t_eval) and the poses there, y[i][k] being state i at t[k]
-    sol         the dense output, or None
-    status      0 where the end was reached, -1 otherwise; success says the same
-    end         the library's name of the end; number is its number
-    nfev, njev, nlu, accepted, rejected, steps_total, h   the library's counts and last step size
-    counts      derivatives requested in each accepted step
-    cap         derivatives that no step can exceed; jacobian_cap: Jacobians that none can
-
-    Where the tolerances were asked of the answer, nfev, njev and nlu are those of all the runs made, and there are
-    runs        how many; the last had its tolerances divided by cut
-    error       the largest difference between the last two, in the tolerances asked: at most 1 where success is true
-    """
-
-    __getattr__ = dict.__getitem__
-    __setattr__ = dict.__setitem__
-
-
-def _columns(poses, n):
-    return _array([[pose[i] for pose in poses] for i in range(n)])
-
-
-def _list(x):
-    return list(x) if hasattr(x, "__len__") else [x]
-
-
-def _cap(options, n):
-    """Derivatives that no step exceeds (demand 3), those of its difference Jacobians included."""
-    mxncf = max(options.mxncf, 1)
-    columns = 0 if options.supplied else (mxncf + 9) * n
-    return (mxncf + 12) * options.maxcor + 7 + columns
+__all__ = ["DenseOutput", "Result", "solve_ivp"]
 
 
 def solve_ivp(
-    fun,
-    t_span,
-    y0,
-    method="LSODA",
-    t_eval=None,
-    dense_output=False,
-    args=None,
+    fun: Callable[..., Any],
+    t_span: Tuple[float, float],
+    y0: Any,
+    method: Union[str, type] = "LSODA",
+    t_eval: Optional[Sequence[float]] = None,
+    dense_output: bool = False,
+    events: Union[Callable[..., float], Sequence[Callable[..., float]], None] = None,
+    vectorized: bool = False,
+    args: Any = None,
     *,
-    rtol=1e-3,
-    atol=1e-6,
-    jac=None,
-    max_step=None,
-    min_step=None,
-    first_step=None,
-    max_steps=100000,
-    mxordn=12,
-    mxords=5,
-    maxcor=3,
-    msbp=20,
-    mxncf=10,
-    report=None,
-    tolerances="step",
-):
+    rtol: Any = 1e-3,
+    atol: Any = 1e-6,
+    jac: Any = None,
+    max_step: Optional[float] = None,
+    min_step: Optional[float] = None,
+    first_step: Optional[float] = None,
+    max_steps: int = 100000,
+    mxordn: int = 12,
+    mxords: int = 5,
+    maxcor: int = 3,
+    msbp: int = 20,
+    mxncf: int = 10,
+    report: Optional[Callable[[float, float, Any, int], Any]] = None,
+    tolerances: str = "step",
+) -> Result:
     """Solves y' = fun(t, y) over t_span, in the manner of scipy.integrate.solve_ivp(method="LSODA").
 
-    rtol and atol bound the error of each step, as scipy's do; over a run errors add up. With tolerances="answer" they
-    are asked of the poses handed out: the run is made again with tighter ones until it repeats itself within those asked
-    (no report is called then).
-    jac(t, y) gives the Jacobian as rows, jac[i][j] = df_i/dy_j; a matrix stands for one that is constant; without it the
-    Jacobian is taken by differences. max_step, min_step and first_step are sizes, above 0 in either direction of time.
-    report(previous, t, y, count) is called after each accepted step; True interrupts the run.
-    Bad input raises Refused with the library's number, and what a callback raises ends the run.
-    """
-    if method != "LSODA":
-        raise ValueError("this library has one method, LSODA")
-    t0, tend = (float(t) for t in t_span)
-    y0 = [float(v) for v in _list(y0)]
-    n = len(y0)
-    given_fun, given_jac, args = fun, jac, tuple(args or ())
-    if args:
-        fun = lambda t, y: given_fun(t, y, *args)  # noqa: E731
-    if callable(given_jac):
-        jac = lambda t, y: given_jac(t, y, *args)  # noqa: E731
-    elif given_jac is not None:
-        jac = lambda t, y: given_jac  # noqa: E731
-    if t_eval is not None:
-        t_eval = [float(t) for t in t_eval]
-        if any(not min(t0, tend) <= t <= max(t0, tend) for t in t_eval):
-            raise ValueError("a time in t_eval is not within t_span")
+    Parameters
+    ----------
+    fun : callable
+        ``fun(t, y, *args)`` gives the derivative, one number for each state, as an array or a list. `y` is a fresh
+        array (without numpy a list) at each call.
+    t_span : (float, float)
+        Start and end, in either direction. Where they are equal, the result is a success without a step.
+    y0 : array_like
+        The start's pose, at most 64 states.
+    method : "LSODA" or raimsklo.LSODA
+        There is one method.
+    t_eval : array_like, optional
+        The times to hand out, sorted in the direction of the run; otherwise those of the accepted steps.
+    dense_output : bool
+        Whether the result's `sol` gives poses at any time.
+    events : callable or list of callables, optional
+        ``event(t, y, *args)``; where one passes through zero, time and pose are found, as scipy does it: the attribute
+        `terminal` stops the run there, `direction` says which passages count.
+    vectorized : bool
+        Whether `fun` takes and gives columns: it is called with an array of shape (n, 1).
+    args : tuple, optional
+        Further arguments for `fun`, `jac` and the events. What cannot be unpacked is one argument.
+    rtol, atol : float or array_like
+        Tolerances, one or as many as there are states. They bound the error of each step, as scipy's do; over a run
+        errors add up.
+    jac : callable, array_like, sparse matrix or None
+        ``jac(t, y, *args)`` gives the Jacobian, jac[i][j] = df_i/dy_j; a matrix stands for one that is constant;
+        without it the Jacobian is taken by differences.
+    max_step, min_step, first_step : float, optional
+        Sizes of steps, above 0 in either direction of time (`min_step` may be 0), the latter two at most as long as
+        the interval.
+    max_steps : int
+        The largest number of accepted steps.
+    mxordn, mxords, maxcor, msbp, mxncf : int
+        Largest orders of the Adams and the BDF family, corrector iterations, steps between Jacobian checks, and
+        convergence failures that end a step.
+    report : callable, optional
+        ``report(previous, t, y, count)`` is called after each accepted step; true interrupts the run.
+    tolerances : "step" or "answer"
+        With "answer" the tolerances are asked of the poses handed out: the run is made again with tighter ones until it
+        repeats itself within those asked. There are no events and no report then.
 
+    Returns
+    -------
+    Result
+        Its `success` is false where the run ended early, and where a pose has a NaN or an infinity.
+
+    Raises
+    ------
+    Refused
+        A ValueError, with the library's number, where the library refuses the problem, or where `fun` or `jac` gave
+        other than the numbers wanted.
+    ValueError, TypeError
+        Where an argument is none that scipy's would take, or complex. What a callback raises ends the run.
+
+    Examples
+    --------
+    The oscillator y'' = -y:
+
+    >>> from raimsklo import solve_ivp
+    >>> result = solve_ivp(lambda t, y: [y[1], -y[0]], (0, 10), [1, 0], rtol=1e-8, atol=1e-8)
+    >>> result.success, result.message, round(float(result.y[0][-1]), 3)
+    (True, 'success', -0.839)
+
+    Frames of a film, with a parameter, the tolerances asked of the poses:
+
+    >>> frames = [k / 24 for k in range(5)]
+    >>> fall = solve_ivp(lambda t, y, g: [y[1], -g], (0, 1), [2, 0], t_eval=frames, args=(9.81,),
+    ...                  rtol=1e-6, atol=1e-6, tolerances="answer")
+    >>> [round(float(y), 3) for y in fall.y[0]]
+    [2.0, 1.991, 1.966, 1.923, 1.864]
+
+    A run that comes to no end says why:
+
+    >>> early = solve_ivp(lambda t, y: [-y[0]], (0, 10), [1.0], max_steps=3)
+    >>> early.success, early.message
+    (False, 'needs more steps: raise max_steps, loosen the tolerances or shorten the interval')
+    """
+    if method != "LSODA" and not (isinstance(method, type) and method is _solver_class()):
+        raise ValueError("`method` must be 'LSODA' or raimsklo.LSODA: this library has one method")
     if tolerances not in ("step", "answer"):
         raise ValueError('tolerances are those of a "step" or of the "answer"')
     if tolerances == "answer" and report is not None:
         raise ValueError("a report goes with the tolerances of a step: those of the answer take several runs")
+    if tolerances == "answer" and events is not None:
+        raise ValueError("events go with the tolerances of a step: those of the answer take several runs")
 
-    options = LIBRARY.raimsklo_defaults()
-    settings = dict(max_steps=max_steps, mxordn=mxordn, mxords=mxords, maxcor=maxcor, msbp=msbp, mxncf=mxncf)
-    for name, value in settings.items():
-        if value < 0:
-            raise ValueError(f"{name} is below 0")
-        setattr(options, name, min(value, 2**64 - 1))
+    t0, tend = (given.number(t, "`t_span`") for t in t_span)
+    y0 = given.vector(y0, "`y0`")
+    n, args = len(y0), given.arguments(args)
+    times = None if t_eval is None else _times(t_eval, t0, tend)
+    options = _options(
+        dict(max_steps=max_steps, mxordn=mxordn, mxords=mxords, maxcor=maxcor, msbp=msbp, mxncf=mxncf),
+        dict(max_step=max_step, min_step=min_step, first_step=first_step),
+        t0,
+        tend,
+    )
     options.supplied = 0 if jac is None else 1
-    if first_step is not None and tend < t0:
-        first_step = -first_step
-    for name, value in (("max_step", max_step), ("min_step", min_step), ("first_step", first_step)):
-        if value is not None and value != float("inf"):
-            setattr(options, "has_" + name, 1)
-            setattr(options, name, value)
+    rtol, atol = _tolerances(rtol, "`rtol`"), _tolerances(atol, "`atol`")
+    fun, jac = _right_side(fun, args, vectorized), _jacobian(jac, args, n)
 
-    rtol, atol = _list(rtol), _list(atol)
+    def solve(rtol: Sequence[float], atol: Sequence[float], dense: bool) -> Result:
+        run = Run(t0, tend, y0, rtol, atol, options)
+        found = None
+        if events is not None:
+            from .events import Events
+
+            found = Events(events, args, t0, given.handed_out(array("d", y0)))
+        kept = _Kept(run, t0, tend, y0, times, dense, found, report)
+        kept.drive(fun, jac)
+        return kept.result(options)
+
     if tolerances == "step":
-        return _solve(fun, jac, t0, tend, y0, rtol, atol, options, t_eval, dense_output, report)
-    result = answer.within(lambda r, a: _solve(fun, jac, t0, tend, y0, r, a, options, t_eval, True, None), rtol, atol)
+        return solve(rtol, atol, bool(dense_output))
+    result = answer.within(lambda r, a: solve(r, a, True), rtol, atol)
     if not dense_output:
         result.sol = None
     return result
 
 
-def _derivative(f, n):
-    f = _list(f)
-    if len(f) != n:
-        raise calls.Refused(14, told=f"fun gave {len(f)} numbers, and {n} are wanted")
-    return f
+def _solver_class() -> Optional[type]:
+    """raimsklo.LSODA, if anybody has asked for it: it takes scipy."""
+    module = sys.modules.get(__package__ + ".scipy_solver")
+    return None if module is None else module.LSODA
 
 
-def _by_columns(jacobian, n):
-    rows = [_list(row) for row in _list(jacobian)]
-    if len(rows) != n or any(len(row) != n for row in rows):
-        raise calls.Refused(14, told=f"jac gave other than {n} rows of {n} numbers")
-    return [rows[i][j] for j in range(n) for i in range(n)]
+def _times(t_eval: Any, t0: float, tend: float) -> array:
+    if given.scalar(t_eval):
+        raise ValueError("`t_eval` must be 1-dimensional.")
+    times = given.vector(t_eval, "`t_eval`")
+    low, high = min(t0, tend), max(t0, tend)
+    if not all(low <= t <= high for t in times):
+        raise ValueError("Values in `t_eval` are not within `t_span`.")
+    rising = times if tend > t0 else times[::-1]
+    if t0 != tend and any(b <= a for a, b in zip(rising, rising[1:])):
+        raise ValueError("Values in `t_eval` are not properly sorted.")
+    return times
 
 
-def _solve(fun, jac, t0, tend, y0, rtol, atol, options, t_eval, dense_output, report):
-    """One run."""
-    n = len(y0)
-    sol = DenseOutput(n, t0, y0)
-    times, poses, counts = [t0], [y0], []
-    if n == 0 or (t0 == tend and not options.has_first_step):
-        # the library refuses a computed first step of an interval without length (11): there is nothing to do
-        return _result(None, sol, times, poses, counts, t_eval, dense_output, options, n)
+def _options(settings: dict, sizes: dict, t0: float, tend: float) -> Options:
+    options = defaults()
+    for name, value in settings.items():
+        value = given.whole(value, name)
+        if value < 0:
+            raise ValueError(f"{name} is below 0")
+        setattr(options, name, min(value, 2**64 - 1))  # what is too large the library refuses by number
+    sizes = {name: given.number(value, f"`{name}`") for name, value in sizes.items() if value is not None}
+    if not sizes.get("max_step", 1.0) > 0.0:
+        raise ValueError("`max_step` must be positive.")
+    if not sizes.get("min_step", 0.0) >= 0.0:
+        raise ValueError("`min_step` must be nonnegative.")
+    for name in ("min_step", "first_step"):
+        if sizes.get(name, 0.0) > abs(tend - t0) and t0 != tend:
+            raise ValueError(f"`{name}` exceeds bounds.")
+    if sizes.get("max_step") == math.inf:
+        del sizes["max_step"]
+    if t0 == tend:
+        sizes.setdefault("first_step", 1.0)  # the library computes none where there is nowhere to go
+    if "first_step" in sizes:
+        sizes["first_step"] *= math.copysign(1.0, tend - t0)
+    for name, value in sizes.items():
+        setattr(options, "has_" + name, 1)
+        setattr(options, name, value)
+    return options
 
-    run = calls.Run(t0, tend, y0, rtol, atol, options)
-    while not run.ended:
-        asked, y = run.answer, run.y
-        if asked.number == calls.DERIVATIVE_WANTED:
-            run.reply(calls.DERIVATIVE, _derivative(fun(asked.time, _state(y)), n))
-        elif asked.number == calls.JACOBIAN_WANTED:
-            run.reply(calls.JACOBIAN, _by_columns(jac(asked.time, _state(y)), n))
+
+def _tolerances(values: Any, what: str) -> array:
+    numbers = given.vector(values, what)
+    if any(map(math.isnan, numbers)):
+        raise ValueError(f"{what} has a NaN.")
+    return numbers
+
+
+def _right_side(fun: Callable[..., Any], args: tuple, vectorized: bool) -> Callable[[float, Any], Any]:
+    if not callable(fun):
+        raise TypeError(f"`fun` must be callable, not {fun!r}")
+    with_args = (lambda t, y: fun(t, y, *args)) if args else fun
+    if not vectorized:
+        return with_args
+
+    def column(t: float, y: Any) -> Any:
+        if given.numpy is None:
+            f = with_args(t, [[state] for state in y])
+            return [row if given.scalar(row) or len(row) != 1 else row[0] for row in f]
+        f = given.numpy.asarray(with_args(t, y[:, None]))
+        return f[:, 0] if f.ndim == 2 and f.shape[1] == 1 else f
+
+    return column
+
+
+def _jacobian(jac: Any, args: tuple, n: int) -> Optional[Callable[[float, Any], array]]:
+    """The Jacobian column by column, as the library takes it."""
+    if jac is None:
+        return None
+    if callable(jac):
+        return lambda t, y: given.by_columns(jac(t, y, *args), n)
+    constant = given.by_columns(jac, n)
+    return lambda t, y: constant
+
+
+class _Kept:
+    """What is kept of a run while it goes on: the poses to hand out, and nothing else that is not asked for."""
+
+    def __init__(
+        self,
+        run: Run,
+        t0: float,
+        tend: float,
+        y0: array,
+        t_eval: Optional[array],
+        dense: bool,
+        events: Any,
+        report: Optional[Callable[..., Any]],
+    ) -> None:
+        self.run, self.buffers = run, Buffers(run)
+        self.t0, self.tend, self.y0, self.t_eval = t0, tend, y0, t_eval
+        self.events, self.report = events, report
+        self.sign = -1.0 if tend < t0 else 1.0
+        self.sol = DenseOutput(run.n, t0, y0, self.sign) if dense else None
+        self.times, self.poses, self.counts = array("d"), array("d"), []
+        self.largest_count, self.order, self.stopped = 0, 0, False
+        self.nonfinite_at = None if all(map(math.isfinite, y0)) else t0
+        if t_eval is None:
+            self.times.append(t0)
+            self.poses.extend(y0)
+
+    def drive(self, fun: Callable[[float, Any], Any], jac: Optional[Callable[[float, Any], array]]) -> None:
+        """Answers the library's questions until the run has ended."""
+        run, buffers = self.run, self.buffers
+        state, put, derivative = buffers.state, buffers.put, buffers.derivative
+        asked = run.answer
+        while True:
+            number = asked.number
+            if number == DERIVATIVE_WANTED:
+                put(fun(asked.time, state()))
+                asked = reply(*derivative)
+            elif number == REPORT:
+                asked = buffers.reported(INTERRUPT if self.step(asked) else CONTINUE, asked.time)
+            elif number == JACOBIAN_WANTED:
+                buffers.put_jacobian(jac(asked.time, state()))
+                asked = reply(*buffers.jacobian)
+            elif number == FIRST_REPORT:
+                asked = buffers.reported(CONTINUE, asked.time)
+            else:
+                run._take(asked)  # a refusal raises
+                break
+        self.finish()
+
+    def step(self, asked: Any) -> bool:
+        """Keeps what is wanted of an accepted step; whether the run is to be interrupted after it."""
+        buffers, t, count = self.buffers, asked.time, asked.count
+        self.order = asked.order
+        if count > self.largest_count:
+            self.largest_count = count
+        if self.sol is not None:
+            self.sol._add(t, buffers.snapshot(self.order))
+        end = None if self.events is None else self.events.after_step(asked.previous, t, buffers.state(), self.pose_at)
+        if self.t_eval is not None:
+            self.between(t if end is None else end[0])
         else:
-            kind = calls.CONTINUE
-            if asked.number == calls.REPORT:
-                sol._add(asked.previous, asked.time, run.snapshot)
-                times.append(asked.time)
-                poses.append(y)
-                counts.append(asked.count)
-                if report is not None and report(asked.previous, asked.time, _state(y), asked.count):
-                    kind = calls.INTERRUPT
-            run.reply(kind, y, asked.time)
-    return _result(run.answer, sol, times, poses, counts, t_eval, dense_output, options, n)
+            self.counts.append(count)
+        if end is not None:
+            self.stop(*end)
+        else:
+            if self.nonfinite_at is None and not buffers.finite():
+                self.nonfinite_at = t
+            if self.t_eval is None:
+                self.times.append(t)
+                self.poses.frombytes(buffers.y)
+        interrupted = self.report is not None and self.report(asked.previous, t, buffers.state(), count)
+        return bool(interrupted) or self.stopped
 
+    def pose_at(self, t: float) -> Any:
+        """The pose at a time within the step that was reported last."""
+        return given.copied(self.buffers.interpolate(given.number(t, "`t`"), self.order))
 
-def _result(ended, sol, times, poses, counts, t_eval, dense_output, options, n):
-    if t_eval is not None:
-        # where the run ended early, poses beyond its last accepted step do not exist
-        low, high = min(times[0], times[-1]), max(times[0], times[-1])
-        times = [t for t in t_eval if low <= t <= high]
-        poses = [sol._at(t) for t in times]
-    number = 110 if ended is None else ended.number
-    count = lambda name: 0 if ended is None else getattr(ended, name)  # noqa: E731
-    return Result(
-        t=_array(times),
-        y=_columns(poses, n),
-        sol=sol if dense_output else None,
-        t_events=None,
-        y_events=None,
-        nfev=count("nfe"),
-        njev=count("nje"),
-        nlu=count("nlu"),
-        status=0 if number == 110 else -1,
-        success=number == 110,
-        number=number,
-        end=calls.ENDS[number],
-        message=calls.ENDS[number],
-        accepted=count("accepted"),
-        rejected=count("rejected"),
-        steps_total=count("total"),
-        h=count("h"),
-        counts=counts,
-        cap=_cap(options, n),
-        jacobian_cap=max(options.mxncf, 1) + 9,
-    )
+    def stop(self, time: float, pose: Any) -> None:
+        """A terminal event ends the run here; this pose is the last that is handed out."""
+        time, pose = float(time), given.vector(pose, "the pose of an event")
+        self.stopped = True
+        if self.sol is not None:
+            self.sol._cut(time)
+        if self.t_eval is None:
+            self.times.append(time)
+            self.poses.extend(pose)
+        if self.nonfinite_at is None and not all(map(math.isfinite, pose)):
+            self.nonfinite_at = time
+
+    def between(self, end: float) -> None:
+        """Keeps the poses at the times of t_eval up to `end`, from the step that was reported last."""
+        t_eval, sign, buffers = self.t_eval, self.sign, self.buffers
+        while len(self.times) < len(t_eval) and sign * t_eval[len(self.times)] <= sign * end:
+            t = t_eval[len(self.times)]
+            self.poses.frombytes(buffers.interpolate(t, self.order))
+            self.times.append(t)
+            if self.nonfinite_at is None and not buffers.finite_between():
+                self.nonfinite_at = t
+
+    def finish(self) -> None:
+        """What no step has brought: the start where t_eval has it, and a run without states."""
+        if self.run.n == 0:
+            self.without_states()
+        elif self.t_eval is not None and self.order == 0:
+            while len(self.times) < len(self.t_eval) and self.t_eval[len(self.times)] == self.t0:
+                self.times.append(self.t0)
+                self.poses.extend(self.y0)
+
+    def without_states(self) -> None:
+        end, nothing = self.tend, lambda t: given.handed_out(array("d"))
+        if end != self.t0:
+            if self.sol is not None:
+                self.sol._add(end, b"")
+            stop = None if self.events is None else self.events.after_step(self.t0, end, nothing(end), nothing)
+            if stop is not None:
+                end = stop[0]
+                self.stop(*stop)
+            elif self.t_eval is None:
+                self.times.append(end)
+        if self.t_eval is not None:
+            self.times.extend(t for t in self.t_eval if self.sign * t <= self.sign * end)
+
+    def result(self, options: Options) -> Result:
+        ended, n = self.run.answer, self.run.n
+        reached = ended.number == SUCCESS or self.stopped
+        if not reached:
+            status = -1
+        elif self.nonfinite_at is not None:
+            status = -2
+        else:
+            status = 1 if self.stopped else 0
+        told = "A termination event occurred." if self.stopped else message(ended.number)
+        if self.nonfinite_at is not None:
+            bad = f"the pose at {self.nonfinite_at!r} has a NaN or an infinity"
+            told = bad if reached else f"{told}; {bad}"
+        mxncf = max(options.mxncf, 1)
+        events = self.events
+        return Result(
+            message=told,
+            success=status >= 0,
+            status=status,
+            t=given.handed_out(self.times),
+            y=given.rows_of_states(self.poses, n, len(self.times)),
+            sol=self.sol,
+            t_events=None if events is None else events.t_events,
+            y_events=None if events is None else events.y_events,
+            nfev=ended.nfe,
+            njev=ended.nje,
+            nlu=ended.nlu,
+            nonfinite_at=self.nonfinite_at,
+            number=ended.number,
+            end=ENDS[ended.number],
+            accepted=ended.accepted,
+            rejected=ended.rejected,
+            steps_total=ended.total,
+            h=ended.h,
+            counts=self.counts,
+            largest_count=self.largest_count,
+            cap=(mxncf + 12) * options.maxcor + 7 + (0 if options.supplied else (mxncf + 9) * n),
+            jacobian_cap=mxncf + 9,
+        )

@@ -3,17 +3,21 @@
 The library is found beside this file, or where RAIMSKLO_LIBRARY names it; hosts/python/build makes it from the archive.
 """
 
+from __future__ import annotations
+
 import ctypes
 import os
 from ctypes import POINTER, Structure, c_double, c_size_t, c_uint8
+from typing import Any
 
 # made by tools/record.py: the length of a session
 SESSION_LENGTH = 1448
 # end of the length of a session
+MOST_STATES = 64
 
 
 class Options(Structure):
-    """raimsklo_options"""
+    """raimsklo_options: the settings of a run, the fields of include/raimsklo.h. Begin with `defaults()`."""
 
     _fields_ = [
         ("max_steps", c_size_t),
@@ -34,7 +38,7 @@ class Options(Structure):
 
 
 class Answer(Structure):
-    """raimsklo_answer"""
+    """raimsklo_answer: what a call answers, the fields of include/raimsklo.h. Those of no use to a number are 0."""
 
     _fields_ = [
         ("number", c_size_t),
@@ -54,31 +58,68 @@ class Answer(Structure):
     ]
 
 
-def _load():
+def _declare(library: ctypes.CDLL) -> None:
+    """Results and arguments of the functions that the package calls."""
+    doubles, sizes, octets = POINTER(c_double), POINTER(c_size_t), POINTER(c_uint8)
+    lent = [doubles, c_size_t, sizes, c_size_t, octets, c_size_t, doubles, c_size_t]
+    for name, result, taken in (
+        ("defaults", Options, []),
+        ("work_length", c_size_t, [c_size_t]),
+        ("question_length", c_size_t, [c_size_t]),
+        ("session_length", c_size_t, []),
+        ("start", Answer, [c_double, c_double] + [doubles, c_size_t] * 3 + [Options] + lent),
+        ("reply", Answer, [c_size_t, doubles, c_size_t, c_double] + lent),
+        ("interpolate", c_size_t, [c_double, doubles, c_size_t, doubles, c_size_t]),
+        ("root", c_double, [c_double, c_size_t]),
+    ):
+        function = getattr(library, "raimsklo_" + name)
+        function.restype, function.argtypes = result, taken
+
+
+def _load() -> ctypes.CDLL:
     here = os.path.join(os.path.dirname(os.path.abspath(__file__)), "libraimsklo.so")
     path = os.environ.get("RAIMSKLO_LIBRARY", here)
     if not os.path.exists(path):
-        raise ImportError(f"{path} is not there: `bash hosts/python/build` makes it from the static library")
-    library = ctypes.CDLL(path)
-    doubles, sizes, octets = POINTER(c_double), POINTER(c_size_t), POINTER(c_uint8)
-    lent = [doubles, c_size_t, sizes, c_size_t, octets, c_size_t, doubles, c_size_t]
-    library.raimsklo_defaults.restype = Options
-    library.raimsklo_defaults.argtypes = []
-    library.raimsklo_start.restype = Answer
-    library.raimsklo_start.argtypes = [c_double, c_double] + [doubles, c_size_t] * 3 + [Options] + lent
-    library.raimsklo_reply.restype = Answer
-    library.raimsklo_reply.argtypes = [c_size_t, doubles, c_size_t, c_double] + lent
-    library.raimsklo_interpolate.restype = c_size_t
-    library.raimsklo_interpolate.argtypes = [c_double, doubles, c_size_t, doubles, c_size_t]
-    library.raimsklo_root.restype = c_double
-    library.raimsklo_root.argtypes = [c_double, c_size_t]
+        raise ImportError(f"{path} is not there: `bash hosts/python/build` makes it from the static library", path=path)
+    try:
+        library = ctypes.CDLL(path)
+        _declare(library)
+    except (OSError, AttributeError) as error:  # no shared library of this machine; a function is not in it
+        raise ImportError(f"{path} is not the library that this package goes with: {error}", path=path) from error
+    n = MOST_STATES
+    lengths = library.raimsklo_session_length(), library.raimsklo_work_length(n), library.raimsklo_question_length(n)
+    if lengths != (SESSION_LENGTH, work_length(n), question_length(n)):
+        raise ImportError(f"{path} is of another version than this package: its buffers have other lengths", path=path)
     return library
+
+
+def work_length(n: int) -> int:
+    return n * n + 19 * n
+
+
+def question_length(n: int) -> int:
+    return 14 * n + 6
 
 
 LIBRARY = _load()
 
 
-def doubles(numbers):
-    """The numbers as a C array."""
-    numbers = [float(x) for x in numbers]
-    return (c_double * len(numbers))(*numbers)
+def ready(name: str, result: Any) -> Any:
+    """The function once more, for arguments that are C's already: they are passed on without a look at each."""
+    function = LIBRARY["raimsklo_" + name]
+    function.restype = result
+    return function
+
+
+def defaults() -> Options:
+    """The settings that a run has where nothing else is asked: what `Run` takes, to be changed field by field.
+
+    Examples
+    --------
+    >>> from raimsklo import defaults
+    >>> options = defaults()
+    >>> options.max_steps, options.maxcor
+    (100000, 3)
+    >>> options.has_first_step, options.first_step = 1, 0.25
+    """
+    return LIBRARY.raimsklo_defaults()

@@ -1,97 +1,280 @@
 """One run, a question at a time: the calls of the library with their buffers, for callers that keep control."""
 
-from ctypes import c_double, c_size_t, c_uint8
+from __future__ import annotations
 
-from .library import LIBRARY, SESSION_LENGTH, doubles
+import math
+from array import array
+from ctypes import byref, c_double, c_size_t, c_uint8
+from struct import Struct
+from typing import Any, Callable, Optional
 
-DERIVATIVE_WANTED, JACOBIAN_WANTED, FIRST_REPORT, REPORT = 100, 101, 102, 103
+from . import given
+from .library import MOST_STATES, SESSION_LENGTH, Answer, Options, defaults, question_length, ready, work_length
+from .refused import DERIVATIVE_WANTED, ENDS, FIRST_REPORT, JACOBIAN_WANTED, REPORT, Refused, SUCCESS
+
+__all__ = [
+    "CONTINUE",
+    "DERIVATIVE",
+    "DERIVATIVE_WANTED",
+    "ENDS",
+    "FIRST_REPORT",
+    "INTERRUPT",
+    "JACOBIAN",
+    "JACOBIAN_WANTED",
+    "MODIFIED",
+    "REPORT",
+    "Refused",
+    "Run",
+    "interpolate",
+]
+
 DERIVATIVE, JACOBIAN, CONTINUE, INTERRUPT, MODIFIED = 1, 2, 3, 4, 5
 
-ENDS = {
-    110: "success",
-    111: "interrupted",
-    112: "needs more steps",
-    113: "step too small",
-    114: "poor convergence",
-    115: "coefficient gap",
-}
+DOUBLE = 8  # bytes
+ORDERS = 13  # of a snapshot, 0 to 12
+HEADER = 6  # numbers of a snapshot before its columns
 
-_REFUSALS = {
-    1: "more than 64 states",
-    2: "a tolerance list is neither 1 long nor as long as y0",
-    3: "the length of a buffer is wrong",
-    4: "a setting is above 1,000,000",
-    5: "max_steps is 0",
-    6: "maxcor is 0",
-    7: "mxordn or mxords is 0",
-    8: "banded storage is not supported",
-    9: "rtol[{index}] is below 0",
-    10: "atol[{index}] is below 0",
-    11: "the first step {value!r} is zero, NaN or leads away from the end",
-    12: "the weight rtol*|y|+atol of state {index} is at most 0",
-    13: "the session holds a value out of its range",
-    14: "another reply was asked for, or the run has ended",
-    15: "the snapshot's header is damaged",
-    16: "the pose has another length than the snapshot's states",
-    17: "the snapshot's history is too short or its step is zero",
-}
-
-
-class Refused(ValueError):
-    """A refusal of the library; `number` is the one of the refusals' table, `index` that of 9, 10 and 12."""
-
-    def __init__(self, number, index=0, value=0.0, told=None):
-        super().__init__(f"refused ({number}): " + (told or _REFUSALS[number].format(index=index, value=value)))
-        self.number, self.index, self.value = number, index, value
+start = ready("start", Answer)
+reply = ready("reply", Answer)
+interpolate_into = ready("interpolate", c_size_t)
+size, time_of = c_size_t.from_param, c_double.from_param
 
 
 class Run:
-    """A run from x0 to xend. `answer` is what the library answered last; `y` is the state it is about."""
+    """A run from x0 to xend, a question at a time.
 
-    def __init__(self, x0, xend, y0, rtol, atol, options):
-        self.n = len(y0)
-        n = self.n
-        self._work = (c_double * (n * n + 19 * n))()
+    The library answers what it wants next, the caller replies with it, until the run has ended. Several runs may go on
+    at once, in several threads too; one run belongs to one thread at a time.
+
+    Parameters
+    ----------
+    x0, xend : float
+        The interval. Where they are equal and `options` has no first step, 11 is refused.
+    y0 : sequence of float
+        The start's pose, at most 64 states.
+    rtol, atol : float or sequence of float
+        Tolerances of a step, one or as many as there are states.
+    options : Options, optional
+        The settings: what `defaults()` gives, changed where another is wanted.
+
+    Attributes
+    ----------
+    answer : Answer
+        What the library answered last; its `number` says what is wanted, its `time` when.
+    ended : bool
+        Whether the run has ended; `answer` then has the counts.
+    n : int
+        The number of states.
+    y : numpy.ndarray or list
+        The pose that the answer is about, anew at each reading.
+    snapshot : numpy.ndarray, list or None
+        After a REPORT, what `interpolate` takes, anew at each reading.
+
+    Examples
+    --------
+    >>> import raimsklo
+    >>> run = raimsklo.Run(0.0, 1.0, [1.0], rtol=1e-6, atol=1e-9)
+    >>> steps = 0
+    >>> while not run.ended:
+    ...     asked = run.answer
+    ...     if asked.number == raimsklo.DERIVATIVE_WANTED:
+    ...         run.reply(raimsklo.DERIVATIVE, [-run.y[0]])
+    ...     else:  # FIRST_REPORT or REPORT; JACOBIAN_WANTED comes only with options.supplied
+    ...         steps += asked.number == raimsklo.REPORT
+    ...         run.reply(raimsklo.CONTINUE, run.y, asked.time)
+    >>> raimsklo.ENDS[run.answer.number], steps == run.answer.accepted, round(float(run.y[0]), 3)
+    ('success', True, 0.368)
+    """
+
+    answer: Answer
+    n: int
+
+    def __init__(
+        self, x0: float, xend: float, y0: Any, rtol: Any, atol: Any, options: Optional[Options] = None
+    ) -> None:
+        options = defaults() if options is None else options
+        if not isinstance(options, Options):
+            raise TypeError(f"`options` must be what defaults() gives, not {options!r}")
+        x0, xend = given.number(x0, "`x0`"), given.number(xend, "`xend`")
+        y0, rtol, atol = (given.vector(v, name) for v, name in ((y0, "`y0`"), (rtol, "`rtol`"), (atol, "`atol`")))
+        self.n = n = len(y0)
+        if n > MOST_STATES:  # before anything of this size is made
+            raise Refused(1)
+        self._work = (c_double * work_length(n))()
         self._pivots = (c_size_t * n)()
         self._session = (c_uint8 * SESSION_LENGTH)()
-        self._question = (c_double * (14 * n + 6))()
-        self._lent = []
-        for buffer in (self._work, self._pivots, self._session, self._question):
-            self._lent += [buffer, len(buffer)]
-        y0, rtol, atol = doubles(y0), doubles(rtol), doubles(atol)
-        self._take(
-            LIBRARY.raimsklo_start(
-                x0, xend, y0, len(y0), rtol, len(rtol), atol, len(atol), options, *self._lent
-            )
-        )
+        self._question = (c_double * question_length(n))()
+        lent = [(byref(b), size(len(b))) for b in (self._work, self._pivots, self._session, self._question)]
+        self._lent = sum(lent, ())
+        self._octets = memoryview(self._question).cast("B")
+        numbers = [(pointer(v), size(len(v))) for v in (y0, rtol, atol)]
+        self._take(start(time_of(x0), time_of(xend), *sum(numbers, ()), options, *self._lent))
 
-    def _take(self, answer):
-        if answer.number < 100:
+    def _take(self, answer: Answer) -> None:
+        if answer.number < DERIVATIVE_WANTED:
             raise Refused(answer.number, answer.index, answer.value)
         self.answer = answer
 
-    def reply(self, kind, numbers, time=0.0):
-        numbers = doubles(numbers)
-        self._take(LIBRARY.raimsklo_reply(kind, numbers, len(numbers), time, *self._lent))
+    def reply(self, kind: int, numbers: Any, time: float = 0.0) -> None:
+        """Replies to the library's question.
+
+        Parameters
+        ----------
+        kind : int
+            DERIVATIVE with n numbers; JACOBIAN with n*n, column by column; after a report CONTINUE, INTERRUPT or
+            MODIFIED, with the pose and the time. MODIFIED takes another pose, and the run restarts from it at order 1.
+        numbers : sequence of float
+            What the kind goes with.
+        time : float
+            Of use after a report alone.
+        """
+        numbers, time = given.vector(numbers, "what a reply gave"), given.number(time, "`time`")
+        self._take(reply(size(kind), pointer(numbers), size(len(numbers)), time_of(time), *self._lent))
 
     @property
-    def ended(self):
-        return self.answer.number >= 110
+    def ended(self) -> bool:
+        """Whether the run has ended."""
+        return self.answer.number >= SUCCESS
 
     @property
-    def y(self):
-        return list(self._question[: self.n])
+    def y(self) -> Any:
+        """The pose that the answer is about, a fresh array or list."""
+        return given.copied(self._octets[: DOUBLE * self.n])
 
     @property
-    def snapshot(self):
-        """The snapshot of the report that stands: what `interpolate` takes."""
-        return list(self._question[self.n : self.n + 6 + (self.answer.order + 1) * self.n])
+    def snapshot(self) -> Any:
+        """The snapshot of the report that stands, a fresh array or list: what `interpolate` takes."""
+        if self.answer.order == 0:
+            return None
+        return given.copied(snapshot_of(self._octets, self.n, self.answer.order))
 
 
-def interpolate(t, snapshot, n):
-    """The pose at time t from a report's snapshot."""
-    pose, snapshot = (c_double * n)(), doubles(snapshot)
-    number = LIBRARY.raimsklo_interpolate(t, pose, n, snapshot, len(snapshot))
+def snapshot_length(n: int, order: int) -> int:
+    return HEADER + (order + 1) * n
+
+
+def snapshot_of(question: memoryview, n: int, order: int) -> memoryview:
+    """The bytes of the snapshot in those of a question."""
+    return question[DOUBLE * n : DOUBLE * (n + snapshot_length(n, order))]
+
+
+def pointer(numbers: array, place: int = 0) -> Any:
+    """To an entry of doubles, for a call of the library."""
+    return byref(c_double.from_buffer(numbers, DOUBLE * place)) if numbers else byref(c_double())
+
+
+def interpolate(t: float, snapshot: Any, n: int) -> Any:
+    """The pose at time t from a report's snapshot.
+
+    Parameters
+    ----------
+    t : float
+        A time within the step that the snapshot was taken after; beyond it the numbers mean nothing.
+    snapshot : sequence of float
+        What `Run.snapshot` gave.
+    n : int
+        The number of states.
+
+    Returns
+    -------
+    numpy.ndarray or list
+        The pose, n numbers.
+
+    Examples
+    --------
+    One state at order 1: 2 at the time 1, and 0.5 more for each step of 0.5.
+
+    >>> from raimsklo import interpolate
+    >>> [float(y) for y in interpolate(0.75, [1, 1, 1.0, 0.5, 0.5, 2.0**-52, 2.0, 0.5], 1)]
+    [1.75]
+    """
+    numbers, pose = given.vector(snapshot, "`snapshot`"), array("d", bytes(DOUBLE * n))
+    time = time_of(given.number(t, "`t`"))
+    number = interpolate_into(time, pointer(pose), size(n), pointer(numbers), size(len(numbers)))
     if number:
         raise Refused(number)
-    return list(pose)
+    return given.handed_out(pose)
+
+
+class Buffers:
+    """A run's buffers as a driver reads and writes them: nothing is made anew for a call that can be kept.
+
+    state()             the pose that the answer is about, fresh
+    put(f)              takes what `fun` gave for the next reply
+    finite()            whether each number of that pose is finite
+    finite_between()    the same of the pose that was interpolated last
+    """
+
+    def __init__(self, run: Run) -> None:
+        n = run.n
+        self.run, self.n = run, n
+        self._numbers, self._pose = (c_double * (n * n))(), (c_double * n)()
+        self.numbers, self.between = memoryview(self._numbers).cast("B"), memoryview(self._pose).cast("B")
+        self.y = run._octets[: DOUBLE * n]
+        self.kept_y = self.numbers[: DOUBLE * n]
+        self._n = size(n)
+        numbers, zero = byref(self._numbers), time_of(0.0)
+        self.derivative = (size(DERIVATIVE), numbers, self._n, zero, *run._lent)
+        self.jacobian = (size(JACOBIAN), numbers, size(n * n), zero, *run._lent)
+        self._reported = {kind: (size(kind), numbers, self._n) for kind in (CONTINUE, INTERRUPT)}
+        self._snapshot = byref(run._question, DOUBLE * n)
+        self._lengths = [size(snapshot_length(n, order)) for order in range(ORDERS)]
+        self._closures()
+
+    state: Callable[[], Any]
+    put: Callable[[Any], None]
+    finite: Callable[[], bool]
+    finite_between: Callable[[], bool]
+
+    def _closures(self) -> None:
+        n, octets, numbers = self.n, self.kept_y, self._numbers
+        pack, plain, slow = Struct(f"{n}d").pack_into, given.PLAIN.issuperset, given.derivative
+        numpy = given.numpy
+
+        def put_list(f: Any) -> None:
+            if (type(f) is list or type(f) is tuple) and len(f) == n and plain(map(type, f)):
+                pack(numbers, 0, *f)
+            else:
+                octets[:] = memoryview(slow(f, n)).cast("B")
+
+        if numpy is None:
+            y, between = self.y.cast("d"), self.between.cast("d")
+            self.state, self.put = y.tolist, put_list
+            self.finite = lambda: all(map(math.isfinite, y))
+            self.finite_between = lambda: all(map(math.isfinite, between))
+            return
+        y, between = (numpy.frombuffer(b, dtype=float, count=n) for b in (self.run._question, self._pose))
+        doubles, ndarray, zeros = octets.cast("d"), numpy.ndarray, numpy.zeros(n)
+
+        def put(f: Any) -> None:
+            if type(f) is ndarray:
+                try:
+                    doubles[:] = f  # n doubles in a row are copied, and all else raises
+                    return
+                except ValueError:
+                    pass
+            put_list(f)
+
+        self.state, self.put = y.copy, put
+        # 0 times a number is 0 where the number is finite, and NaN otherwise; one call instead of two
+        self.finite = lambda: y.dot(zeros) == 0.0
+        self.finite_between = lambda: between.dot(zeros) == 0.0
+
+    def put_jacobian(self, columns: array) -> None:
+        self.numbers[:] = memoryview(columns).cast("B")
+
+    def reported(self, kind: int, time: float) -> Answer:
+        """The reply to a report: the pose and the time as they are."""
+        self.kept_y[:] = self.y
+        return reply(*self._reported[kind], time_of(time), *self.run._lent)
+
+    def snapshot(self, order: int) -> memoryview:
+        """The bytes of the snapshot of the report that stands."""
+        return snapshot_of(self.run._octets, self.n, order)
+
+    def interpolate(self, t: float, order: int) -> memoryview:
+        """The bytes of the pose at t, within the step that was reported last; they stand until the next call."""
+        number = interpolate_into(time_of(t), byref(self._pose), self._n, self._snapshot, self._lengths[order])
+        if number:
+            raise Refused(number)
+        return self.between

@@ -2,15 +2,11 @@
 
 import math
 import os
-import subprocess
 import sys
-import tempfile
 import unittest
-import zipfile
 
 sys.path.insert(0, os.path.join(os.path.dirname(os.path.abspath(__file__)), ".."))
 
-import backend  # noqa: E402
 from raimsklo import Refused, Run, solve_ivp  # noqa: E402
 from raimsklo.library import LIBRARY  # noqa: E402
 
@@ -227,19 +223,6 @@ class Refusals(unittest.TestCase):
         with self.assertRaises(Refused):
             run.reply(3, run.y)
         self.assertEqual(before, [bytes(buffer) for buffer in (run._work, run._pivots, run._session, run._question)])
-
-
-class Installed(unittest.TestCase):
-    def test_wheel(self):
-        with tempfile.TemporaryDirectory() as folder:
-            with zipfile.ZipFile(os.path.join(folder, backend.build_wheel(folder))) as wheel:
-                wheel.extractall(folder)
-                recorded = wheel.read(f"raimsklo-{backend.VERSION}.dist-info/RECORD").decode().split()
-                self.assertEqual([line.split(",")[0] for line in recorded], wheel.namelist())
-            script = "import raimsklo as r; print(r.__file__, r.solve_ivp(lambda t, y: [-y[0]], (0, 1), [1]).end)"
-            command = [sys.executable, "-c", script]
-            told = subprocess.run(command, cwd=folder, env={"PYTHONPATH": folder}, check=True, capture_output=True).stdout
-            self.assertEqual(told.decode(), os.path.join(folder, "raimsklo", "__init__.py") + " success\n")
 
 
 if __name__ == "__main__":
