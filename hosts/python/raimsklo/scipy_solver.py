@@ -17,14 +17,7 @@ except ImportError as missing:
 
 from . import run as calls
 from .library import LIBRARY
-
-_ADVICE = {
-    112: "raise max_steps, loosen the tolerances or shorten the interval",
-    113: "loosen the tolerances, lower min_step, or look for a jump or a pole of the right side near this time",
-    114: "give a Jacobian, raise maxcor or mxncf, lower min_step, or look for a jump or a pole of the right side near"
-    " this time",
-    115: "set mxordn to 5 or less",
-}
+from .refused import message
 
 
 class StepOutput(DenseOutput):
@@ -212,6 +205,7 @@ class LSODA(OdeSolver):
 
         tolerances = [_tolerances(given, name) for given, name in ((rtol, "rtol"), (atol, "atol"))]
         self._run = calls.Run(t0, t_bound, self.y.tolist(), *tolerances, options)
+        self._buffers = calls.Buffers(self._run)
         self._jacobian = None if jac is None else self._columns_of(jac)
         self._pose = self.y.copy()  # of the last accepted step; those before and its snapshot serve the dense output
         self.y = self._pose.copy()
@@ -258,45 +252,51 @@ class LSODA(OdeSolver):
         return calls.ENDS.get(self.number)
 
     def _step_impl(self) -> tuple[bool, str | None]:
-        run, fun, shape, asarray = self._run, self.fun, (self.n,), numpy.asarray
-        wanted, kind = calls.DERIVATIVE_WANTED, calls.DERIVATIVE
+        run, buffers, fun = self._run, self._buffers, self.fun
+        state, put, derivative, reply = buffers.state, buffers.put, buffers.derivative, calls.reply
+        wanted, shape, asked = calls.DERIVATIVE_WANTED, (self.n,), run.answer
         try:
-            if run.answer.number == calls.REPORT:
-                run.reply(calls.CONTINUE, run.y, run.answer.time)
+            if asked.number == calls.REPORT:
+                asked = buffers.reported(calls.CONTINUE, asked.time)
             while True:
-                asked = run.answer
                 number = asked.number
                 if number == wanted:
-                    f = fun(asked.time, asarray(run.y))
-                    run.reply(kind, f if f.shape == shape else self._derivative(f))
-                elif number == calls.REPORT:
+                    f = fun(asked.time, state())
+                    put(f if f.shape == shape else self._derivative(f))
+                    asked = reply(*derivative)
+                    continue
+                run._take(asked)  # a refusal raises
+                if number == calls.REPORT:
                     return self._take_report(asked)
                 elif number == calls.JACOBIAN_WANTED:
-                    columns = self._jacobian(asked.time, asarray(run.y))
+                    columns = self._jacobian(asked.time, state())
                     self.njev += 1
-                    run.reply(calls.JACOBIAN, columns)
+                    buffers.put_jacobian(columns)
+                    asked = reply(*buffers.jacobian)
                 elif number == calls.FIRST_REPORT:
-                    run.reply(calls.CONTINUE, run.y, asked.time)
+                    asked = buffers.reported(calls.CONTINUE, asked.time)
                 else:
                     self._take_end()
-                    return False, f"{self.end}: {_ADVICE[number]}" if number in _ADVICE else self.end
+                    return False, message(number)
         except calls.Refused:
             self.status = "failed"
             raise
+        except BaseException:  # of `fun`, or of who interrupts: the question stands
+            run.answer = asked
+            raise
 
     def _take_report(self, asked: Any) -> tuple[bool, str | None]:
-        run, time = self._run, asked.time
-        pose = numpy.asarray(run.y)
+        buffers, time = self._buffers, asked.time
         self.accepted += 1
         self.count = asked.count
-        if not numpy.isfinite(pose).all():
+        if not buffers.finite():
             self.nonfinite_at = time
             return False, f"the pose at {time!r} has a NaN or an infinity"
-        self._pose_old, self._pose, self._snapshot = self._pose, pose, run.snapshot
-        self.t, self.y = time, pose.copy()
+        self._pose_old, self._pose, self._snapshot = self._pose, buffers.state(), bytes(buffers.snapshot(asked.order))
+        self.t, self.y = time, buffers.state()
         if self.direction * (time - self.t_bound) >= 0:
             # scipy asks for no further step: the library says its end and its counts
-            run.reply(calls.CONTINUE, pose, time)
+            self._run._take(buffers.reported(calls.CONTINUE, time))
             self._take_end()
         return True, None
 
@@ -305,7 +305,8 @@ class LSODA(OdeSolver):
         self.njev, self.nlu, self.accepted, self.rejected = answer.nje, answer.nlu, answer.accepted, answer.rejected
 
     def _dense_output_impl(self) -> StepOutput:
-        return StepOutput(self.t_old, self.t, self._pose_old, self._pose, self._snapshot)
+        snapshot = numpy.frombuffer(self._snapshot)
+        return StepOutput(self.t_old, self.t, self._pose_old, self._pose, snapshot)
 
 
 def _floats(array: numpy.ndarray, name: str) -> numpy.ndarray:
