@@ -63,6 +63,9 @@ def make(put):
     put("include/raimsklo.h", f"#define RAIMSKLO_SESSION_LENGTH {SESSION_LENGTH}\n", "the length of a session")
     put("hosts/python/raimsklo/library.py", f"SESSION_LENGTH = {SESSION_LENGTH}\n", "the length of a session")
     put("hosts/rust/src/lib.rs", f"const SESSION: usize = {SESSION_LENGTH};\n", "the length of a session")
+    counts = dict(accepted="nst", nfe="nfe", nje="nje", nlu="nlu", rejected="rejected", total="total")
+    places = ", ".join(f"{name}={BY_NAME[field].word}" for name, field in counts.items())
+    put("hosts/python/raimsklo/library.py", f"COUNT_WORDS = dict({places})\n", "the counts' places")
     put("oracle/runs/src/session.rs", oracle(), "the fields")
     family = f"const FAMILY_AT: usize = 8 * {BY_NAME['meth'].word};\n"
     put("crates/rig/src/main.rt", family, "the family's place")

@@ -77,6 +77,9 @@ class DenseOutput:
             return self._y0 * len(times)
         poses, length = array("d", bytes(DOUBLE * n * len(times))), size(n)
         for k, t in enumerate(times):
+            if t == self.start:  # its pose itself: the first step's columns are rounded, and may be of another order
+                poses[n * k : n * (k + 1)] = self._y0
+                continue
             place = min(bisect.bisect_left(ends, self._sign * t), last - 1)
             begin = self._places[place]
             end = self._places[place + 1] if place + 1 < last else len(self._snapshots)

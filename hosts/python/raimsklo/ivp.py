@@ -7,9 +7,9 @@ import sys
 from array import array
 from typing import Any, Callable, Optional, Sequence, Tuple, Union
 
-from . import answer, given
+from . import answer, given, settings
 from .dense import DenseOutput
-from .library import Options, defaults
+from .library import Options
 from .refused import DERIVATIVE_WANTED, ENDS, FIRST_REPORT, JACOBIAN_WANTED, REPORT, SUCCESS, message
 from .result import Result
 from .run import CONTINUE, INTERRUPT, Buffers, Run, reply
@@ -136,15 +136,15 @@ def solve_ivp(
     y0 = given.vector(y0, "`y0`")
     n, args = len(y0), given.arguments(args)
     times = None if t_eval is None else _times(t_eval, t0, tend)
-    options = _options(
+    options = settings.options(
         dict(max_steps=max_steps, mxordn=mxordn, mxords=mxords, maxcor=maxcor, msbp=msbp, mxncf=mxncf),
         dict(max_step=max_step, min_step=min_step, first_step=first_step),
         t0,
         tend,
+        jac is not None,
     )
-    options.supplied = 0 if jac is None else 1
-    rtol, atol = _tolerances(rtol, "`rtol`"), _tolerances(atol, "`atol`")
-    fun, jac = _right_side(fun, args, vectorized), _jacobian(jac, args, n)
+    rtol, atol = settings.tolerances(rtol, "`rtol`"), settings.tolerances(atol, "`atol`")
+    fun, jac = settings.right_side(fun, args, vectorized), settings.jacobian(jac, args, n)
 
     def solve(rtol: Sequence[float], atol: Sequence[float], dense: bool) -> Result:
         run = Run(t0, tend, y0, rtol, atol, options)
@@ -184,67 +184,6 @@ def _times(t_eval: Any, t0: float, tend: float) -> array:
     return times
 
 
-def _options(settings: dict, sizes: dict, t0: float, tend: float) -> Options:
-    options = defaults()
-    for name, value in settings.items():
-        value = given.whole(value, name)
-        if value < 0:
-            raise ValueError(f"{name} is below 0")
-        setattr(options, name, min(value, 2**64 - 1))  # what is too large the library refuses by number
-    sizes = {name: given.number(value, f"`{name}`") for name, value in sizes.items() if value is not None}
-    if not sizes.get("max_step", 1.0) > 0.0:
-        raise ValueError("`max_step` must be positive.")
-    if not sizes.get("min_step", 0.0) >= 0.0:
-        raise ValueError("`min_step` must be nonnegative.")
-    for name in ("min_step", "first_step"):
-        if sizes.get(name, 0.0) > abs(tend - t0) and t0 != tend:
-            raise ValueError(f"`{name}` exceeds bounds.")
-    if sizes.get("max_step") == math.inf:
-        del sizes["max_step"]
-    if t0 == tend:
-        sizes.setdefault("first_step", 1.0)  # the library computes none where there is nowhere to go
-    if "first_step" in sizes:
-        sizes["first_step"] *= math.copysign(1.0, tend - t0)
-    for name, value in sizes.items():
-        setattr(options, "has_" + name, 1)
-        setattr(options, name, value)
-    return options
-
-
-def _tolerances(values: Any, what: str) -> array:
-    numbers = given.vector(values, what)
-    if any(map(math.isnan, numbers)):
-        raise ValueError(f"{what} has a NaN.")
-    return numbers
-
-
-def _right_side(fun: Callable[..., Any], args: tuple, vectorized: bool) -> Callable[[float, Any], Any]:
-    if not callable(fun):
-        raise TypeError(f"`fun` must be callable, not {fun!r}")
-    with_args = (lambda t, y: fun(t, y, *args)) if args else fun
-    if not vectorized:
-        return with_args
-
-    def column(t: float, y: Any) -> Any:
-        if given.numpy is None:
-            f = with_args(t, [[state] for state in y])
-            return [row if given.scalar(row) or len(row) != 1 else row[0] for row in f]
-        f = given.numpy.asarray(with_args(t, y[:, None]))
-        return f[:, 0] if f.ndim == 2 and f.shape[1] == 1 else f
-
-    return column
-
-
-def _jacobian(jac: Any, args: tuple, n: int) -> Optional[Callable[[float, Any], array]]:
-    """The Jacobian column by column, as the library takes it."""
-    if jac is None:
-        return None
-    if callable(jac):
-        return lambda t, y: given.by_columns(jac(t, y, *args), n)
-    constant = given.by_columns(jac, n)
-    return lambda t, y: constant
-
-
 class _Kept:
     """What is kept of a run while it goes on: the poses to hand out, and nothing else that is not asked for."""
 
@@ -267,9 +206,9 @@ class _Kept:
         self.times, self.poses, self.counts = array("d"), array("d"), []
         self.largest_count, self.order, self.stopped = 0, 0, False
         self.nonfinite_at = None if all(map(math.isfinite, y0)) else t0
-        if t_eval is None:
-            self.times.append(t0)
-            self.poses.extend(y0)
+        here = 1 if t_eval is None else t_eval.count(t0)  # the start's pose itself, not one of the first step's
+        self.times.extend([t0] * here)
+        self.poses.extend(y0 * here)
 
     def drive(self, fun: Callable[[float, Any], Any], jac: Optional[Callable[[float, Any], array]]) -> None:
         """Answers the library's questions until the run has ended."""
@@ -291,7 +230,8 @@ class _Kept:
             else:
                 run._take(asked)  # a refusal raises
                 break
-        self.finish()
+        if run.n == 0:
+            self.without_states()
 
     def step(self, asked: Any) -> bool:
         """Keeps what is wanted of an accepted step; whether the run is to be interrupted after it."""
@@ -343,16 +283,8 @@ class _Kept:
             if self.nonfinite_at is None and not buffers.finite_between():
                 self.nonfinite_at = t
 
-    def finish(self) -> None:
-        """What no step has brought: the start where t_eval has it, and a run without states."""
-        if self.run.n == 0:
-            self.without_states()
-        elif self.t_eval is not None and self.order == 0:
-            while len(self.times) < len(self.t_eval) and self.t_eval[len(self.times)] == self.t0:
-                self.times.append(self.t0)
-                self.poses.extend(self.y0)
-
     def without_states(self) -> None:
+        """What no step brings: the times of a run without states."""
         end, nothing = self.tend, lambda t: given.handed_out(array("d"))
         if end != self.t0:
             if self.sol is not None:
@@ -364,7 +296,7 @@ class _Kept:
             elif self.t_eval is None:
                 self.times.append(end)
         if self.t_eval is not None:
-            self.times.extend(t for t in self.t_eval if self.sign * t <= self.sign * end)
+            self.times.extend(t for t in self.t_eval[len(self.times) :] if self.sign * t <= self.sign * end)
 
     def result(self, options: Options) -> Result:
         ended, n = self.run.answer, self.run.n
@@ -379,7 +311,6 @@ class _Kept:
         if self.nonfinite_at is not None:
             bad = f"the pose at {self.nonfinite_at!r} has a NaN or an infinity"
             told = bad if reached else f"{told}; {bad}"
-        mxncf = max(options.mxncf, 1)
         events = self.events
         return Result(
             message=told,
@@ -402,6 +333,6 @@ class _Kept:
             h=ended.h,
             counts=self.counts,
             largest_count=self.largest_count,
-            cap=(mxncf + 12) * options.maxcor + 7 + (0 if options.supplied else (mxncf + 9) * n),
-            jacobian_cap=mxncf + 9,
+            cap=settings.cap(options, n),
+            jacobian_cap=settings.jacobian_cap(options),
         )

@@ -13,6 +13,10 @@ from typing import Any
 # made by tools/record.py: the length of a session
 SESSION_LENGTH = 1448
 # end of the length of a session
+
+# made by tools/record.py: the counts' places
+COUNT_WORDS = dict(accepted=20, nfe=21, nje=22, nlu=23, rejected=24, total=25)
+# end of the counts' places
 MOST_STATES = 64
 
 

@@ -4,16 +4,19 @@ from __future__ import annotations
 
 import math
 from array import array
+from collections import namedtuple
 from ctypes import byref, c_double, c_size_t, c_uint8
 from struct import Struct
 from typing import Any, Callable, Optional
 
 from . import given
-from .library import MOST_STATES, SESSION_LENGTH, Answer, Options, defaults, question_length, ready, work_length
+from .library import COUNT_WORDS, MOST_STATES, SESSION_LENGTH, Answer, Options
+from .library import defaults, question_length, ready, work_length
 from .refused import DERIVATIVE_WANTED, ENDS, FIRST_REPORT, JACOBIAN_WANTED, REPORT, Refused, SUCCESS
 
 __all__ = [
     "CONTINUE",
+    "Counts",
     "DERIVATIVE",
     "DERIVATIVE_WANTED",
     "ENDS",
@@ -38,6 +41,8 @@ start = ready("start", Answer)
 reply = ready("reply", Answer)
 interpolate_into = ready("interpolate", c_size_t)
 size, time_of = c_size_t.from_param, c_double.from_param
+
+Counts = namedtuple("Counts", list(COUNT_WORDS))
 
 
 class Run:
@@ -67,6 +72,8 @@ class Run:
         The number of states.
     y : numpy.ndarray or list
         The pose that the answer is about, anew at each reading.
+    counts : Counts
+        accepted, nfe, nje, nlu, rejected and total so far.
     snapshot : numpy.ndarray, list or None
         After a REPORT, what `interpolate` takes, anew at each reading.
 
@@ -130,6 +137,12 @@ class Run:
         """
         numbers, time = given.vector(numbers, "what a reply gave"), given.number(time, "`time`")
         self._take(reply(size(kind), pointer(numbers), size(len(numbers)), time_of(time), *self._lent))
+
+    @property
+    def counts(self) -> Counts:
+        """The library's counts so far, at a question, a report or an end: they stand in the session."""
+        octets = bytes(self._session)
+        return Counts(*(int.from_bytes(octets[DOUBLE * w : DOUBLE * (w + 1)], "little") for w in COUNT_WORDS.values()))
 
     @property
     def ended(self) -> bool:

@@ -173,10 +173,8 @@ class Solves(unittest.TestCase):
     def test_shapes_of_a_derivative(self):
         one = [solve(fun, (0, 1), [1.0]) for fun in (lambda t, y: -y, lambda t, y: -y[0], lambda t, y: [-y[0]])]
         self.assertEqual(len({result.y.tobytes() for result in one}), 1)
-        column = solve(lambda t, y: numpy.array([[y[1]], [-y[0]]]), (0, 1), [1, 0])
-        self.assertEqual(column.y.tolist(), solve(swing, (0, 1), [1, 0]).y.tolist())
         strided = solve(lambda t, y: numpy.array([y[1], 7.0, -y[0], 7.0])[::2], (0, 1), [1, 0])
-        self.assertEqual(strided.y.tolist(), column.y.tolist())
+        self.assertEqual(strided.y.tolist(), solve(swing, (0, 1), [1, 0]).y.tolist())
         integers = solve(lambda t, y: numpy.array([1, 2]), (0, 1), [1, 0])
         numpy.testing.assert_allclose(integers.y[:, -1], [2.0, 2.0])
 
@@ -218,9 +216,12 @@ class Solves(unittest.TestCase):
         asked = []
         for jac in (None, lambda t, y: asked.append(t) or [[0.0, 1.0], [-1.0, 0.0]]):
             result = solve(swing, (0, 10), [1, 0], events=down, jac=jac)
-            self.assertEqual((result.status, result.nlu), (1, None))  # what is not told is not 0
-            self.assertEqual(result.njev, len(asked) if jac else None)
+            self.assertEqual(result.status, 1)
+            self.assertGreater(result.njev, 0)
+            self.assertEqual(result.nlu, result.njev)
             self.assertGreater(result.nfev, len(result.t))
+            if jac:
+                self.assertEqual(result.njev, len(asked))
 
     def test_equal_ends_and_no_states(self):
         for given in (dict(), dict(first_step=0.5), dict(jac=lambda t, y: numpy.zeros((2, 2)))):
@@ -303,12 +304,15 @@ class Fails(unittest.TestCase):
         for first in (0.0, -0.1, math.nan):
             self.refused(11, first_step=first)
         self.assertIn("of state 1", self.refused(12, rtol=0.0, atol=[1.0, 0.0]))
-        for wrong in ([0.0], [0.0] * 3, 0.0, numpy.zeros((2, 2)), []):
+        for wrong in ([0.0], [0.0] * 3, 0.0, []):
             told = self.refused(14, fun=lambda t, y: wrong)  # noqa: B023
-            self.assertIn(f"fun gave shape {numpy.shape(wrong)}, and (2,) is wanted", told)
-        self.assertIn("fun gave shape (2, 2)", self.refused(14, fun=lambda t, y: numpy.zeros((2, 2)), y0=[1.0] * 4))
+            self.assertIn(f"fun gave {numpy.size(wrong)} numbers, and 2 are wanted", told)
+        for shape in ((2, 2), (2, 1)):
+            told = self.refused(14, fun=lambda t, y: numpy.zeros(shape))  # noqa: B023
+            self.assertIn(f"fun gave an array of shape {shape}, and (2,) is wanted", told)
+        self.refused(14, fun=lambda t, y: numpy.zeros((2, 2)), y0=[1.0] * 4)
         for wrong in ([[1.0, 2.0]], [1.0, 2.0, 3.0, 4.0], numpy.zeros((3, 3)), scipy.sparse.eye(3)):
-            self.assertIn("jac gave shape", self.refused(14, jac=wrong))
+            self.assertIn("jac gave other than 2 rows of 2 numbers", self.refused(14, jac=wrong))
 
     def test_other_arguments(self):
         for given, told in (
@@ -339,11 +343,11 @@ class Fails(unittest.TestCase):
         with self.assertRaisesRegex(ValueError, "complex"):
             solve(swing, (0, 1), [1j, 0])
         for wrong in (numpy.array([1j, 0.0]), numpy.array([1.0, 0.0], dtype=complex), [1j, 0.0]):
-            with self.assertRaisesRegex(ValueError, "fun gave numbers of type complex128, and real ones are wanted"):
+            with self.assertRaisesRegex(ValueError, "what `fun` gave is complex"):
                 solve(lambda t, y: wrong, (0, 1), [1, 0])  # noqa: B023
-            with self.assertRaisesRegex(ValueError, "fun gave numbers of type complex128, and real ones are wanted"):
+            with self.assertRaisesRegex(ValueError, "what `fun` gave is complex"):
                 solve(lambda t, y: numpy.array(wrong)[:, None], (0, 1), [1, 0], vectorized=True)  # noqa: B023
-        with self.assertRaisesRegex(ValueError, "jac gave numbers of type complex128"):
+        with self.assertRaisesRegex(ValueError, "what `jac` gave is complex"):
             solve(swing, (0, 1), [1, 0], jac=[[0.0, 1j], [0.0, 0.0]])
 
 
@@ -365,8 +369,7 @@ class Steps(unittest.TestCase):
             self.assertEqual(solver.jacobian_cap, 19)
             counted, held = 1, []
             for place in range(1, len(times)):
-                self.assertEqual((solver.status, solver.nlu, solver.rejected), ("running", None, None))
-                self.assertEqual(solver.njev is None, jac is None)
+                self.assertEqual(solver.status, "running")
                 self.assertIsNone(solver.step())
                 self.assertEqual((solver.t_old, solver.t), (times[place - 1], times[place]))
                 self.assertEqual(solver.step_size, abs(solver.t - solver.t_old))
@@ -374,6 +377,8 @@ class Steps(unittest.TestCase):
                 self.assertLessEqual(solver.count, solver.cap)
                 counted += solver.count
                 self.assertEqual((solver.nfev, len(asked)), (counted, counted))
+                counts = solver._run.counts
+                self.assertEqual((counts.nfe, counts.nje, counts.nlu), (solver.nfev, solver.njev, solver.nlu))
                 held.append(solver.y)
             self.assertEqual((solver.status, solver.number, solver.end), ("finished", 110, "success"))
             self.assertEqual((solver.nfev, solver.njev, solver.nlu), (ended.nfe, ended.nje, ended.nlu))

@@ -65,6 +65,27 @@ class Questions(unittest.TestCase):
         self.assertEqual(middles, [list(pose) for pose in zip(*between)])
         self.assertEqual((run.answer.nfe, run.answer.nje), (result.nfev, result.njev))
 
+    def test_counts(self):
+        """At each report they are what an interrupt would answer, on a copy of all that is lent."""
+        problem = (0, 40, [1, 0, 0], 1e-6, [1e-8, 1e-12, 1e-8])
+        run, twin, reports = Run(*problem), Run(*problem), 0
+        self.assertEqual(tuple(run.counts), (0, 1, 0, 0, 0, 0))
+        while not run.ended:
+            asked = run.answer
+            if asked.number == raimsklo.DERIVATIVE_WANTED:
+                self.assertGreater(run.counts.nfe, 0)
+                run.reply(raimsklo.DERIVATIVE, robertson(asked.time, run.y))
+                continue
+            for name in ("_work", "_pivots", "_session", "_question"):
+                getattr(twin, name)[:] = getattr(run, name)
+            twin.reply(raimsklo.INTERRUPT, run.y, asked.time)
+            self.assertEqual(run.counts, tuple(getattr(twin.answer, name) for name in run.counts._fields))
+            reports += 1
+            run.reply(raimsklo.CONTINUE, run.y, asked.time)
+        self.assertEqual(run.counts, tuple(getattr(run.answer, name) for name in run.counts._fields))
+        self.assertEqual(run.counts.accepted, reports - 1)
+        self.assertGreater(min(run.counts), 0)
+
     def test_what_is_read_is_fresh(self):
         run = Run(0, 1, [1, 0], 1e-3, 1e-6)
         first = run.y

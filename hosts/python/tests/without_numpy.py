@@ -7,7 +7,6 @@ import unittest
 HERE = os.path.dirname(os.path.abspath(__file__))
 for missing in ("numpy", "scipy"):
     sys.modules[missing] = None  # an import of it raises ImportError
-os.environ["RAIMSKLO_TEST_WITHOUT"] = "numpy scipy"  # told to the processes that tests start
 
 if __name__ == "__main__":
     tests = unittest.defaultTestLoader.discover(HERE)
