@@ -1,8 +1,10 @@
 """The Python package beside scipy.integrate.solve_ivp(method="LSODA"): time for a call of fun, memory for a step.
 
+Ours are raimsklo.solve_ivp, and raimsklo.LSODA as a method of scipy's solve_ivp.
+
     bash hosts/python/build && /usr/bin/python3 bench/python.py [ROUNDS]
 
-It takes numpy and scipy: /usr/bin/python3 is Debian's, with its packages python3-numpy and python3-scipy. Both solvers
+It takes numpy and scipy: /usr/bin/python3 is Debian's, with its packages python3-numpy and python3-scipy. All of them
 get the same right side and tolerances, in alternating rounds of one process; of each the least time counts. A call's
 time is the processor's for the whole run, right side included, by that solver's own number of calls. Memory is what
 tracemalloc sees (Python's and numpy's, all that grows with a run) at its peak, less that before the run. Where numpy is
@@ -73,6 +75,11 @@ def ours(fun, span, y0, **more):
     return raimsklo.solve_ivp(fun, span, y0, max_steps=1000000, **more)
 
 
+def within(fun, span, y0, **more):
+    """Ours as a method of scipy's solve_ivp."""
+    return scipy_ivp(fun, span, y0, method=raimsklo.LSODA, max_steps=1000000, **more)
+
+
 def theirs(fun, span, y0, **more):
     return scipy_ivp(fun, span, y0, method="LSODA", **more)
 
@@ -99,7 +106,8 @@ def timed(solver, *given, **more):
 
 
 def times():
-    print(f"{'microseconds a call of fun':34}{'raimsklo':>10}{'scipy':>10}{'ratio':>8}")
+    solvers = (ours, within, theirs) if scipy_ivp else (ours,)
+    print(f"{'microseconds a call of fun':34}{'solve_ivp':>10}{'LSODA':>10}{'scipy':>10}{'ratios':>16}")
     for n in (2, 64):
         pose = [1.0] * (n // 2) + [0.0] * (n // 2)
         for family, fun, span in (
@@ -108,11 +116,10 @@ def times():
             ("BDF", drawn(n), (0.0, 4.0)),
         ):
             more = dict(rtol=1e-5, atol=1e-8)
-            solvers = (ours, theirs) if scipy_ivp else (ours,)
             rounds = [[timed(solver, fun, span, pose, **more) for solver in solvers] for _ in range(ROUNDS)]
             least = [min(took) / called(s, fun, span, pose, **more) for s, took in zip(solvers, zip(*rounds))]
-            ratio = f"{least[0] / least[1]:8.2f}" if scipy_ivp else ""
-            print(f"{f'n = {n}, {family}':34}" + "".join(f"{1e6 * took:10.2f}" for took in least) + ratio)
+            ratios = "".join(f"{took / least[-1]:8.2f}" for took in least[:-1])
+            print(f"{f'n = {n}, {family}':34}" + "".join(f"{1e6 * took:10.2f}" for took in least) + ratios)
 
 
 def grown(solver, fun, span, y0, **more):
