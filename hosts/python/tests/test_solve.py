@@ -7,7 +7,7 @@ import unittest
 
 sys.path.insert(0, os.path.join(os.path.dirname(os.path.abspath(__file__)), ".."))
 
-from raimsklo import Refused, Run, solve_ivp  # noqa: E402
+from raimsklo import Refused, Run, interpolate, solve_ivp  # noqa: E402
 from raimsklo.library import LIBRARY  # noqa: E402
 
 
@@ -59,6 +59,18 @@ class Solves(unittest.TestCase):
         self.assertAlmostEqual(backward.y[0][1], math.cos(2), delta=1e-4)
         with self.assertRaises(ValueError):
             solve_ivp(swing, (0, 10), [1, 0], t_eval=[11])
+
+    def test_the_start_is_its_pose_itself(self):
+        """The first step's interpolation comes to another pose there, by a rounding."""
+        start, span = [0.13436424411240122, 0.8474337369372327], (0.3, 5.0)
+        steps = solve_ivp(swing, span, start, dense_output=True)
+        sol = steps.sol
+        self.assertNotEqual(list(interpolate(0.3, sol._snapshots[: sol._places[1]], 2)), start)
+        self.assertEqual(list(sol(0.3)), start)
+        self.assertEqual([row[0] for row in sol([0.3, 1.0])], start)
+        framed = solve_ivp(swing, span, start, t_eval=[0.3, 1.0])
+        self.assertEqual([row[0] for row in framed.y], start)
+        self.assertEqual([row[1] for row in framed.y], list(sol(1.0)))
 
     def test_dense_output(self):
         sol = solve_ivp(swing, (0, 10), [1, 0], dense_output=True, rtol=1e-8, atol=1e-10).sol
