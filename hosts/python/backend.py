@@ -1,7 +1,7 @@
 """The build backend that pip calls: setuptools' where it can make wheels, otherwise the same wheel by Python alone.
 
-So that an install fetches nothing, wherever it is made: the wheel is the package's files, the shared library among them,
-and four files about them. An editable wheel has, in place of the package, one line with the path to this folder.
+So that an install fetches nothing, wherever it is made: the wheel is the package's files, the shared library among
+them, and four files about them. An editable wheel has, in place of the package, one line with the path to this folder.
 """
 
 import base64

@@ -1,4 +1,4 @@
-"""The wheel, an editable wheel and pip's install: what is installed carries the library and runs away from the source."""
+"""The wheel, an editable wheel, pip's install: what is installed carries the library and runs away from the source."""
 
 import importlib.util
 import os

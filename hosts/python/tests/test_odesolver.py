@@ -13,6 +13,7 @@ sys.path.insert(0, PACKAGE)
 
 from raimsklo import run as calls  # noqa: E402
 from raimsklo.library import LIBRARY  # noqa: E402
+from test_solve import robertson, robertson_jac, swing, van_der_pol  # noqa: E402
 
 try:
     import numpy
@@ -24,30 +25,7 @@ try:
 except ImportError:
     scipy_solver, OdeSolver = None, object
 
-
-def swing(t, y):
-    return [y[1], -y[0]]
-
-
-def van_der_pol(t, y):
-    return [y[1], 1000.0 * (1.0 - y[0] * y[0]) * y[1] - y[0]]
-
-
-def robertson(t, y):
-    a, b, c = y
-    return [-0.04 * a + 1e4 * b * c, 0.04 * a - 1e4 * b * c - 3e7 * b * b, 3e7 * b * b]
-
-
 TIGHT = dict(rtol=1e-6, atol=[1e-8, 1e-12, 1e-8], max_steps=5000)  # for Robertson's problem
-
-
-def robertson_jac(t, y):
-    a, b, c = y
-    return [
-        [-0.04, 1e4 * c, 1e4 * b],
-        [0.04, -1e4 * c - 6e7 * b, -1e4 * b],
-        [0.0, 6e7 * b, 0.0],
-    ]
 
 
 def solve(fun, span, y0, **given):
