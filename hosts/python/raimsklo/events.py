@@ -11,18 +11,21 @@ As with scipy's, several passages within one step may cancel out unseen, and a v
 step counts in that step and, if the next one leads on or back from there, in the next one too.
 """
 
+from __future__ import annotations
+
 from math import inf
+from typing import Any, Callable, List, Optional, Tuple
 
 try:
     import numpy
 except ImportError:
-    numpy = None
+    numpy = None  # type: ignore[assignment]
 
 _TOLERANCE = 4 * 2.0**-52  # absolute and relative, as scipy takes them for events
 _ITERATIONS = 100
 
 
-def brent(f, a, b, fa, fb):
+def brent(f: Callable[[float], float], a: float, b: float, fa: float, fb: float) -> float:
     """A zero of f between a and b, where it is fa and fb: of unlike signs, or 0 (then that end is the zero).
 
     Brent's method (Algorithms for Minimization without Derivatives, 1973, chapter 4). `a` may be above b. The zero is
@@ -76,12 +79,12 @@ def brent(f, a, b, fa, fb):
     raise RuntimeError(f"no zero within {_ITERATIONS} iterations; the last guess is {b!r}")
 
 
-def _copy(pose):
+def _copy(pose: Any) -> Any:
     """The pose as its receiver may keep it or write to it."""
     return list(pose) if numpy is None else numpy.array(pose, dtype=float)
 
 
-def _number(value, name):
+def _number(value: Any, name: str) -> float:
     """The number that the event of this name gave."""
     if numpy is not None and isinstance(value, (numpy.ndarray, numpy.generic)):
         if value.size != 1:
@@ -99,16 +102,17 @@ def _number(value, name):
 class _Event:
     """One event: its function and attributes, its value at the end of the last step, and its occurrences."""
 
-    def __init__(self, function, name):
+    def __init__(self, function: Callable[..., Any], name: str) -> None:
         if not callable(function):
             raise TypeError(f"{name} is not callable: {function!r}")
         self.function, self.name = function, name
         self.limit = self._limit(getattr(function, "terminal", None))
         self.direction = self._direction(getattr(function, "direction", 0))
-        self.value = None
-        self.times, self.poses = [], []
+        self.value = 0.0
+        self.times: List[float] = []
+        self.poses: List[Any] = []
 
-    def _limit(self, terminal):
+    def _limit(self, terminal: Any) -> float:
         """The occurrence at which the run stops."""
         if terminal is None:
             return inf
@@ -120,7 +124,7 @@ class _Event:
             raise ValueError(f"`terminal` of {self.name} must be a boolean or a positive integer, not {terminal!r}")
         return whole or inf
 
-    def _direction(self, direction):
+    def _direction(self, direction: Any) -> float:
         try:
             direction = float(direction)
         except (TypeError, ValueError):
@@ -129,7 +133,7 @@ class _Event:
             raise ValueError(f"`direction` of {self.name} must be a number: above 0, below 0 or 0")
         return direction
 
-    def passes(self, before, after):
+    def passes(self, before: float, after: float) -> bool:
         """Whether a step from the value `before` to `after` has an occurrence; a NaN has no sign."""
         up, down = before <= 0.0 <= after, before >= 0.0 >= after
         return up and self.direction >= 0.0 or down and self.direction <= 0.0
@@ -142,7 +146,7 @@ class Events:
     start's pose here, and at each step's end; each call gets a pose of its own.
     """
 
-    def __init__(self, events, args, t0, y0):
+    def __init__(self, events: Any, args: Any, t0: float, y0: Any) -> None:
         if callable(events):
             events = (events,)
         self._events = [_Event(function, f"events[{place}]") for place, function in enumerate(events)]
@@ -150,10 +154,12 @@ class Events:
         for event in self._events:
             event.value = self._value(event, t0, y0)
 
-    def _value(self, event, t, y):
+    def _value(self, event: _Event, t: float, y: Any) -> float:
         return _number(event.function(t, _copy(y), *self._args), event.name)
 
-    def after_step(self, previous, t, y, pose_at):
+    def after_step(
+        self, previous: float, t: float, y: Any, pose_at: Callable[[float], Any]
+    ) -> Optional[Tuple[float, Any]]:
         """Takes note of what occurred in an accepted step from `previous` to `t`, with the pose y at t.
 
         pose_at(time) gives the pose at a time within the step. Answers None, or (time, pose) where a terminal event
@@ -174,14 +180,16 @@ class Events:
                 return time, _copy(pose)
         return None
 
-    def _root(self, event, previous, t, before, pose_at):
+    def _root(
+        self, event: _Event, previous: float, t: float, before: float, pose_at: Callable[[float], Any]
+    ) -> float:
         """The time of the occurrence.
 
         The values at the step's ends are those of the accepted poses, so that the signs differ: the interpolation
         may come to another pose at the step's beginning, by a rounding or where the order has changed.
         """
 
-        def value(time):
+        def value(time: float) -> float:
             found = self._value(event, time, pose_at(time))
             if found != found:
                 raise ValueError(f"{event.name} gave NaN at {time!r}, where its passage through 0 is sought")
@@ -190,15 +198,15 @@ class Events:
         return brent(value, previous, t, before, event.value)
 
     @property
-    def t_events(self):
+    def t_events(self) -> List[Any]:
         """The times of each event's occurrences."""
         return [_array(event.times) for event in self._events]
 
     @property
-    def y_events(self):
+    def y_events(self) -> List[Any]:
         """The poses at them."""
         return [_array(event.poses) for event in self._events]
 
 
-def _array(numbers):
+def _array(numbers: List[Any]) -> Any:
     return list(numbers) if numpy is None else numpy.array(numbers, dtype=float)
