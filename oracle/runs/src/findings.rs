@@ -1,4 +1,4 @@
-//! Two runs that end as no one would expect, kept so that it stays known: docs/DIFFERENCES.md. Both sides make them,
+//! Three runs that end as no one would expect, kept so that it stays known: docs/DIFFERENCES.md. Both sides make them,
 //! every event is compared, and the end must be the one that was found. It is printed with the last pose.
 
 use crate::calls::{self, number};
@@ -13,6 +13,7 @@ use crate::{ours, theirs};
 pub fn compare(report: &mut Report) {
     robertson(report);
     relaxed(report);
+    constant(report);
 }
 
 /// Robertson's problem to 4e10, with the tolerances of ODEPACK's example: a success far from every concentration.
@@ -50,6 +51,21 @@ fn relaxed(report: &mut Report) {
     finding(report, "y' = -1e4(y - 1) from 1 + 1e-12 to 10", &problem, |end, _| {
         end.steps[1] == 199_982 && end.evaluations[1] == 0
     });
+}
+
+/// Where the error is 0 each order choice reaches SM1 and is held: the step stays as small as it began.
+fn constant(report: &mut Report) {
+    let problem = Problem {
+        x0: 0.0,
+        xend: 1.0,
+        y0: vec![0.0],
+        rtol: vec![1.0e-3],
+        atol: vec![1.0e-6],
+        options: calls::defaults(),
+        side: Side::steady(Shape::Constant(1.0)),
+        host: Host::Plain,
+    };
+    finding(report, "y' = 1 from 0 to 1", &problem, |end, _| end.steps == [31_623, 31_623, 0]);
 }
 
 fn finding(report: &mut Report, name: &str, problem: &Problem, as_found: impl Fn(&End, &[f64]) -> bool) {
