@@ -154,8 +154,28 @@ def memory():
         print(f"{f'{told}, bytes more a step':34}{a:10.0f}{b:10.0f}")
 
 
+def smooth():
+    """Derivatives, and the error at the end against the exact solution, where ODEPACK's order rises and ours cannot."""
+    problems = {
+        "y'' = -y to 10": (lambda t, y: [y[1], -y[0]], [1.0, 0.0], [math.cos(10.0), -math.sin(10.0)]),
+        "y' = -y to 10": (lambda t, y: [-y[0]], [1.0], [math.exp(-10.0)]),
+    }
+    print(f"\n{'derivatives, error at the end':34}{'raimsklo':>18}{'scipy':>18}{'ratios':>16}")
+    for told, (fun, y0, exact) in problems.items():
+        for rtol in (1e-4, 1e-6, 1e-8, 1e-10):
+            made = []
+            for solver in (ours, theirs):
+                result = solver(fun, (0.0, 10.0), y0, rtol=rtol, atol=rtol / 1000)
+                assert result.success, result.message
+                made.append((result.nfev, max(abs(y[-1] - z) / abs(z) for y, z in zip(result.y, exact))))
+            (f, error), (their_f, their_error) = made
+            cells = "".join(f"{calls:9,}{wrong:9.1e}" for calls, wrong in made)
+            print(f"{f'{told}, rtol {rtol:.0e}':34}{cells}{f / their_f:8.1f}{error / their_error:8.0f}")
+
+
 if __name__ == "__main__":
     print(f"Python {sys.version.split()[0]}, numpy {numpy and numpy.__version__}, rounds: {ROUNDS}")
     times()
     if scipy_ivp is not None:
         memory()
+        smooth()

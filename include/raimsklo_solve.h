@@ -49,8 +49,8 @@
  * Equal ends, x0 == xend, are a success with no step: all else is checked as ever, and one derivative is asked for.
  *
  * Memory: RAIMSKLO_SOLVE_LENGTH(n) doubles or more, that hold anything and overlap nothing else; fewer are refused (3).
- * The call takes about 2 KB of the stack beside them. raimsklo_solve_alloc takes them from malloc; where there is none,
- * define RAIMSKLO_NO_MALLOC before the header.
+ * The call takes about 10 KB of the stack beside them, the library's part included. raimsklo_solve_alloc takes them
+ * from malloc; where there is none, define RAIMSKLO_NO_MALLOC before the header.
  */
 #ifndef RAIMSKLO_SOLVE_H
 #define RAIMSKLO_SOLVE_H

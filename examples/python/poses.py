@@ -35,7 +35,7 @@ def frames(rig, result):
     for k in range(number_at(rig.seconds) + 1):
         if k / RATE > end + 1e-9:
             break
-        t = min(k / RATE, end)  # the last step may end a rounding before the end that was asked for
+        t = min(k / RATE, end)  # the last step's end may differ from the one asked for by a rounding
         state = [float(v) for v in result.sol(t)]
         if not all(map(math.isfinite, state)):
             break

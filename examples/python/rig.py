@@ -69,14 +69,13 @@ def print_poses(show, found):
 
 
 def print_counts(result):
-    """The caps are proved, but for the number of steps, which is a setting."""
-    begun = result.accepted + (0 if result.success else 1)
+    """All caps are known beforehand: those of a step are proved, the number of steps is a setting."""
     print(f"  {'count':24}{'seen':>10}{'at most':>14}")
     for what, seen, cap in (
         ("steps", result.accepted, MAX_STEPS),
         ("derivatives in a step", max(result.counts, default=0), result.cap),
-        ("derivatives", result.nfev, 1 + begun * result.cap),
-        ("Jacobians", result.njev, begun * result.jacobian_cap),
+        ("derivatives", result.nfev, 1 + MAX_STEPS * result.cap),
+        ("Jacobians", result.njev, MAX_STEPS * result.jacobian_cap),
     ):
         print(f"  {what:24}{seen:10,}{cap:14,}")
 

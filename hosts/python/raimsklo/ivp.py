@@ -82,7 +82,8 @@ def solve_ivp(
         Largest orders of the Adams and the BDF family, corrector iterations, steps between Jacobian checks, and
         convergence failures that end a step.
     report : callable, optional
-        ``report(previous, t, y, count)`` is called after each accepted step; true interrupts the run.
+        ``report(previous, t, y, count)`` is called after each accepted step; true interrupts the run, whose end is
+        then "interrupted", with status -1.
     tolerances : "step" or "answer"
         With "answer" the tolerances are asked of the poses handed out: the run is made again with tighter ones until it
         repeats itself within those asked. There are no events and no report then.

@@ -40,7 +40,7 @@ class Result(dict):
     accepted, rejected, steps_total : int
         Steps, as the library counts them.
     h : float
-        The last step's size.
+        The size at which the next step would have been tried.
     counts : list of int
         Derivatives requested in each accepted step; empty with `t_eval`.
     largest_count : int

@@ -81,7 +81,7 @@ pub struct Finished {
     pub time: f64,
     /// The first time at which a pose that was handed out, the start's included, has a NaN or an infinity.
     pub nonfinite_at: Option<f64>,
-    /// The last step size.
+    /// The size at which the next step would have been tried.
     pub h: f64,
     /// Derivatives, those of difference Jacobians included.
     pub nfe: usize,

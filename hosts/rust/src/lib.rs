@@ -55,6 +55,34 @@ impl Default for Options {
     }
 }
 
+macro_rules! settings {
+    ($($(#[$told:meta])* $name:ident),*) => {
+        /// The settings one after the other: `Options::default().max_steps(5_000).mxncf(3)`. They are fields too.
+        impl Options {$(
+            $(#[$told])*
+            #[must_use]
+            pub fn $name(self, $name: usize) -> Self {
+                Options { $name, ..self }
+            }
+        )*}
+    };
+}
+
+settings! {
+    /// Gives the largest number of accepted steps.
+    max_steps,
+    /// Gives the largest Adams order.
+    mxordn,
+    /// Gives the largest BDF order.
+    mxords,
+    /// Gives the largest number of corrector iterations.
+    maxcor,
+    /// Gives the steps between Jacobian checks.
+    msbp,
+    /// Gives the convergence failures in a step that end it.
+    mxncf
+}
+
 impl Options {
     /// Gives the largest step; its sign does not matter. Without one it is the interval.
     #[must_use]

@@ -124,6 +124,8 @@ fn options_say_what_they_were_given() {
     let told = (given.given_max_step(), given.given_min_step(), given.given_first_step());
     assert_eq!(told, (Some(2.0), Some(0.5), Some(-1.0)));
     assert_ne!(given, options);
+    let set = options.max_steps(1).mxordn(2).mxords(3).maxcor(4).msbp(5).mxncf(6);
+    assert_eq!((set.max_steps, set.mxordn, set.mxords, set.maxcor, set.msbp, set.mxncf), (1, 2, 3, 4, 5, 6));
 
     // a first step has the direction of time
     let y0 = [10f64.cos(), -10f64.sin()];
