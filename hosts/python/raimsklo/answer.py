@@ -34,8 +34,9 @@ def _apart(result: Result, before: Result, rtol: Sequence[float], atol: Sequence
                 difference /= allowed
             elif difference > 0.0:
                 difference = float("inf")
-            if not difference <= largest:  # so that a NaN stays
-                largest = difference
+            if difference != difference:  # what is not a number is not within any tolerance
+                return difference
+            largest = max(largest, difference)
     return largest
 
 

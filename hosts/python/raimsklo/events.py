@@ -22,14 +22,15 @@ except ImportError:
     numpy = None  # type: ignore[assignment]
 
 _TOLERANCE = 4 * 2.0**-52  # absolute and relative, as scipy takes them for events
-_ITERATIONS = 100
+_ITERATIONS = 100  # as many as scipy's, which then gives up
 
 
 def brent(f: Callable[[float], float], a: float, b: float, fa: float, fb: float) -> float:
     """A zero of f between a and b, where it is fa and fb: of unlike signs, or 0 (then that end is the zero).
 
     Brent's method (Algorithms for Minimization without Derivatives, 1973, chapter 4). `a` may be above b. The zero is
-    within 4*2^-52*(1 + |zero|), or f jumps over 0 there.
+    within 4*2^-52*(1 + |zero|), or f jumps over 0 there. Where f is so flat that its steps do not shrink, bisection ends
+    the search.
     """
     if fa == 0.0:
         return a
@@ -76,7 +77,16 @@ def brent(f: Callable[[float], float], a: float, b: float, fa: float, fb: float)
         if (fb > 0.0) == (fc > 0.0):
             c, fc = a, fa
             step = before = b - a
-    raise RuntimeError(f"no zero within {_ITERATIONS} iterations; the last guess is {b!r}")
+    while abs(c - b) >= _TOLERANCE * (1.0 + abs(b)):
+        middle = b + 0.5 * (c - b)
+        value = f(middle)
+        if value == 0.0:
+            return middle
+        if (value > 0.0) == (fc > 0.0):
+            c, fc = middle, value
+        else:
+            b = middle
+    return b
 
 
 def _copy(pose: Any) -> Any:

@@ -8,6 +8,7 @@ from __future__ import annotations
 
 import operator
 from array import array
+from collections.abc import Mapping, Set
 from numbers import Complex, Real
 from typing import Any, Tuple
 
@@ -82,9 +83,16 @@ def _real_array(values: Any, what: str) -> Any:
     return numpy.array([number(value, what) for value in values.ravel()], dtype=float).reshape(values.shape)
 
 
+def _listed(values: Any, what: str) -> list:
+    """A list of what is given in an order; a dict or a set has none."""
+    if isinstance(values, (Mapping, Set)):
+        raise TypeError(f"{what} is {values!r}, and a list of numbers is wanted")
+    return list(values)
+
+
 def _entries(values: Any, what: str, nested: ValueError) -> array:
     """The same without numpy, of one dimension; what is raised for more is given."""
-    values = [values] if scalar(values) else list(values)
+    values = [values] if scalar(values) else _listed(values, what)
     if not all(map(scalar, values)):
         raise nested
     return array("d", [number(value, what) for value in values])
@@ -122,8 +130,8 @@ def by_columns(jacobian: Any, n: int) -> array:
     if numpy is None:
         if hasattr(jacobian, "toarray"):
             jacobian = jacobian.toarray()
-        rows = [jacobian] if scalar(jacobian) else list(jacobian)
-        rows = [[row] if scalar(row) else list(row) for row in rows]
+        rows = [jacobian] if scalar(jacobian) else _listed(jacobian, what)
+        rows = [[row] if scalar(row) else _listed(row, what) for row in rows]
         if len(rows) != n or any(len(row) != n for row in rows):
             raise wrong
         return array("d", [number(rows[i][j], what) for j in range(n) for i in range(n)])

@@ -82,8 +82,8 @@ def solve_ivp(
         Largest orders of the Adams and the BDF family, corrector iterations, steps between Jacobian checks, and
         convergence failures that end a step.
     report : callable, optional
-        ``report(previous, t, y, count)`` is called after each accepted step; true interrupts the run, whose end is
-        then "interrupted", with status -1.
+        ``report(previous, t, y, count)`` is called after each accepted step; anything true interrupts the run, whose
+        end is then "interrupted", with status -1.
     tolerances : "step" or "answer"
         With "answer" the tolerances are asked of the poses handed out: the run is made again with tighter ones until it
         repeats itself within those asked. There are no events and no report then.
@@ -206,6 +206,7 @@ class _Kept:
         self.sol = DenseOutput(run.n, t0, y0, self.sign) if dense else None
         self.times, self.poses, self.counts = array("d"), array("d"), []
         self.largest_count, self.order, self.stopped = 0, 0, False
+        self.began = (t0, y0)  # time and pose at the beginning of the step under way, where there are events
         self.nonfinite_at = None if all(map(math.isfinite, y0)) else t0
         here = 1 if t_eval is None else t_eval.count(t0)  # the start's pose itself, not one of the first step's
         self.times.extend([t0] * here)
@@ -242,7 +243,10 @@ class _Kept:
             self.largest_count = count
         if self.sol is not None:
             self.sol._add(t, buffers.snapshot(self.order))
-        end = None if self.events is None else self.events.after_step(asked.previous, t, buffers.state(), self.pose_at)
+        end = None
+        if self.events is not None:
+            end = self.events.after_step(asked.previous, t, buffers.state(), self.pose_at)
+            self.began = (t, array("d", bytes(buffers.y)))
         if self.t_eval is not None:
             self.between(t if end is None else end[0])
         else:
@@ -259,8 +263,11 @@ class _Kept:
         return bool(interrupted) or self.stopped
 
     def pose_at(self, t: float) -> Any:
-        """The pose at a time within the step that was reported last."""
-        return given.copied(self.buffers.interpolate(given.number(t, "`t`"), self.order))
+        """The pose at a time within the step that was reported last; at its ends the accepted poses themselves."""
+        t, (began, pose) = given.number(t, "`t`"), self.began
+        if t == began:
+            return given.copied(memoryview(pose).cast("B"))
+        return given.copied(self.buffers.interpolate(t, self.order))
 
     def stop(self, time: float, pose: Any) -> None:
         """A terminal event ends the run here; this pose is the last that is handed out."""

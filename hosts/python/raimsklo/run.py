@@ -6,7 +6,7 @@ import math
 from array import array
 from collections import namedtuple
 from ctypes import byref, c_double, c_size_t, c_uint8
-from struct import Struct
+from struct import Struct, error
 from typing import Any, Callable, Optional
 
 from . import given
@@ -95,6 +95,7 @@ class Run:
 
     answer: Answer
     n: int
+    _refused = False  # by 11 or 12, in a reply
 
     def __init__(
         self, x0: float, xend: float, y0: Any, rtol: Any, atol: Any, options: Optional[Options] = None
@@ -119,6 +120,8 @@ class Run:
 
     def _take(self, answer: Answer) -> None:
         if answer.number < DERIVATIVE_WANTED:
+            # 11 and 12 have ended the run; the others, 14 after that among them, have changed nothing
+            self._refused = self._refused or answer.number in (11, 12)
             raise Refused(answer.number, answer.index, answer.value)
         self.answer = answer
 
@@ -135,6 +138,8 @@ class Run:
         time : float
             Of use after a report alone.
         """
+        if self.n == 0:  # it has ended, and has no session that would say so
+            raise Refused(14)
         numbers, time = given.vector(numbers, "what a reply gave"), given.number(time, "`time`")
         self._take(reply(size(kind), pointer(numbers), size(len(numbers)), time_of(time), *self._lent))
 
@@ -146,12 +151,15 @@ class Run:
 
     @property
     def ended(self) -> bool:
-        """Whether the run has ended."""
-        return self.answer.number >= SUCCESS
+        """Whether the run has ended, by its name or by refusal 11 or 12 of a reply."""
+        return self.answer.number >= SUCCESS or self._refused
 
     @property
     def y(self) -> Any:
-        """The pose that the answer is about, a fresh array or list."""
+        """The pose that the answer is about, a fresh array or list.
+
+        After an early end or a refusal it may be one that was not accepted: the last report had the last that was.
+        """
         return given.copied(self._octets[: DOUBLE * self.n])
 
     @property
@@ -246,9 +254,12 @@ class Buffers:
 
         def put_list(f: Any) -> None:
             if (type(f) is list or type(f) is tuple) and len(f) == n and plain(map(type, f)):
-                pack(numbers, 0, *f)
-            else:
-                octets[:] = memoryview(slow(f, n)).cast("B")
+                try:
+                    pack(numbers, 0, *f)
+                    return
+                except error:  # a whole number beyond the doubles
+                    pass
+            octets[:] = memoryview(slow(f, n)).cast("B")
 
         if numpy is None:
             y, between = self.y.cast("d"), self.between.cast("d")

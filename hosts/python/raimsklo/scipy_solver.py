@@ -186,8 +186,9 @@ class LSODA(OdeSolver):
     @property
     def number(self) -> int | None:
         """The library's number of the end of the run."""
-        if self._run.ended:
-            return self._run.answer.number
+        number = self._run.answer.number
+        if number >= SUCCESS:
+            return number
         return SUCCESS if self.status == "finished" else None  # an interval without length: scipy takes no step
 
     @property
@@ -209,7 +210,9 @@ class LSODA(OdeSolver):
                     put(fun(asked.time, state()))
                     asked = reply(*derivative)
                     continue
-                run._take(asked)  # a refusal raises
+                if number < wanted:  # refused: 11 or 12, which end the run
+                    self.status = "failed"
+                run._take(asked)
                 if number == calls.REPORT:
                     return self._take_report(asked)
                 elif number == calls.JACOBIAN_WANTED:
@@ -219,11 +222,9 @@ class LSODA(OdeSolver):
                     asked = buffers.reported(calls.CONTINUE, asked.time)
                 else:
                     return False, message(number)
-        except calls.Refused:
-            self.status = "failed"
-            raise
-        except BaseException:  # of `fun`, or of who interrupts: the question stands
-            run.answer = asked
+        except BaseException:  # of `fun`, of what it gave or of who interrupts: the question stands
+            if asked.number >= wanted:
+                run.answer = asked
             raise
 
     def _take_report(self, asked: Any) -> tuple[bool, str | None]:

@@ -40,6 +40,26 @@ def poses(result):
     return [list(row) for row in result.y]
 
 
+class Unordered(unittest.TestCase):
+    """A dict or a set is no list of numbers, and a whole number may be beyond the doubles."""
+
+    def test_refused(self):
+        for unordered in ({3.0: 1.0}, {3.0}, frozenset([3.0])):
+            for given in (
+                dict(fun=lambda t, y: unordered),  # noqa: B023
+                dict(y0=unordered),
+                dict(t_eval=unordered),
+                dict(rtol=unordered),
+                dict(jac=unordered),
+                dict(jac=[unordered]),
+            ):
+                with self.assertRaises(TypeError):
+                    solve_ivp(**dict(dict(fun=decay, t_span=(0, 4), y0=[1.0]), **given))
+        for given in (dict(fun=lambda t, y: [10**400]), dict(y0=[10**400]), dict(rtol=10**400)):
+            with self.assertRaises(OverflowError):
+                solve_ivp(**dict(dict(fun=decay, t_span=(0, 4), y0=[1.0]), **given))
+
+
 class Complex(unittest.TestCase):
     """A complex number is refused wherever it comes, and never cut to its real part."""
 

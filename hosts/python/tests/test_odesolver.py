@@ -447,10 +447,19 @@ class Steps(unittest.TestCase):
             except RuntimeError:
                 raised += 1
         self.assertEqual((raised, solver.t, solver.y.tolist()), (1, times[-1], poses[-1]))
-        solver = LSODA(lambda t, y: [0.0], 0.0, [1, 0], 3.0)
+        # what `fun` gave is refused, and the step can be asked for again; a refusal of the library's ends the run
+        wrong = [[0.0], [0.0, 1j], [10**400, 0.0]]
+        solver = LSODA(lambda t, y: wrong.pop() if wrong else swing(t, y), 0.0, [1, 0], 3.0)
+        for kind in (OverflowError, ValueError, calls.Refused):
+            with self.assertRaises(kind):
+                solver.step()
+        while solver.status == "running":
+            solver.step()
+        self.assertEqual((solver.status, solver.y.tolist()), ("finished", poses[-1]))
+        solver = LSODA(swing, 0.0, [1, 0], 3.0, rtol=0.0, atol=[1.0, 0.0])
         with self.assertRaises(calls.Refused):
             solver.step()
-        self.assertEqual(solver.status, "failed")
+        self.assertEqual((solver.status, solver.number), ("failed", None))
 
     def test_defaults_are_the_librarys(self):
         options = LIBRARY.raimsklo_defaults()

@@ -65,6 +65,25 @@ class Questions(unittest.TestCase):
         self.assertEqual(middles, [list(pose) for pose in zip(*between)])
         self.assertEqual((run.answer.nfe, run.answer.nje), (result.nfev, result.njev))
 
+    def test_ended_by_a_refusal(self):
+        """11 and 12 in a reply end the run; another refusal changes nothing."""
+        for problem, number in ((([1, 0], 0.0, [1.0, 0.0]), 12), (([1, 0], 1e-3, 1e-6), 11)):
+            run = Run(1, 2 if number == 12 else 1, *problem)
+            for kind, given, refused in (
+                (raimsklo.CONTINUE, run.y, 14),
+                (raimsklo.DERIVATIVE, [0.0, -1.0], number),
+                (raimsklo.DERIVATIVE, [0.0, -1.0], 14),
+            ):
+                self.assertFalse(run.ended and refused != 14)
+                with self.assertRaises(Refused) as caught:
+                    run.reply(kind, given)
+                self.assertEqual(caught.exception.number, refused)
+            self.assertTrue(run.ended)
+        nothing = Run(0, 1, [], 1e-3, 1e-6)
+        with self.assertRaises(Refused) as caught:
+            nothing.reply(raimsklo.CONTINUE, [])
+        self.assertEqual((nothing.ended, caught.exception.number), (True, 14))
+
     def test_counts(self):
         """At each report they are what an interrupt would answer, on a copy of all that is lent."""
         problem = (0, 40, [1, 0, 0], 1e-6, [1e-8, 1e-12, 1e-8])

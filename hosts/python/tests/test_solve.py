@@ -163,6 +163,21 @@ class Answers(unittest.TestCase):
         wild = solve_ivp(lambda t, y: [float("nan")], (0, 1), [0.0], tolerances="answer", first_step=0.5)
         self.assertEqual((wild.success, len(wild.t), wild.runs), (False, 0, 16))
 
+    def test_a_run_that_is_not_finite_repeats_none(self):
+        """The second state is the same in every run, the first a NaN in the first run alone."""
+        runs = [0]
+
+        def fun(t, y):
+            runs[0] += t == 0.0
+            return [math.nan if runs[0] == 1 and t > 0.0 else 1e3 * math.cos(40.0 * t), 1.0]
+
+        asked = dict(rtol=0.0, atol=1.0, t_eval=[0.5, 1.0], tolerances="answer", first_step=0.01)
+        result = solve_ivp(fun, (0, 1), [0.0, 0.0], **asked)
+        self.assertTrue(result.success)
+        self.assertGreater(result.runs, 2)
+        for t, y in zip(result.t, result.y[0]):
+            self.assertAlmostEqual(y, 25.0 * math.sin(40.0 * t), delta=1.0)
+
     def test_arguments(self):
         with self.assertRaises(ValueError):
             solve_ivp(swing, (0, 1), [1, 0], tolerances="both")

@@ -38,6 +38,24 @@ class Events(unittest.TestCase):
         result = solve_ivp(swing, (0, 10), [1, 0])
         self.assertEqual((result.t_events, result.y_events), (None, None))
 
+    def test_poses_at_the_ends_of_a_step(self):
+        """They are the accepted ones, at the beginning too, where the interpolation may be of another order."""
+        result = solve_ivp(swing, (0, 10), [1, 0], events=made(lambda t, y: float(t > 4)), dense_output=True)
+        accepted = {float(t): [float(row[k]) for row in result.y] for k, t in enumerate(result.t)}
+        self.assertGreater(len(result.t_events[0]), 0)
+        for t, pose in zip(result.t_events[0], result.y_events[0]):
+            if float(t) in accepted:
+                self.assertEqual(list(pose), accepted[float(t)])
+        self.assertTrue(any(float(t) in accepted for t in result.t_events[0]))
+        stopped = solve_ivp(swing, (20, 0), [1, 0], events=made(lambda t, y: y[1], terminal=True))
+        self.assertEqual((list(stopped.t), poses(stopped)), ([20.0, 20.0], [[1.0, 1.0], [0.0, 0.0]]))
+
+    def test_a_flat_zero(self):
+        for power in (3, 11, 21):
+            result = solve_ivp(swing, (0, 2), [1, 0], events=made(lambda t, y: y[0] ** power), **TIGHT)  # noqa: B023
+            self.assertEqual(len(result.t_events[0]), 1)
+            self.assertAlmostEqual(float(result.t_events[0][0]), 0.5 * math.pi, delta=1e-4)
+
     def test_found(self):
         plain = solve_ivp(swing, (0, 10), [1, 0], **TIGHT)
         for more in ({}, dict(t_eval=[1, 2]), dict(dense_output=True)):
