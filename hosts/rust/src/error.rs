@@ -13,6 +13,13 @@ pub enum Error<E = Infallible> {
     /// The problem was refused; or, in the midst of a run, a weight that came to be at most 0 (12), which has ended
     /// it, or a modified pose of another length (14).
     Refused(Refused),
+    /// A tolerance is NaN, which the library takes: its state would have no error control. Nothing was asked for.
+    NanTolerance {
+        /// Which tolerances: "rtol" or "atol".
+        list: &'static str,
+        /// The entry.
+        index: usize,
+    },
     /// The run ended early, by its name (112 to 115), or a pose that was handed out is not finite.
     Ended(Finished),
     /// The error of the derivative, the Jacobian or the report, as it was.
@@ -24,7 +31,7 @@ impl<E> Error<E> {
     pub fn finished(&self) -> Option<&Finished> {
         match self {
             Error::Ended(finished) => Some(finished),
-            Error::Refused(_) | Error::Host(_) => None,
+            _ => None,
         }
     }
 
@@ -46,6 +53,7 @@ impl<E> Error<E> {
     {
         match self {
             Error::Refused(refused) => refused.into(),
+            Error::NanTolerance { list, index } => Box::new(Error::<Infallible>::NanTolerance { list, index }),
             Error::Ended(finished) => Box::new(Error::<Infallible>::Ended(finished)),
             Error::Host(error) => error.into(),
         }
@@ -56,6 +64,7 @@ impl<E: fmt::Display> fmt::Display for Error<E> {
     fn fmt(&self, f: &mut fmt::Formatter<'_>) -> fmt::Result {
         match self {
             Error::Refused(refused) => refused.fmt(f),
+            Error::NanTolerance { list, index } => write!(f, "{list}[{index}] is NaN"),
             Error::Ended(finished) => finished.fmt(f),
             Error::Host(error) => write!(f, "stopped by the host: {error}"),
         }
@@ -67,7 +76,7 @@ impl<E: StdError + 'static> StdError for Error<E> {
     fn source(&self) -> Option<&(dyn StdError + 'static)> {
         match self {
             Error::Host(error) => Some(error),
-            Error::Refused(_) | Error::Ended(_) => None,
+            _ => None,
         }
     }
 }
