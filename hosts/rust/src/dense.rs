@@ -27,7 +27,8 @@ impl Dense {
         &self.steps
     }
 
-    /// The pose at a time; `None` beyond the accepted steps, where there is none.
+    /// The pose at a time; `None` beyond the accepted steps, where there is none. At the ends of steps it is the pose
+    /// that was reported there, at the start `y0`.
     pub fn at(&self, time: f64) -> Option<Vec<f64>> {
         if time == self.x0 {
             return Some(self.y0.clone());

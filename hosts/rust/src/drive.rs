@@ -8,7 +8,8 @@ impl Problem<'_> {
     ///
     /// `Ok` is a success, or an interrupt that the report asked for, and every pose that was reported is finite then.
     /// An early end (112 to 115) and a run with a pose that is not finite are [`Error::Ended`]. Equal ends of the
-    /// interval are a success without a step.
+    /// interval are a success without a step. A tolerance that is NaN is an error ([`Error::NanTolerance`]) where the
+    /// library takes the problem.
     ///
     /// Whether the Jacobian is asked for or taken by differences is the system's to say, whatever the options have.
     /// A closure that panics leaves by unwinding: no foreign frame stands between it and the caller.
@@ -27,8 +28,9 @@ impl Problem<'_> {
         }
     }
 
-    /// Begins a run whose accepted steps are taken one at a time; see [`Steps`].
-    pub fn steps<S: System>(&self, system: S) -> Result<Steps<S>, Refused> {
+    /// Begins a run whose accepted steps are taken one at a time; see [`Steps`]. An error here is a refusal or a
+    /// tolerance that is NaN: no derivative was asked for yet.
+    pub fn steps<S: System>(&self, system: S) -> Result<Steps<S>, Error<S::Error>> {
         Run::start(self, system).map(Steps::new)
     }
 
@@ -73,7 +75,7 @@ where
 }
 
 /// [`Problem::steps`] with the derivative alone, the Jacobian by differences.
-pub fn steps<F, R>(problem: &Problem, derivative: F) -> Result<Steps<RightSide<F>>, Refused>
+pub fn steps<F, R>(problem: &Problem, derivative: F) -> Result<Steps<RightSide<F>>, Error<R::Error>>
 where
     F: FnMut(f64, &[f64], &mut [f64]) -> R,
     R: Outcome,
@@ -99,9 +101,15 @@ pub(crate) struct Run<S> {
 }
 
 impl<S: System> Run<S> {
-    fn start(problem: &Problem, system: S) -> Result<Self, Refused> {
+    fn start(problem: &Problem, system: S) -> Result<Self, Error<S::Error>> {
         let (n, has_jacobian) = (problem.y0.len(), system.has_jacobian());
         let solver = Solver::start(&problem.driven(has_jacobian))?;
+        // after the library's own refusals: the lists have their lengths
+        for (list, tolerances) in [("rtol", problem.rtol), ("atol", problem.atol)] {
+            if let Some(index) = tolerances.iter().position(|tolerance| tolerance.is_nan()) {
+                return Err(Error::NanTolerance { list, index });
+            }
+        }
         let columns = if has_jacobian { n * n } else { 0 };
         Ok(Run { solver, system, f: vec![0.0; n], columns: vec![0.0; columns] })
     }

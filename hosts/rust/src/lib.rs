@@ -153,7 +153,8 @@ pub struct Problem<'a> {
     pub xend: f64,
     /// The start's pose, of at most 64 states.
     pub y0: &'a [f64],
-    /// Relative tolerances of a step's error, 1 or one for each state.
+    /// Relative tolerances of a step's error, 1 or one for each state. The drivers let no NaN pass; [`Solver::start`]
+    /// does, as the library has it, and the error of that state is uncontrolled then.
     pub rtol: &'a [f64],
     /// Absolute tolerances, likewise.
     pub atol: &'a [f64],

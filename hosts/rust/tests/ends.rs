@@ -1,4 +1,5 @@
-//! What a driver's `Ok` and its errors mean: early ends, poses that are not finite, equal ends of the interval.
+//! What a driver's `Ok` and its errors mean: early ends, poses that are not finite, equal ends of the interval,
+//! tolerances that are NaN.
 
 mod common;
 
@@ -7,7 +8,7 @@ use std::error::Error as _;
 
 use common::{breaking, cut_after, problem, swing};
 use raimsklo::{solve, solve_dense, steps, Control, Dense, End, Error, Finished, Incomplete, NoPose, Options, Problem};
-use raimsklo::{Reason, Refused, Solver};
+use raimsklo::{Reason, Refused, RightSide, Solver};
 
 fn run(problem: &Problem, derivative: fn(f64, &[f64], &mut [f64])) -> Result<Finished, Error> {
     solve(problem, derivative, |_| Control::Continue)
@@ -154,6 +155,46 @@ fn equal_ends_are_a_success_without_a_step() {
     assert_eq!(ended(run(&Problem { y0: &[1.0, f64::NAN], ..still }, swing).unwrap_err()).nonfinite_at, Some(3.0));
     // the machine hands on what it is given
     assert_eq!(Solver::start(&still).unwrap().derivative(&[0.0, -1.0]).unwrap_err().reason, Reason::FirstStep);
+}
+
+#[test]
+fn no_driver_takes_a_nan_tolerance() {
+    let never: fn(f64, &[f64], &mut [f64]) = |_, _, _| unreachable!("a derivative was asked for");
+    let nan = f64::NAN;
+    let whole = problem(10.0, &[1.0, 0.0], &[1e-3], &[1e-6]);
+    let cases = [
+        (Problem { rtol: &[nan], ..whole }, "rtol", 0),
+        (Problem { rtol: &[1e-3, nan], ..whole }, "rtol", 1),
+        (Problem { atol: &[-nan], ..whole }, "atol", 0),
+        (Problem { rtol: &[0.0, nan], atol: &[nan, 1e-6], ..whole }, "rtol", 1),
+        (Problem { y0: &[], atol: &[nan], ..whole }, "atol", 0),
+        (Problem { xend: whole.x0, atol: &[1e-6, nan], ..whole }, "atol", 1),
+    ];
+    for (problem, list, index) in cases {
+        let error = Error::NanTolerance { list, index };
+        assert_eq!(error.to_string(), format!("{list}[{index}] is NaN"));
+        assert!(error.finished().is_none() && error.source().is_none());
+        assert_eq!(solve(&problem, never, |_| Control::Continue), Err(error.clone()));
+        assert_eq!(steps(&problem, never).unwrap_err(), error);
+        let cut = solve_dense(&problem, never).unwrap_err();
+        assert_eq!((cut.error, cut.curve.steps().len()), (error.clone(), 0));
+        let system = RightSide::new(never).jacobian(never);
+        assert_eq!(problem.solve(system, |_| Control::Continue), Err(error.clone()));
+        assert_eq!(problem.steps(system).unwrap_err(), error);
+        assert_eq!(problem.solve_dense(system).unwrap_err().error, error);
+        // the machine hands on what it is given
+        assert!(Solver::start(&problem).is_ok());
+    }
+
+    // what the library refuses is refused by its number
+    let number = |problem: &Problem| match steps(problem, never).unwrap_err() {
+        Error::Refused(refused) => refused.number(),
+        error => panic!("{error}"),
+    };
+    assert_eq!(number(&Problem { y0: &[0.0; 65], rtol: &[nan], ..whole }), 1);
+    assert_eq!(number(&Problem { rtol: &[nan; 3], ..whole }), 2);
+    assert_eq!(number(&Problem { rtol: &[nan], atol: &[], ..whole }), 2);
+    assert_eq!(number(&Problem { rtol: &[nan, -1.0], ..whole }), 9);
 }
 
 #[test]

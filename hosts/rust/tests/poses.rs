@@ -19,6 +19,32 @@ fn interpolation_within_a_step() {
 }
 
 #[test]
+fn a_step_is_exact_at_its_end_and_near_at_its_beginning() {
+    for (x0, xend) in [(0.0, 10.0), (10.0, 0.0)] {
+        let y0 = [f64::cos(x0), -f64::sin(x0)];
+        let problem = Problem { x0, y0: &y0, ..swinging(xend) };
+        let (_, dense) = solve_dense(&problem, swing).unwrap();
+        let (mut before, mut order_before, mut changes) = (y0.to_vec(), 1, 0);
+        for step in dense.steps() {
+            assert_eq!(step.at(step.time).unwrap(), step.y);
+            assert_eq!(dense.at(step.time).unwrap(), step.y);
+            let order = (step.snapshot.len() - 6) / 2 - 1;
+            let weighed = |(at, y): (&f64, &f64)| (at - y).abs() / (1e-6 * y.abs() + 1e-9);
+            let apart = step.at(step.previous).unwrap().iter().zip(&before).map(weighed).fold(0.0, f64::max);
+            // a rounding; a step's error where the order is another
+            if order == order_before {
+                assert!(apart < 1e-5, "{apart}");
+            } else {
+                assert!(1e-3 < apart && apart < 1.0, "{apart}");
+                changes += 1;
+            }
+            (before, order_before) = (step.y.clone(), order);
+        }
+        assert!(changes > 0);
+    }
+}
+
+#[test]
 fn a_step_has_no_pose_outside_its_ends() {
     for (x0, xend) in [(0.0, 10.0), (10.0, 0.0)] {
         let y0 = [f64::cos(x0), -f64::sin(x0)];

@@ -127,6 +127,21 @@ fn options_say_what_they_were_given() {
     let set = options.max_steps(1).mxordn(2).mxords(3).maxcor(4).msbp(5).mxncf(6);
     assert_eq!((set.max_steps, set.mxordn, set.mxords, set.maxcor, set.msbp, set.mxncf), (1, 2, 3, 4, 5, 6));
 
+    // the sign of the largest and of the smallest step does not matter, whichever way time runs
+    for (x0, xend) in [(0.0, 10.0), (10.0, 0.0)] {
+        let end = |options| {
+            let swinging = Problem { x0, options, ..problem(xend, &[1.0, 0.0], &[1e-3], &[1e-6]) };
+            solve(&swinging, swing, |_| Control::Continue)
+        };
+        for h in [1.0, 1e-3] {
+            assert_eq!(end(options.min_step(h)), end(options.min_step(-h)));
+            assert_ne!(end(options.min_step(h)), end(options));
+        }
+        assert_eq!(end(options.min_step(1.0)).unwrap_err().finished().unwrap().end, End::PoorConvergence);
+        assert_eq!(end(options.max_step(1e-2)), end(options.max_step(-1e-2)));
+        assert!(end(options.max_step(1e-2)).unwrap().accepted >= 1000);
+    }
+
     // a first step has the direction of time
     let y0 = [10f64.cos(), -10f64.sin()];
     let backward = Problem { x0: 10.0, options: options.first_step(-1e-3), ..problem(0.0, &y0, &[1e-6], &[1e-9]) };

@@ -2,11 +2,12 @@
 
 mod common;
 
+use std::convert::Infallible;
 use std::error::Error as _;
 use std::fmt;
 
 use common::{breaking, problem, robertson, robertson_jacobian, swing, swinging};
-use raimsklo::{solve, solve_dense, steps, Control, Error, Incomplete, Problem, RightSide, System};
+use raimsklo::{solve, solve_dense, steps, Control, Error, Finished, Incomplete, Problem, RightSide, System};
 
 #[derive(Clone, Debug, PartialEq)]
 struct RigGone(u32);
@@ -139,19 +140,72 @@ fn closures_fail_or_not() {
     };
     assert_eq!(problem.solve(system, report), Err(host(3)));
     assert_eq!(reports, 5);
+}
 
-    // an error need not be a `std::error::Error`
-    let text = solve(&problem, |_, _, _| Err("no rig"), |_| Control::Continue).unwrap_err();
-    assert_eq!((text.clone(), text.into_boxed().to_string()), (Error::Host("no rig"), "no rig".to_string()));
-    let never = |_: f64, _: &[f64], _: &mut [f64]| Ok::<(), String>(());
-    let refused = solve(&Problem { rtol: &[], ..problem }, never, |_| Control::Continue).unwrap_err().into_boxed();
+/// The whole chemistry by a derivative that fails with this error, or does not.
+fn with_error<E>(error: Option<E>) -> Result<Finished, Error<E>> {
+    let mut error = error;
+    let derivative = |time: f64, y: &[f64], f: &mut [f64]| {
+        robertson(time, y, f);
+        error.take().map_or(Ok(()), Err)
+    };
+    solve(&chemistry(), derivative, |_| Control::Continue)
+}
+
+type Boxed = Box<dyn std::error::Error>;
+type BoxedSync = Box<dyn std::error::Error + Send + Sync>;
+
+#[test]
+fn question_mark_takes_a_boxed_error() {
+    // an error need not be a `std::error::Error`: texts and boxes are none
+    fn text(error: Option<&'static str>) -> Result<usize, Boxed> {
+        Ok(with_error(error).map_err(Error::into_boxed)?.accepted)
+    }
+    fn boxed(error: Option<Boxed>) -> Result<usize, Boxed> {
+        Ok(with_error(error).map_err(Error::into_boxed)?.accepted)
+    }
+    fn text_sync(error: Option<String>) -> Result<usize, BoxedSync> {
+        Ok(with_error(error).map_err(Error::into_boxed_sync)?.accepted)
+    }
+    fn boxed_sync(error: Option<BoxedSync>) -> Result<usize, BoxedSync> {
+        Ok(with_error(error).map_err(Error::into_boxed_sync)?.accepted)
+    }
+    let accepted = solve(&chemistry(), robertson, |_| Control::Continue).unwrap().accepted;
+    assert_eq!((text(None).unwrap(), boxed(None).unwrap()), (accepted, accepted));
+    assert_eq!((text_sync(None).unwrap(), boxed_sync(None).unwrap()), (accepted, accepted));
+    assert_eq!(text(Some("no rig")).unwrap_err().to_string(), "no rig");
+    assert_eq!(text_sync(Some("no rig".into())).unwrap_err().to_string(), "no rig");
+    assert_eq!(boxed(Some(RigGone(4).into())).unwrap_err().downcast_ref(), Some(&RigGone(4)));
+    assert_eq!(boxed_sync(Some(RigGone(5).into())).unwrap_err().downcast_ref(), Some(&RigGone(5)));
+
+    // the other drivers
+    fn rows(problem: &Problem) -> Result<usize, Boxed> {
+        let mut rows = 0;
+        for step in steps(problem, |_, _, _| Err("no rig")).map_err(Error::into_boxed)? {
+            rows += step.map_err(Error::into_boxed)?.y.len();
+        }
+        Ok(rows)
+    }
+    fn curve(problem: &Problem) -> Result<f64, Boxed> {
+        let (_, curve) = solve_dense(problem, |_, _, _| Err("no rig")).map_err(|cut| cut.error.into_boxed())?;
+        Ok(curve.span().1)
+    }
+    let whole = chemistry();
+    assert_eq!(rows(&whole).unwrap_err().to_string(), "no rig");
+    assert_eq!(curve(&whole).unwrap_err().to_string(), "no rig");
+
+    // what is not the host's is the driver's own error in every box
+    let refused = rows(&Problem { rtol: &[], ..whole }).unwrap_err();
     assert_eq!(refused.to_string(), "refused (2): a tolerance list is neither 1 long nor as long as y0");
-    let lost = common::problem(1.0, &[1.0], &[1e-3], &[1e-6]);
+    assert!(matches!(refused.downcast_ref(), Some(Error::<Infallible>::Refused(_))));
+    let nan = curve(&Problem { atol: &[f64::NAN], ..whole }).unwrap_err();
+    assert_eq!(nan.downcast_ref(), Some(&Error::<Infallible>::NanTolerance { list: "atol", index: 0 }));
     let breaks = |time: f64, y: &[f64], f: &mut [f64]| {
         breaking(time, y, f);
         Ok::<(), String>(())
     };
-    let ended = solve(&lost, breaks, |_| Control::Continue).unwrap_err().into_boxed();
+    let lost = problem(1.0, &[1.0], &[1e-3], &[1e-6]);
+    let ended = solve(&lost, breaks, |_| Control::Continue).unwrap_err().into_boxed_sync();
     assert!(ended.downcast_ref::<Error>().unwrap().finished().is_some());
 }
 
