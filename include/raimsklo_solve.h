@@ -27,10 +27,12 @@
  *     RAIMSKLO_STATUS_OUTSIDE        -6    raimsklo_pose_at: the time is not of the report's step; raimsklo_solve:
  *                                          number 110, but a time of t_eval lies in no accepted step
  *
- * Whatever the status, result.time and result.y are the last accepted pose, x0 and y0 where there is none (number 1 and
- * statuses -4 and -5 leave y at 0), and has_nonfinite and nonfinite_at are set where an accepted pose, the start's
- * included, or a pose of t_eval is not finite. The run itself goes on as the library has it: its requests, reports and
- * bits are those of the question loop in raimsklo.h.
+ * Whatever the status, result.time and result.y are the last accepted pose, x0 and y0 where there is none (y is 0 where
+ * y0 is NULL or n above 64), and has_nonfinite and nonfinite_at are set where an accepted pose, the start's included, or
+ * a pose of t_eval is not finite. The run itself goes on as the library has it: its requests, reports and bits are those
+ * of the question loop in raimsklo.h.
+ *
+ * y0 may be result.y, to go on from the pose of the call before. Nothing else that is given may overlap the result.
  *
  * Callbacks return 0 to go on, anything else to stop the run, and get callbacks->user:
  *   derivative  writes f(time, y) to f, which holds NaN before each call: a forgotten entry shows as not finite
@@ -75,7 +77,7 @@ enum {
 /* What is solved. raimsklo_make_problem sets the options to raimsklo_defaults() and t_eval to none. */
 typedef struct raimsklo_problem {
     double x0, xend;
-    const double *y0;    /* n numbers */
+    const double *y0;    /* n numbers; may be the y of the result */
     size_t n;
     const double *rtol;  /* 1 or n numbers, none below 0 */
     size_t rtol_len;
@@ -194,22 +196,29 @@ static inline void raimsklo_look_(raimsklo_result *result, double time, const do
     if (!result->has_nonfinite && !raimsklo_finite_(pose, n)) result->has_nonfinite = 1, result->nonfinite_at = time;
 }
 
-/* Whether no pointer that is needed is NULL, and t_eval goes from x0 to xend; the result is emptied, and says so. */
+/* The result is emptied but for status, x0 and y0, which is copied before, to y0 too: it may be the result's y. */
+static inline void raimsklo_empty_(const raimsklo_problem *p, raimsklo_result *result, int status, double *y0) {
+    size_t n = p == NULL || p->y0 == NULL || p->n > RAIMSKLO_MAX_STATES ? 0 : p->n;
+    if (n > 0) memcpy(y0, p->y0, n * sizeof *y0);
+    if (result == NULL) return;
+    memset(result, 0, sizeof *result);
+    result->status = status;
+    if (p != NULL) result->time = p->x0;
+    if (n > 0) memcpy(result->y, y0, n * sizeof *y0);
+}
+
+/* Whether no pointer that is needed is NULL, and t_eval goes from x0 to xend. */
 static inline int raimsklo_usable_(const raimsklo_problem *p, const raimsklo_callbacks *c, const double *memory,
-                                   size_t memory_len, raimsklo_result *result) {
+                                   size_t memory_len, const raimsklo_result *result) {
     size_t i;
     double sign, before;
-    if (result == NULL) return 0;
-    memset(result, 0, sizeof *result);
-    result->status = RAIMSKLO_STATUS_ARGUMENT;
-    if (p == NULL || c == NULL) return 0;
-    result->time = before = p->x0;
+    if (p == NULL || c == NULL || result == NULL) return 0;
     if (p->n == 0) return 1;
     if (c->derivative == NULL || p->y0 == NULL) return 0;
     if ((p->rtol == NULL && p->rtol_len > 0) || (p->atol == NULL && p->atol_len > 0)) return 0;
     if (memory == NULL && memory_len > 0) return 0;
     if (p->t_eval_len > 0 && (p->t_eval == NULL || p->poses == NULL)) return 0;
-    sign = p->xend < p->x0 ? -1 : 1;
+    sign = p->xend < p->x0 ? -1 : 1, before = p->x0;
     for (i = 0; i < p->t_eval_len; i++) {
         double time = p->t_eval[i];
         if (!(sign * before <= sign * time && sign * time <= sign * p->xend)) return 0;
@@ -259,11 +268,12 @@ static inline int raimsklo_solve(const raimsklo_problem *p, const raimsklo_callb
     uint8_t session[RAIMSKLO_SESSION_LENGTH];
     size_t pivots[RAIMSKLO_MAX_STATES];
     size_t n, work_len = 0, question_len = 0, pivots_len = 0;
-    double nothing = 0, *work = &nothing, *question = &nothing, *reply = &nothing;
+    double y0[RAIMSKLO_MAX_STATES], nothing = 0, *work = &nothing, *question = &nothing, *reply = &nothing;
     raimsklo_options options;
     raimsklo_answer a;
     int stop = 0, broken_off = 0;
 
+    raimsklo_empty_(p, result, RAIMSKLO_STATUS_ARGUMENT, y0);
     if (!raimsklo_usable_(p, callbacks, memory, memory_len, result)) return RAIMSKLO_STATUS_ARGUMENT;
     n = p->n, options = p->options;
     options.supplied = callbacks->jacobian != NULL;
@@ -274,18 +284,15 @@ static inline int raimsklo_solve(const raimsklo_problem *p, const raimsklo_callb
         options.has_first_step = 1, options.first_step = bits >> 63 ? -1 : 1;
     }
     result->cap = raimsklo_cap(options, n), result->jacobian_cap = raimsklo_jacobian_cap(options);
-    if (n > 0 && n <= RAIMSKLO_MAX_STATES) {
-        memcpy(result->y, p->y0, n * sizeof *result->y);
-        if (memory_len >= RAIMSKLO_SOLVE_LENGTH(n)) { /* else the start refuses the lengths 0 in their turn */
-            work_len = RAIMSKLO_WORK_LENGTH(n), question_len = RAIMSKLO_QUESTION_LENGTH(n), pivots_len = n;
-            work = memory, question = work + work_len, reply = question + question_len;
-        }
-    }
+    if (n > 0 && n <= RAIMSKLO_MAX_STATES && memory_len >= RAIMSKLO_SOLVE_LENGTH(n)) {
+        work_len = RAIMSKLO_WORK_LENGTH(n), question_len = RAIMSKLO_QUESTION_LENGTH(n), pivots_len = n;
+        work = memory, question = work + work_len, reply = question + question_len;
+    } /* else the start refuses the lengths 0 in their turn */
 
-    a = raimsklo_start(p->x0, p->xend, n ? p->y0 : &nothing, n,
+    a = raimsklo_start(p->x0, p->xend, n > RAIMSKLO_MAX_STATES ? p->y0 : y0, n,
                        p->rtol_len ? p->rtol : &nothing, p->rtol_len, p->atol_len ? p->atol : &nothing, p->atol_len,
                        options, work, work_len, pivots, pivots_len, session, sizeof session, question, question_len);
-    if (raimsklo_is_question(a.number)) raimsklo_look_(result, p->x0, p->y0, n);
+    if (raimsklo_is_question(a.number)) raimsklo_look_(result, p->x0, y0, n);
     while (raimsklo_is_question(a.number)) {
         size_t kind = RAIMSKLO_CONTINUE, length = n;
         if (a.number == RAIMSKLO_WANTS_DERIVATIVE) {
@@ -329,10 +336,10 @@ static inline int raimsklo_solve(const raimsklo_problem *p, const raimsklo_callb
 static inline int raimsklo_solve_alloc(const raimsklo_problem *p, const raimsklo_callbacks *callbacks,
                                        raimsklo_result *result) {
     size_t length = p == NULL || p->n > RAIMSKLO_MAX_STATES ? 0 : RAIMSKLO_SOLVE_LENGTH(p->n);
-    double *memory = length == 0 ? NULL : (double *)malloc(length * sizeof *memory);
+    double y0[RAIMSKLO_MAX_STATES], *memory = length == 0 ? NULL : (double *)malloc(length * sizeof *memory);
     int status;
     if (memory == NULL && length > 0) {
-        if (result != NULL) memset(result, 0, sizeof *result), result->status = RAIMSKLO_STATUS_MEMORY;
+        raimsklo_empty_(p, result, RAIMSKLO_STATUS_MEMORY, y0);
         return RAIMSKLO_STATUS_MEMORY;
     }
     status = raimsklo_solve(p, callbacks, memory, length, result);

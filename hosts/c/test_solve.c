@@ -332,6 +332,48 @@ static void arguments(void) {
     CHECK(fabs(result.y[0] - cos(10)) < 1e-3 && result.time == 10);
 }
 
+/* ---- from the pose of the call before, in the result ---- */
+
+static void going_on(void) {
+    static double many[MOST];
+    double middle[2];
+    size_t i;
+    seen s = nothing_seen();
+    raimsklo_callbacks c = calls(oscillator, NULL, NULL, &s), none = calls(NULL, NULL, NULL, NULL);
+    raimsklo_problem first = oscillation(0, 5), p = oscillation(5, 10);
+    raimsklo_result apart;
+    CHECK(solve(&first, &c) == RAIMSKLO_STATUS_SOLVED);
+    memcpy(middle, result.y, sizeof middle);
+    p.y0 = middle;
+    CHECK(raimsklo_solve_alloc(&p, &c, &apart) == RAIMSKLO_STATUS_SOLVED && fabs(apart.y[0] - cos(10.0)) < 1e-3);
+
+    p.y0 = result.y;
+    CHECK(solve(&p, &c) == RAIMSKLO_STATUS_SOLVED && result.nfe == apart.nfe);
+    CHECK(memcmp(result.y, apart.y, sizeof apart.y) == 0);
+    CHECK(solve(&first, &c) == RAIMSKLO_STATUS_SOLVED);
+    CHECK(raimsklo_solve_alloc(&p, &c, &result) == RAIMSKLO_STATUS_SOLVED);
+    CHECK(memcmp(result.y, apart.y, sizeof apart.y) == 0);
+
+    /* what begins no run leaves the pose there for the next call */
+    CHECK(solve(&first, &c) == RAIMSKLO_STATUS_SOLVED);
+    CHECK(solve(&p, &none) == RAIMSKLO_STATUS_ARGUMENT && result.time == 5);
+    CHECK(memcmp(result.y, middle, sizeof middle) == 0);
+    no_memory = 1;
+    CHECK(raimsklo_solve_alloc(&p, &c, &result) == RAIMSKLO_STATUS_MEMORY && result.time == 5);
+    CHECK(memcmp(result.y, middle, sizeof middle) == 0);
+    no_memory = 0;
+    p.options.max_steps = 0;
+    CHECK(solve(&p, &c) == RAIMSKLO_STATUS_REFUSED && memcmp(result.y, middle, sizeof middle) == 0);
+
+    /* all 64 states */
+    for (i = 0; i < MOST; i++) many[i] = 1;
+    p = raimsklo_make_problem(0, 0.5, many, MOST, &tight, 1, &tight, 1), c = calls(decays, NULL, NULL, &s);
+    CHECK(solve(&p, &c) == RAIMSKLO_STATUS_SOLVED);
+    p.x0 = 0.5, p.xend = 1, p.y0 = result.y;
+    CHECK(solve(&p, &c) == RAIMSKLO_STATUS_SOLVED);
+    for (i = 0; i < MOST; i++) CHECK(fabs(result.y[i] - exp(-(double)(i + 1) / 8)) < 1e-3);
+}
+
 static void status_messages(void) {
     int a, b;
     for (a = RAIMSKLO_STATUS_OUTSIDE; a <= RAIMSKLO_STATUS_STOPPED; a++) {
@@ -653,6 +695,7 @@ int main(void) {
     ends();
     refusals();
     arguments();
+    going_on();
     status_messages();
     stopped();
     elsewhere();
