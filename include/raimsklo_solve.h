@@ -22,15 +22,16 @@
  *     RAIMSKLO_STATUS_ENDED_EARLY    -1    number 112 to 115: raimsklo_advice says what to change
  *     RAIMSKLO_STATUS_NOT_FINITE     -2    number 110, but a pose has a NaN or an infinity, first at nonfinite_at
  *     RAIMSKLO_STATUS_REFUSED        -3    number 1 to 12, with its index (9, 10, 12) or value (11)
- *     RAIMSKLO_STATUS_ARGUMENT       -4    number 0: a pointer is NULL, or t_eval is not in the run's order
+ *     RAIMSKLO_STATUS_ARGUMENT       -4    number 0: a pointer is NULL, a tolerance is NaN, or t_eval is not in the
+ *                                          run's order
  *     RAIMSKLO_STATUS_MEMORY         -5    number 0: raimsklo_solve_alloc found no memory
  *     RAIMSKLO_STATUS_OUTSIDE        -6    raimsklo_pose_at: the time is not of the report's step; raimsklo_solve:
  *                                          number 110, but a time of t_eval lies in no accepted step
  *
  * Whatever the status, result.time and result.y are the last accepted pose, x0 and y0 where there is none (y is 0 where
- * y0 is NULL or n above 64), and has_nonfinite and nonfinite_at are set where an accepted pose, the start's included, or
- * a pose of t_eval is not finite. The run itself goes on as the library has it: its requests, reports and bits are those
- * of the question loop in raimsklo.h.
+ * y0 is NULL or n above 64), and has_nonfinite and nonfinite_at are set where an accepted pose, the start's included,
+ * or a pose of t_eval is not finite. The run itself goes on as the library has it: its requests, reports and bits are
+ * those of the question loop in raimsklo.h.
  *
  * y0 may be result.y, to go on from the pose of the call before. Nothing else that is given may overlap the result.
  *
@@ -79,7 +80,7 @@ typedef struct raimsklo_problem {
     double x0, xend;
     const double *y0;    /* n numbers; may be the y of the result */
     size_t n;
-    const double *rtol;  /* 1 or n numbers, none below 0 */
+    const double *rtol;  /* 1 or n numbers, none below 0 or NaN */
     size_t rtol_len;
     const double *atol;
     size_t atol_len;
@@ -142,7 +143,7 @@ static inline const char *raimsklo_status_message(int status) {
     case RAIMSKLO_STATUS_ENDED_EARLY: return "ended early";
     case RAIMSKLO_STATUS_NOT_FINITE: return "a pose is not finite";
     case RAIMSKLO_STATUS_REFUSED: return "refused";
-    case RAIMSKLO_STATUS_ARGUMENT: return "a pointer is NULL, or t_eval is not in the run's order";
+    case RAIMSKLO_STATUS_ARGUMENT: return "a pointer is NULL, a tolerance is NaN, or t_eval is not in the run's order";
     case RAIMSKLO_STATUS_MEMORY: return "no memory";
     case RAIMSKLO_STATUS_OUTSIDE: return "a time is not of an accepted step";
     default: return "unknown status";
@@ -177,14 +178,27 @@ static inline int raimsklo_pose_at(const raimsklo_report *report, double time, d
 }
 
 /* From here to raimsklo_solve: its parts. Floats are tested and made by their bits, which -ffast-math leaves alone. */
-static inline int raimsklo_finite_(const double *numbers, size_t n) {
+#define RAIMSKLO_INFINITY_ ((uint64_t)0x7ff << 52)
+#define RAIMSKLO_NAN_ ((uint64_t)0x7ff8 << 48)
+
+/* The largest bits of the numbers without their signs: below infinity's all are finite, above it one is NaN. */
+static inline uint64_t raimsklo_largest_(const double *numbers, size_t n) {
+    uint64_t bits, largest = 0;
     size_t i;
     for (i = 0; i < n; i++) {
-        uint64_t bits;
         memcpy(&bits, numbers + i, sizeof bits);
-        if ((bits >> 52 & 0x7ff) == 0x7ff) return 0;
+        bits &= ~((uint64_t)1 << 63);
+        if (bits > largest) largest = bits;
     }
-    return 1;
+    return largest;
+}
+
+static inline int raimsklo_finite_(const double *numbers, size_t n) {
+    return raimsklo_largest_(numbers, n) < RAIMSKLO_INFINITY_;
+}
+
+static inline int raimsklo_has_nan_(const double *numbers, size_t n) {
+    return raimsklo_largest_(numbers, n) > RAIMSKLO_INFINITY_;
 }
 
 static inline void raimsklo_fill_(double *numbers, size_t n, uint64_t bits) {
@@ -207,7 +221,7 @@ static inline void raimsklo_empty_(const raimsklo_problem *p, raimsklo_result *r
     if (n > 0) memcpy(result->y, y0, n * sizeof *y0);
 }
 
-/* Whether no pointer that is needed is NULL, and t_eval goes from x0 to xend. */
+/* Whether no pointer that is needed is NULL, no tolerance is NaN, and t_eval goes from x0 to xend. */
 static inline int raimsklo_usable_(const raimsklo_problem *p, const raimsklo_callbacks *c, const double *memory,
                                    size_t memory_len, const raimsklo_result *result) {
     size_t i;
@@ -218,6 +232,10 @@ static inline int raimsklo_usable_(const raimsklo_problem *p, const raimsklo_cal
     if ((p->rtol == NULL && p->rtol_len > 0) || (p->atol == NULL && p->atol_len > 0)) return 0;
     if (memory == NULL && memory_len > 0) return 0;
     if (p->t_eval_len > 0 && (p->t_eval == NULL || p->poses == NULL)) return 0;
+    if (p->n <= RAIMSKLO_MAX_STATES && (p->rtol_len == 1 || p->rtol_len == p->n)
+        && (p->atol_len == 1 || p->atol_len == p->n)) { /* else the start refuses the lengths, and reads no entry */
+        if (raimsklo_has_nan_(p->rtol, p->rtol_len) || raimsklo_has_nan_(p->atol, p->atol_len)) return 0;
+    }
     sign = p->xend < p->x0 ? -1 : 1, before = p->x0;
     for (i = 0; i < p->t_eval_len; i++) {
         double time = p->t_eval[i];
@@ -264,7 +282,6 @@ static inline size_t raimsklo_report_(const raimsklo_problem *p, const raimsklo_
 
 static inline int raimsklo_solve(const raimsklo_problem *p, const raimsklo_callbacks *callbacks, double *memory,
                                  size_t memory_len, raimsklo_result *result) {
-    const uint64_t not_a_number = (uint64_t)0x7ff8 << 48;
     uint8_t session[RAIMSKLO_SESSION_LENGTH];
     size_t pivots[RAIMSKLO_MAX_STATES];
     size_t n, work_len = 0, question_len = 0, pivots_len = 0;
@@ -297,7 +314,7 @@ static inline int raimsklo_solve(const raimsklo_problem *p, const raimsklo_callb
         size_t kind = RAIMSKLO_CONTINUE, length = n;
         if (a.number == RAIMSKLO_WANTS_DERIVATIVE) {
             kind = RAIMSKLO_DERIVATIVE, result->nfe++;
-            raimsklo_fill_(reply, n, not_a_number);
+            raimsklo_fill_(reply, n, RAIMSKLO_NAN_);
             broken_off = stop = callbacks->derivative(a.time, question, reply, n, callbacks->user);
         } else if (a.number == RAIMSKLO_WANTS_JACOBIAN) {
             kind = RAIMSKLO_JACOBIAN, length = n * n, result->nje++;

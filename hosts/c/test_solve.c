@@ -299,7 +299,7 @@ static void refusals(void) {
 }
 
 static void arguments(void) {
-    const double backwards[2] = {2, 1}, outside[2] = {1, 11}, unknown[1] = {NAN};
+    const double backwards[2] = {2, 1}, outside[2] = {1, 11}, unknown[1] = {NAN}, half_known[2] = {1e-6, -NAN};
     double poses[4];
     seen s = nothing_seen();
     raimsklo_callbacks c = calls(oscillator, NULL, NULL, &s), none = calls(NULL, NULL, NULL, NULL);
@@ -314,6 +314,18 @@ static void arguments(void) {
     CHECK(solve(&p, &c) == RAIMSKLO_STATUS_ARGUMENT);
     p = good, p.rtol = NULL;
     CHECK(solve(&p, &c) == RAIMSKLO_STATUS_ARGUMENT);
+    p = good, p.rtol = unknown;
+    CHECK(solve(&p, &c) == RAIMSKLO_STATUS_ARGUMENT && result.number == 0 && result.y[0] == 1);
+    p.rtol = half_known, p.rtol_len = 2;
+    CHECK(solve(&p, &c) == RAIMSKLO_STATUS_ARGUMENT);
+    p = good, p.atol = unknown;
+    CHECK(solve(&p, &c) == RAIMSKLO_STATUS_ARGUMENT);
+    p.atol = half_known, p.atol_len = 2;
+    CHECK(solve(&p, &c) == RAIMSKLO_STATUS_ARGUMENT);
+    p.rtol_len = 3; /* of which there is one: a wrong length is refused as such, unread */
+    CHECK(solve(&p, &c) == RAIMSKLO_STATUS_REFUSED && result.number == RAIMSKLO_REFUSED_TOLERANCE_LENGTH);
+    p = good, p.rtol = unknown, p.rtol_len = 0;
+    CHECK(solve(&p, &c) == RAIMSKLO_STATUS_REFUSED && result.number == RAIMSKLO_REFUSED_TOLERANCE_LENGTH);
     p = good, p.t_eval = backwards, p.t_eval_len = 2;
     CHECK(solve(&p, &c) == RAIMSKLO_STATUS_ARGUMENT);
     p.poses = poses;
