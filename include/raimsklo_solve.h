@@ -245,18 +245,19 @@ static inline int raimsklo_usable_(const raimsklo_problem *p, const raimsklo_cal
     return 1;
 }
 
-/* An accepted pose, or the start's, is handed out: to the result, and those of t_eval that it reaches. */
+/* An accepted pose, or the start's, is handed out: to the result, and those of t_eval that it reaches. These are looked
+ * at first, because they lie no later than the step's end. */
 static inline void raimsklo_hand_out_(const raimsklo_problem *p, const raimsklo_report *report,
                                       raimsklo_result *result) {
     size_t n = p->n;
     result->time = report->time;
     memcpy(result->y, report->y, n * sizeof *result->y);
-    raimsklo_look_(result, report->time, report->y, n);
     for (; result->evaluated < p->t_eval_len; result->evaluated++) {
         double time = p->t_eval[result->evaluated], *pose = p->poses + result->evaluated * n;
-        if (raimsklo_pose_at(report, time, pose) != 0) return;
+        if (raimsklo_pose_at(report, time, pose) != 0) break;
         raimsklo_look_(result, time, pose, n);
     }
+    raimsklo_look_(result, report->time, report->y, n);
 }
 
 /* A report is handed out; the kind of the reply, which goes on from the pose reported, but for modified. */

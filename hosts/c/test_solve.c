@@ -505,6 +505,37 @@ static void buffers(void) {
     CHECK(solve(&p, &c) == RAIMSKLO_STATUS_STOPPED && result.has_nonfinite && result.nonfinite_at == 0);
 }
 
+/* NaN after half of the interval from 0 to 1, or from 1 to 0, as user points to its direction. */
+static int breaks(double t, const double *y, double *f, size_t n, void *user) {
+    double sign = *(double *)user;
+    (void)y, (void)n;
+    f[0] = sign * t > sign * 0.5 ? NAN : 1;
+    return 0;
+}
+
+/* The first time that is not finite: of t_eval where it lies within a step, else the step's end. */
+static void first_time(void) {
+    const scalar one = {1, 1e-3, 1e-6};
+    const double forward[5] = {0.25, 0.5, 0.52, 0.55, 1}, backward[4] = {0.75, 0.48, 0.45, 0};
+    double direction = 1, poses[5], end;
+    raimsklo_callbacks c = calls(breaks, NULL, NULL, &direction);
+    raimsklo_problem p = sum(&one, 1);
+    p.options.first_step = p.options.max_step = 0.1, p.options.has_max_step = 1;
+    CHECK(solve(&p, &c) == RAIMSKLO_STATUS_NOT_FINITE);
+    end = result.nonfinite_at;
+    CHECK(end > 0.55 && end < 0.65);
+    p.t_eval = forward, p.t_eval_len = 5, p.poses = poses;
+    CHECK(solve(&p, &c) == RAIMSKLO_STATUS_NOT_FINITE && result.evaluated == 5 && result.nonfinite_at == 0.52);
+    CHECK(poses[1] == poses[1] && poses[2] != poses[2] && poses[3] != poses[3] && poses[4] != poses[4]);
+    p.t_eval = forward + 4, p.t_eval_len = 1; /* later than the step's end */
+    CHECK(solve(&p, &c) == RAIMSKLO_STATUS_NOT_FINITE && result.evaluated == 1 && result.nonfinite_at == end);
+
+    direction = -1, p.x0 = 1, p.xend = 0, p.options.first_step = -0.1;
+    p.t_eval = backward, p.t_eval_len = 4;
+    CHECK(solve(&p, &c) == RAIMSKLO_STATUS_NOT_FINITE && result.evaluated == 4 && result.nonfinite_at == 0.48);
+    CHECK(poses[0] == poses[0] && poses[1] != poses[1]);
+}
+
 /* ---- the Jacobian, column by column ---- */
 
 static void columns(void) {
@@ -712,6 +743,7 @@ int main(void) {
     stopped();
     elsewhere();
     buffers();
+    first_time();
     columns();
     poses();
     poses_that_are_missing();
