@@ -163,21 +163,7 @@ static inline raimsklo_problem raimsklo_make_problem(
     return problem;
 }
 
-/* The pose at a time of the report's step, its ends included: 0, or RAIMSKLO_STATUS_OUTSIDE or RAIMSKLO_STATUS_REFUSED
- * (the step has no length), which leave the pose as it was. */
-static inline int raimsklo_pose_at(const raimsklo_report *report, double time, double *pose) {
-    int forward = report->previous <= time && time <= report->time;
-    int backward = report->previous >= time && time >= report->time;
-    if (!forward && !backward) return RAIMSKLO_STATUS_OUTSIDE;
-    if (time == report->time) {
-        memcpy(pose, report->y, report->n * sizeof *pose);
-        return 0;
-    }
-    return raimsklo_interpolate(time, pose, report->n, report->snapshot, report->snapshot_len) == 0
-        ? 0 : RAIMSKLO_STATUS_REFUSED;
-}
-
-/* From here to raimsklo_solve: its parts. Floats are tested and made by their bits, which -ffast-math leaves alone. */
+/* Floats are tested and made by their bits: under -ffast-math a comparison does not tell a NaN. */
 #define RAIMSKLO_INFINITY_ ((uint64_t)0x7ff << 52)
 #define RAIMSKLO_NAN_ ((uint64_t)0x7ff8 << 48)
 
@@ -206,6 +192,21 @@ static inline void raimsklo_fill_(double *numbers, size_t n, uint64_t bits) {
     for (i = 0; i < n; i++) memcpy(numbers + i, &bits, sizeof bits);
 }
 
+/* The pose at a time of the report's step, its ends included: 0, or RAIMSKLO_STATUS_OUTSIDE or RAIMSKLO_STATUS_REFUSED
+ * (the step has no length), which leave the pose as it was. */
+static inline int raimsklo_pose_at(const raimsklo_report *report, double time, double *pose) {
+    int forward = report->previous <= time && time <= report->time;
+    int backward = report->previous >= time && time >= report->time;
+    if (raimsklo_has_nan_(&time, 1) || (!forward && !backward)) return RAIMSKLO_STATUS_OUTSIDE;
+    if (time == report->time) {
+        memcpy(pose, report->y, report->n * sizeof *pose);
+        return 0;
+    }
+    return raimsklo_interpolate(time, pose, report->n, report->snapshot, report->snapshot_len) == 0
+        ? 0 : RAIMSKLO_STATUS_REFUSED;
+}
+
+/* From here to raimsklo_solve: its parts. */
 static inline void raimsklo_look_(raimsklo_result *result, double time, const double *pose, size_t n) {
     if (!result->has_nonfinite && !raimsklo_finite_(pose, n)) result->has_nonfinite = 1, result->nonfinite_at = time;
 }
@@ -221,6 +222,11 @@ static inline void raimsklo_empty_(const raimsklo_problem *p, raimsklo_result *r
     if (n > 0) memcpy(result->y, y0, n * sizeof *y0);
 }
 
+/* Whether neither end is NaN. */
+static inline int raimsklo_has_ends_(const raimsklo_problem *p) {
+    return !raimsklo_has_nan_(&p->x0, 1) && !raimsklo_has_nan_(&p->xend, 1);
+}
+
 /* Whether no pointer that is needed is NULL, no tolerance is NaN, and t_eval goes from x0 to xend. */
 static inline int raimsklo_usable_(const raimsklo_problem *p, const raimsklo_callbacks *c, const double *memory,
                                    size_t memory_len, const raimsklo_result *result) {
@@ -231,7 +237,7 @@ static inline int raimsklo_usable_(const raimsklo_problem *p, const raimsklo_cal
     if (c->derivative == NULL || p->y0 == NULL) return 0;
     if ((p->rtol == NULL && p->rtol_len > 0) || (p->atol == NULL && p->atol_len > 0)) return 0;
     if (memory == NULL && memory_len > 0) return 0;
-    if (p->t_eval_len > 0 && (p->t_eval == NULL || p->poses == NULL)) return 0;
+    if (p->t_eval_len > 0 && (p->t_eval == NULL || p->poses == NULL || !raimsklo_has_ends_(p))) return 0;
     if (p->n <= RAIMSKLO_MAX_STATES && (p->rtol_len == 1 || p->rtol_len == p->n)
         && (p->atol_len == 1 || p->atol_len == p->n)) { /* else the start refuses the lengths, and reads no entry */
         if (raimsklo_has_nan_(p->rtol, p->rtol_len) || raimsklo_has_nan_(p->atol, p->atol_len)) return 0;
@@ -239,7 +245,7 @@ static inline int raimsklo_usable_(const raimsklo_problem *p, const raimsklo_cal
     sign = p->xend < p->x0 ? -1 : 1, before = p->x0;
     for (i = 0; i < p->t_eval_len; i++) {
         double time = p->t_eval[i];
-        if (!(sign * before <= sign * time && sign * time <= sign * p->xend)) return 0;
+        if (raimsklo_has_nan_(&time, 1) || sign * time < sign * before || sign * time > sign * p->xend) return 0;
         before = time;
     }
     return 1;
@@ -295,7 +301,7 @@ static inline int raimsklo_solve(const raimsklo_problem *p, const raimsklo_callb
     if (!raimsklo_usable_(p, callbacks, memory, memory_len, result)) return RAIMSKLO_STATUS_ARGUMENT;
     n = p->n, options = p->options;
     options.supplied = callbacks->jacobian != NULL;
-    if (p->x0 == p->xend && !options.has_first_step) {
+    if (p->x0 == p->xend && raimsklo_has_ends_(p) && !options.has_first_step) {
         double length = p->xend - p->x0; /* -0 from 0 to -0, and the first step must have its sign */
         uint64_t bits;
         memcpy(&bits, &length, sizeof bits);
