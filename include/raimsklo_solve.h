@@ -193,7 +193,9 @@ static inline void raimsklo_fill_(double *numbers, size_t n, uint64_t bits) {
 }
 
 /* The pose at a time of the report's step, its ends included: 0, or RAIMSKLO_STATUS_OUTSIDE or RAIMSKLO_STATUS_REFUSED
- * (the step has no length), which leave the pose as it was. */
+ * (the step has no length), which leave the pose as it was. At the step's end it is y, exactly. At its beginning it is
+ * interpolated: it may differ from the pose reported before by a rounding, and by up to a step's error where the order
+ * has changed. */
 static inline int raimsklo_pose_at(const raimsklo_report *report, double time, double *pose) {
     int forward = report->previous <= time && time <= report->time;
     int backward = report->previous >= time && time >= report->time;

@@ -66,6 +66,12 @@ static int oscillator(double t, const double *y, double *f, size_t n, void *user
     return stops(++s->derivatives, s->stop_derivative, 5);
 }
 
+static int turns(double t, const double *y, double *f, size_t n, void *user) {
+    (void)t, (void)n, (void)user;
+    f[0] = y[1], f[1] = -y[0];
+    return 0;
+}
+
 static int forgetful(double t, const double *y, double *f, size_t n, void *user) {
     (void)t, (void)n, (void)user;
     f[0] = y[1];
@@ -344,6 +350,17 @@ static void arguments(void) {
     CHECK(fabs(result.y[0] - cos(10)) < 1e-3 && result.time == 10);
 }
 
+static void status_messages(void) {
+    int a, b;
+    for (a = RAIMSKLO_STATUS_OUTSIDE; a <= RAIMSKLO_STATUS_STOPPED; a++) {
+        for (b = RAIMSKLO_STATUS_OUTSIDE; b < a; b++) {
+            CHECK(strcmp(raimsklo_status_message(a), raimsklo_status_message(b)) != 0);
+        }
+        CHECK(strcmp(raimsklo_status_message(a), "unknown status") != 0);
+    }
+    CHECK(strcmp(raimsklo_status_message(RAIMSKLO_STATUS_STOPPED + 1), "unknown status") == 0);
+}
+
 /* ---- from the pose of the call before, in the result ---- */
 
 static void going_on(void) {
@@ -384,17 +401,6 @@ static void going_on(void) {
     p.x0 = 0.5, p.xend = 1, p.y0 = result.y;
     CHECK(solve(&p, &c) == RAIMSKLO_STATUS_SOLVED);
     for (i = 0; i < MOST; i++) CHECK(fabs(result.y[i] - exp(-(double)(i + 1) / 8)) < 1e-3);
-}
-
-static void status_messages(void) {
-    int a, b;
-    for (a = RAIMSKLO_STATUS_OUTSIDE; a <= RAIMSKLO_STATUS_STOPPED; a++) {
-        for (b = RAIMSKLO_STATUS_OUTSIDE; b < a; b++) {
-            CHECK(strcmp(raimsklo_status_message(a), raimsklo_status_message(b)) != 0);
-        }
-        CHECK(strcmp(raimsklo_status_message(a), "unknown status") != 0);
-    }
-    CHECK(strcmp(raimsklo_status_message(RAIMSKLO_STATUS_STOPPED + 1), "unknown status") == 0);
 }
 
 /* ---- stopped by each callback ---- */
@@ -574,6 +580,32 @@ static int poses_of_step(raimsklo_report *r, void *user) {
     return stops(s->reports, s->stop_report, 1);
 }
 
+/* The pose reported before, its order, and how far the step's beginning lies from it at most. */
+typedef struct {
+    double y[2];
+    size_t length; /* of the snapshot, which tells the order; 0: none yet */
+    double same_order, changed_order;
+} beginnings;
+
+static int beginning_of_step(raimsklo_report *r, void *user) {
+    beginnings *b = (beginnings *)user;
+    double pose[2], *most = b->length == r->snapshot_len ? &b->same_order : &b->changed_order;
+    size_t i;
+    CHECK(raimsklo_pose_at(r, r->previous, pose) == 0);
+    for (i = 0; i < 2 && b->length > 0; i++) *most = fmax(*most, fabs(pose[i] - b->y[i]));
+    memcpy(b->y, r->y, sizeof b->y), b->length = r->snapshot_len;
+    return 0;
+}
+
+static void beginning(void) {
+    beginnings b = {{0, 0}, 0, 0, 0};
+    raimsklo_callbacks c = calls(turns, NULL, beginning_of_step, &b);
+    raimsklo_problem p = oscillation(0, 10);
+    CHECK(solve(&p, &c) == RAIMSKLO_STATUS_SOLVED);
+    CHECK(b.same_order > 0 && b.same_order < 1e-14);              /* roundings */
+    CHECK(b.changed_order > 1e-9 && b.changed_order < 2 * tight); /* a step's error */
+}
+
 static void poses(void) {
     enum { TIMES = 12 };
     double times[TIMES], out[TIMES * 2], back[2] = {cos(10.0), -sin(10.0)};
@@ -612,12 +644,6 @@ static void poses(void) {
 /* A host that changes t_eval under way: a time that lies in no step is no success. */
 static int moves_the_time(raimsklo_report *report, void *user) {
     *(double *)user = report->previous / 2 - 1;
-    return 0;
-}
-
-static int turns(double t, const double *y, double *f, size_t n, void *user) {
-    (void)t, (void)n, (void)user;
-    f[0] = y[1], f[1] = -y[0];
     return 0;
 }
 
@@ -738,14 +764,15 @@ int main(void) {
     ends();
     refusals();
     arguments();
-    going_on();
     status_messages();
+    going_on();
     stopped();
     elsewhere();
     buffers();
     first_time();
     columns();
     poses();
+    beginning();
     poses_that_are_missing();
     bits();
     modified();
