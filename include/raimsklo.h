@@ -211,8 +211,8 @@ size_t raimsklo_session_length(void);
 raimsklo_answer raimsklo_start(
     double x0, double xend,
     const double *y0, size_t y0_len,
-    const double *rtol, size_t rtol_len, /* 1 or n numbers, none below 0 */
-    const double *atol, size_t atol_len,
+    const double *rtol, size_t rtol_len, /* 1 or n numbers, none below 0; a NaN passes, and leaves the error of that */
+    const double *atol, size_t atol_len, /* state uncontrolled */
     raimsklo_options options,
     double *work, size_t work_len,
     size_t *pivots, size_t pivots_len,

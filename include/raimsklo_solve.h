@@ -22,15 +22,18 @@
  *     RAIMSKLO_STATUS_ENDED_EARLY    -1    number 112 to 115: raimsklo_advice says what to change
  *     RAIMSKLO_STATUS_NOT_FINITE     -2    number 110, but a pose has a NaN or an infinity, first at nonfinite_at
  *     RAIMSKLO_STATUS_REFUSED        -3    number 1 to 12, with its index (9, 10, 12) or value (11)
- *     RAIMSKLO_STATUS_ARGUMENT       -4    number 0: a pointer is NULL, or t_eval is not in the run's order
+ *     RAIMSKLO_STATUS_ARGUMENT       -4    number 0: a pointer is NULL, a tolerance is NaN, or t_eval is not in the
+ *                                          run's order
  *     RAIMSKLO_STATUS_MEMORY         -5    number 0: raimsklo_solve_alloc found no memory
  *     RAIMSKLO_STATUS_OUTSIDE        -6    raimsklo_pose_at: the time is not of the report's step; raimsklo_solve:
  *                                          number 110, but a time of t_eval lies in no accepted step
  *
- * Whatever the status, result.time and result.y are the last accepted pose, x0 and y0 where there is none (number 1 and
- * statuses -4 and -5 leave y at 0), and has_nonfinite and nonfinite_at are set where an accepted pose, the start's
- * included, or a pose of t_eval is not finite. The run itself goes on as the library has it: its requests, reports and
- * bits are those of the question loop in raimsklo.h.
+ * Whatever the status, result.time and result.y are the last accepted pose, x0 and y0 where there is none (y is 0 where
+ * y0 is NULL or n above 64), and has_nonfinite and nonfinite_at are set where an accepted pose, the start's included,
+ * or a pose of t_eval is not finite. The run itself goes on as the library has it: its requests, reports and bits are
+ * those of the question loop in raimsklo.h.
+ *
+ * y0 may be result.y, to go on from the pose of the call before. Nothing else that is given may overlap the result.
  *
  * Callbacks return 0 to go on, anything else to stop the run, and get callbacks->user:
  *   derivative  writes f(time, y) to f, which holds NaN before each call: a forgotten entry shows as not finite
@@ -75,9 +78,9 @@ enum {
 /* What is solved. raimsklo_make_problem sets the options to raimsklo_defaults() and t_eval to none. */
 typedef struct raimsklo_problem {
     double x0, xend;
-    const double *y0;    /* n numbers */
+    const double *y0;    /* n numbers; may be the y of the result */
     size_t n;
-    const double *rtol;  /* 1 or n numbers, none below 0 */
+    const double *rtol;  /* 1 or n numbers, none below 0 or NaN */
     size_t rtol_len;
     const double *atol;
     size_t atol_len;
@@ -140,7 +143,7 @@ static inline const char *raimsklo_status_message(int status) {
     case RAIMSKLO_STATUS_ENDED_EARLY: return "ended early";
     case RAIMSKLO_STATUS_NOT_FINITE: return "a pose is not finite";
     case RAIMSKLO_STATUS_REFUSED: return "refused";
-    case RAIMSKLO_STATUS_ARGUMENT: return "a pointer is NULL, or t_eval is not in the run's order";
+    case RAIMSKLO_STATUS_ARGUMENT: return "a pointer is NULL, a tolerance is NaN, or t_eval is not in the run's order";
     case RAIMSKLO_STATUS_MEMORY: return "no memory";
     case RAIMSKLO_STATUS_OUTSIDE: return "a time is not of an accepted step";
     default: return "unknown status";
@@ -160,12 +163,43 @@ static inline raimsklo_problem raimsklo_make_problem(
     return problem;
 }
 
+/* Floats are tested and made by their bits: under -ffast-math a comparison does not tell a NaN. */
+#define RAIMSKLO_INFINITY_ ((uint64_t)0x7ff << 52)
+#define RAIMSKLO_NAN_ ((uint64_t)0x7ff8 << 48)
+
+/* The largest bits of the numbers without their signs: below infinity's all are finite, above it one is NaN. */
+static inline uint64_t raimsklo_largest_(const double *numbers, size_t n) {
+    uint64_t bits, largest = 0;
+    size_t i;
+    for (i = 0; i < n; i++) {
+        memcpy(&bits, numbers + i, sizeof bits);
+        bits &= ~((uint64_t)1 << 63);
+        if (bits > largest) largest = bits;
+    }
+    return largest;
+}
+
+static inline int raimsklo_finite_(const double *numbers, size_t n) {
+    return raimsklo_largest_(numbers, n) < RAIMSKLO_INFINITY_;
+}
+
+static inline int raimsklo_has_nan_(const double *numbers, size_t n) {
+    return raimsklo_largest_(numbers, n) > RAIMSKLO_INFINITY_;
+}
+
+static inline void raimsklo_fill_(double *numbers, size_t n, uint64_t bits) {
+    size_t i;
+    for (i = 0; i < n; i++) memcpy(numbers + i, &bits, sizeof bits);
+}
+
 /* The pose at a time of the report's step, its ends included: 0, or RAIMSKLO_STATUS_OUTSIDE or RAIMSKLO_STATUS_REFUSED
- * (the step has no length), which leave the pose as it was. */
+ * (the step has no length), which leave the pose as it was. At the step's end it is y, exactly. At its beginning it is
+ * interpolated: it may differ from the pose reported before by a rounding, and by up to a step's error where the order
+ * has changed. */
 static inline int raimsklo_pose_at(const raimsklo_report *report, double time, double *pose) {
     int forward = report->previous <= time && time <= report->time;
     int backward = report->previous >= time && time >= report->time;
-    if (!forward && !backward) return RAIMSKLO_STATUS_OUTSIDE;
+    if (raimsklo_has_nan_(&time, 1) || (!forward && !backward)) return RAIMSKLO_STATUS_OUTSIDE;
     if (time == report->time) {
         memcpy(pose, report->y, report->n * sizeof *pose);
         return 0;
@@ -174,62 +208,64 @@ static inline int raimsklo_pose_at(const raimsklo_report *report, double time, d
         ? 0 : RAIMSKLO_STATUS_REFUSED;
 }
 
-/* From here to raimsklo_solve: its parts. Floats are tested and made by their bits, which -ffast-math leaves alone. */
-static inline int raimsklo_finite_(const double *numbers, size_t n) {
-    size_t i;
-    for (i = 0; i < n; i++) {
-        uint64_t bits;
-        memcpy(&bits, numbers + i, sizeof bits);
-        if ((bits >> 52 & 0x7ff) == 0x7ff) return 0;
-    }
-    return 1;
-}
-
-static inline void raimsklo_fill_(double *numbers, size_t n, uint64_t bits) {
-    size_t i;
-    for (i = 0; i < n; i++) memcpy(numbers + i, &bits, sizeof bits);
-}
-
+/* From here to raimsklo_solve: its parts. */
 static inline void raimsklo_look_(raimsklo_result *result, double time, const double *pose, size_t n) {
     if (!result->has_nonfinite && !raimsklo_finite_(pose, n)) result->has_nonfinite = 1, result->nonfinite_at = time;
 }
 
-/* Whether no pointer that is needed is NULL, and t_eval goes from x0 to xend; the result is emptied, and says so. */
+/* The result is emptied but for status, x0 and y0, which is copied before, to y0 too: it may be the result's y. */
+static inline void raimsklo_empty_(const raimsklo_problem *p, raimsklo_result *result, int status, double *y0) {
+    size_t n = p == NULL || p->y0 == NULL || p->n > RAIMSKLO_MAX_STATES ? 0 : p->n;
+    if (n > 0) memcpy(y0, p->y0, n * sizeof *y0);
+    if (result == NULL) return;
+    memset(result, 0, sizeof *result);
+    result->status = status;
+    if (p != NULL) result->time = p->x0;
+    if (n > 0) memcpy(result->y, y0, n * sizeof *y0);
+}
+
+/* Whether neither end is NaN. */
+static inline int raimsklo_has_ends_(const raimsklo_problem *p) {
+    return !raimsklo_has_nan_(&p->x0, 1) && !raimsklo_has_nan_(&p->xend, 1);
+}
+
+/* Whether no pointer that is needed is NULL, no tolerance is NaN, and t_eval goes from x0 to xend. */
 static inline int raimsklo_usable_(const raimsklo_problem *p, const raimsklo_callbacks *c, const double *memory,
-                                   size_t memory_len, raimsklo_result *result) {
+                                   size_t memory_len, const raimsklo_result *result) {
     size_t i;
     double sign, before;
-    if (result == NULL) return 0;
-    memset(result, 0, sizeof *result);
-    result->status = RAIMSKLO_STATUS_ARGUMENT;
-    if (p == NULL || c == NULL) return 0;
-    result->time = before = p->x0;
+    if (p == NULL || c == NULL || result == NULL) return 0;
     if (p->n == 0) return 1;
     if (c->derivative == NULL || p->y0 == NULL) return 0;
     if ((p->rtol == NULL && p->rtol_len > 0) || (p->atol == NULL && p->atol_len > 0)) return 0;
     if (memory == NULL && memory_len > 0) return 0;
-    if (p->t_eval_len > 0 && (p->t_eval == NULL || p->poses == NULL)) return 0;
-    sign = p->xend < p->x0 ? -1 : 1;
+    if (p->t_eval_len > 0 && (p->t_eval == NULL || p->poses == NULL || !raimsklo_has_ends_(p))) return 0;
+    if (p->n <= RAIMSKLO_MAX_STATES && (p->rtol_len == 1 || p->rtol_len == p->n)
+        && (p->atol_len == 1 || p->atol_len == p->n)) { /* else the start refuses the lengths, and reads no entry */
+        if (raimsklo_has_nan_(p->rtol, p->rtol_len) || raimsklo_has_nan_(p->atol, p->atol_len)) return 0;
+    }
+    sign = p->xend < p->x0 ? -1 : 1, before = p->x0;
     for (i = 0; i < p->t_eval_len; i++) {
         double time = p->t_eval[i];
-        if (!(sign * before <= sign * time && sign * time <= sign * p->xend)) return 0;
+        if (raimsklo_has_nan_(&time, 1) || sign * time < sign * before || sign * time > sign * p->xend) return 0;
         before = time;
     }
     return 1;
 }
 
-/* An accepted pose, or the start's, is handed out: to the result, and those of t_eval that it reaches. */
+/* An accepted pose, or the start's, is handed out: to the result, and those of t_eval that it reaches. These are looked
+ * at first, because they lie no later than the step's end. */
 static inline void raimsklo_hand_out_(const raimsklo_problem *p, const raimsklo_report *report,
                                       raimsklo_result *result) {
     size_t n = p->n;
     result->time = report->time;
     memcpy(result->y, report->y, n * sizeof *result->y);
-    raimsklo_look_(result, report->time, report->y, n);
     for (; result->evaluated < p->t_eval_len; result->evaluated++) {
         double time = p->t_eval[result->evaluated], *pose = p->poses + result->evaluated * n;
-        if (raimsklo_pose_at(report, time, pose) != 0) return;
+        if (raimsklo_pose_at(report, time, pose) != 0) break;
         raimsklo_look_(result, time, pose, n);
     }
+    raimsklo_look_(result, report->time, report->y, n);
 }
 
 /* A report is handed out; the kind of the reply, which goes on from the pose reported, but for modified. */
@@ -255,42 +291,39 @@ static inline size_t raimsklo_report_(const raimsklo_problem *p, const raimsklo_
 
 static inline int raimsklo_solve(const raimsklo_problem *p, const raimsklo_callbacks *callbacks, double *memory,
                                  size_t memory_len, raimsklo_result *result) {
-    const uint64_t not_a_number = (uint64_t)0x7ff8 << 48;
     uint8_t session[RAIMSKLO_SESSION_LENGTH];
     size_t pivots[RAIMSKLO_MAX_STATES];
     size_t n, work_len = 0, question_len = 0, pivots_len = 0;
-    double nothing = 0, *work = &nothing, *question = &nothing, *reply = &nothing;
+    double y0[RAIMSKLO_MAX_STATES], nothing = 0, *work = &nothing, *question = &nothing, *reply = &nothing;
     raimsklo_options options;
     raimsklo_answer a;
     int stop = 0, broken_off = 0;
 
+    raimsklo_empty_(p, result, RAIMSKLO_STATUS_ARGUMENT, y0);
     if (!raimsklo_usable_(p, callbacks, memory, memory_len, result)) return RAIMSKLO_STATUS_ARGUMENT;
     n = p->n, options = p->options;
     options.supplied = callbacks->jacobian != NULL;
-    if (p->x0 == p->xend && !options.has_first_step) {
+    if (p->x0 == p->xend && raimsklo_has_ends_(p) && !options.has_first_step) {
         double length = p->xend - p->x0; /* -0 from 0 to -0, and the first step must have its sign */
         uint64_t bits;
         memcpy(&bits, &length, sizeof bits);
         options.has_first_step = 1, options.first_step = bits >> 63 ? -1 : 1;
     }
     result->cap = raimsklo_cap(options, n), result->jacobian_cap = raimsklo_jacobian_cap(options);
-    if (n > 0 && n <= RAIMSKLO_MAX_STATES) {
-        memcpy(result->y, p->y0, n * sizeof *result->y);
-        if (memory_len >= RAIMSKLO_SOLVE_LENGTH(n)) { /* else the start refuses the lengths 0 in their turn */
-            work_len = RAIMSKLO_WORK_LENGTH(n), question_len = RAIMSKLO_QUESTION_LENGTH(n), pivots_len = n;
-            work = memory, question = work + work_len, reply = question + question_len;
-        }
-    }
+    if (n > 0 && n <= RAIMSKLO_MAX_STATES && memory_len >= RAIMSKLO_SOLVE_LENGTH(n)) {
+        work_len = RAIMSKLO_WORK_LENGTH(n), question_len = RAIMSKLO_QUESTION_LENGTH(n), pivots_len = n;
+        work = memory, question = work + work_len, reply = question + question_len;
+    } /* else the start refuses the lengths 0 in their turn */
 
-    a = raimsklo_start(p->x0, p->xend, n ? p->y0 : &nothing, n,
+    a = raimsklo_start(p->x0, p->xend, n > RAIMSKLO_MAX_STATES ? p->y0 : y0, n,
                        p->rtol_len ? p->rtol : &nothing, p->rtol_len, p->atol_len ? p->atol : &nothing, p->atol_len,
                        options, work, work_len, pivots, pivots_len, session, sizeof session, question, question_len);
-    if (raimsklo_is_question(a.number)) raimsklo_look_(result, p->x0, p->y0, n);
+    if (raimsklo_is_question(a.number)) raimsklo_look_(result, p->x0, y0, n);
     while (raimsklo_is_question(a.number)) {
         size_t kind = RAIMSKLO_CONTINUE, length = n;
         if (a.number == RAIMSKLO_WANTS_DERIVATIVE) {
             kind = RAIMSKLO_DERIVATIVE, result->nfe++;
-            raimsklo_fill_(reply, n, not_a_number);
+            raimsklo_fill_(reply, n, RAIMSKLO_NAN_);
             broken_off = stop = callbacks->derivative(a.time, question, reply, n, callbacks->user);
         } else if (a.number == RAIMSKLO_WANTS_JACOBIAN) {
             kind = RAIMSKLO_JACOBIAN, length = n * n, result->nje++;
@@ -329,10 +362,10 @@ static inline int raimsklo_solve(const raimsklo_problem *p, const raimsklo_callb
 static inline int raimsklo_solve_alloc(const raimsklo_problem *p, const raimsklo_callbacks *callbacks,
                                        raimsklo_result *result) {
     size_t length = p == NULL || p->n > RAIMSKLO_MAX_STATES ? 0 : RAIMSKLO_SOLVE_LENGTH(p->n);
-    double *memory = length == 0 ? NULL : (double *)malloc(length * sizeof *memory);
+    double y0[RAIMSKLO_MAX_STATES], *memory = length == 0 ? NULL : (double *)malloc(length * sizeof *memory);
     int status;
     if (memory == NULL && length > 0) {
-        if (result != NULL) memset(result, 0, sizeof *result), result->status = RAIMSKLO_STATUS_MEMORY;
+        raimsklo_empty_(p, result, RAIMSKLO_STATUS_MEMORY, y0);
         return RAIMSKLO_STATUS_MEMORY;
     }
     status = raimsklo_solve(p, callbacks, memory, length, result);

@@ -66,6 +66,12 @@ static int oscillator(double t, const double *y, double *f, size_t n, void *user
     return stops(++s->derivatives, s->stop_derivative, 5);
 }
 
+static int turns(double t, const double *y, double *f, size_t n, void *user) {
+    (void)t, (void)n, (void)user;
+    f[0] = y[1], f[1] = -y[0];
+    return 0;
+}
+
 static int forgetful(double t, const double *y, double *f, size_t n, void *user) {
     (void)t, (void)n, (void)user;
     f[0] = y[1];
@@ -299,7 +305,7 @@ static void refusals(void) {
 }
 
 static void arguments(void) {
-    const double backwards[2] = {2, 1}, outside[2] = {1, 11}, unknown[1] = {NAN};
+    const double backwards[2] = {2, 1}, outside[2] = {1, 11}, unknown[1] = {NAN}, half_known[2] = {1e-6, -NAN};
     double poses[4];
     seen s = nothing_seen();
     raimsklo_callbacks c = calls(oscillator, NULL, NULL, &s), none = calls(NULL, NULL, NULL, NULL);
@@ -314,6 +320,18 @@ static void arguments(void) {
     CHECK(solve(&p, &c) == RAIMSKLO_STATUS_ARGUMENT);
     p = good, p.rtol = NULL;
     CHECK(solve(&p, &c) == RAIMSKLO_STATUS_ARGUMENT);
+    p = good, p.rtol = unknown;
+    CHECK(solve(&p, &c) == RAIMSKLO_STATUS_ARGUMENT && result.number == 0 && result.y[0] == 1);
+    p.rtol = half_known, p.rtol_len = 2;
+    CHECK(solve(&p, &c) == RAIMSKLO_STATUS_ARGUMENT);
+    p = good, p.atol = unknown;
+    CHECK(solve(&p, &c) == RAIMSKLO_STATUS_ARGUMENT);
+    p.atol = half_known, p.atol_len = 2;
+    CHECK(solve(&p, &c) == RAIMSKLO_STATUS_ARGUMENT);
+    p.rtol_len = 3; /* of which there is one: a wrong length is refused as such, unread */
+    CHECK(solve(&p, &c) == RAIMSKLO_STATUS_REFUSED && result.number == RAIMSKLO_REFUSED_TOLERANCE_LENGTH);
+    p = good, p.rtol = unknown, p.rtol_len = 0;
+    CHECK(solve(&p, &c) == RAIMSKLO_STATUS_REFUSED && result.number == RAIMSKLO_REFUSED_TOLERANCE_LENGTH);
     p = good, p.t_eval = backwards, p.t_eval_len = 2;
     CHECK(solve(&p, &c) == RAIMSKLO_STATUS_ARGUMENT);
     p.poses = poses;
@@ -341,6 +359,48 @@ static void status_messages(void) {
         CHECK(strcmp(raimsklo_status_message(a), "unknown status") != 0);
     }
     CHECK(strcmp(raimsklo_status_message(RAIMSKLO_STATUS_STOPPED + 1), "unknown status") == 0);
+}
+
+/* ---- from the pose of the call before, in the result ---- */
+
+static void going_on(void) {
+    static double many[MOST];
+    double middle[2];
+    size_t i;
+    seen s = nothing_seen();
+    raimsklo_callbacks c = calls(oscillator, NULL, NULL, &s), none = calls(NULL, NULL, NULL, NULL);
+    raimsklo_problem first = oscillation(0, 5), p = oscillation(5, 10);
+    raimsklo_result apart;
+    CHECK(solve(&first, &c) == RAIMSKLO_STATUS_SOLVED);
+    memcpy(middle, result.y, sizeof middle);
+    p.y0 = middle;
+    CHECK(raimsklo_solve_alloc(&p, &c, &apart) == RAIMSKLO_STATUS_SOLVED && fabs(apart.y[0] - cos(10.0)) < 1e-3);
+
+    p.y0 = result.y;
+    CHECK(solve(&p, &c) == RAIMSKLO_STATUS_SOLVED && result.nfe == apart.nfe);
+    CHECK(memcmp(result.y, apart.y, sizeof apart.y) == 0);
+    CHECK(solve(&first, &c) == RAIMSKLO_STATUS_SOLVED);
+    CHECK(raimsklo_solve_alloc(&p, &c, &result) == RAIMSKLO_STATUS_SOLVED);
+    CHECK(memcmp(result.y, apart.y, sizeof apart.y) == 0);
+
+    /* what begins no run leaves the pose there for the next call */
+    CHECK(solve(&first, &c) == RAIMSKLO_STATUS_SOLVED);
+    CHECK(solve(&p, &none) == RAIMSKLO_STATUS_ARGUMENT && result.time == 5);
+    CHECK(memcmp(result.y, middle, sizeof middle) == 0);
+    no_memory = 1;
+    CHECK(raimsklo_solve_alloc(&p, &c, &result) == RAIMSKLO_STATUS_MEMORY && result.time == 5);
+    CHECK(memcmp(result.y, middle, sizeof middle) == 0);
+    no_memory = 0;
+    p.options.max_steps = 0;
+    CHECK(solve(&p, &c) == RAIMSKLO_STATUS_REFUSED && memcmp(result.y, middle, sizeof middle) == 0);
+
+    /* all 64 states */
+    for (i = 0; i < MOST; i++) many[i] = 1;
+    p = raimsklo_make_problem(0, 0.5, many, MOST, &tight, 1, &tight, 1), c = calls(decays, NULL, NULL, &s);
+    CHECK(solve(&p, &c) == RAIMSKLO_STATUS_SOLVED);
+    p.x0 = 0.5, p.xend = 1, p.y0 = result.y;
+    CHECK(solve(&p, &c) == RAIMSKLO_STATUS_SOLVED);
+    for (i = 0; i < MOST; i++) CHECK(fabs(result.y[i] - exp(-(double)(i + 1) / 8)) < 1e-3);
 }
 
 /* ---- stopped by each callback ---- */
@@ -451,6 +511,37 @@ static void buffers(void) {
     CHECK(solve(&p, &c) == RAIMSKLO_STATUS_STOPPED && result.has_nonfinite && result.nonfinite_at == 0);
 }
 
+/* NaN after half of the interval from 0 to 1, or from 1 to 0, as user points to its direction. */
+static int breaks(double t, const double *y, double *f, size_t n, void *user) {
+    double sign = *(double *)user;
+    (void)y, (void)n;
+    f[0] = sign * t > sign * 0.5 ? NAN : 1;
+    return 0;
+}
+
+/* The first time that is not finite: of t_eval where it lies within a step, else the step's end. */
+static void first_time(void) {
+    const scalar one = {1, 1e-3, 1e-6};
+    const double forward[5] = {0.25, 0.5, 0.52, 0.55, 1}, backward[4] = {0.75, 0.48, 0.45, 0};
+    double direction = 1, poses[5], end;
+    raimsklo_callbacks c = calls(breaks, NULL, NULL, &direction);
+    raimsklo_problem p = sum(&one, 1);
+    p.options.first_step = p.options.max_step = 0.1, p.options.has_max_step = 1;
+    CHECK(solve(&p, &c) == RAIMSKLO_STATUS_NOT_FINITE);
+    end = result.nonfinite_at;
+    CHECK(end > 0.55 && end < 0.65);
+    p.t_eval = forward, p.t_eval_len = 5, p.poses = poses;
+    CHECK(solve(&p, &c) == RAIMSKLO_STATUS_NOT_FINITE && result.evaluated == 5 && result.nonfinite_at == 0.52);
+    CHECK(poses[1] == poses[1] && poses[2] != poses[2] && poses[3] != poses[3] && poses[4] != poses[4]);
+    p.t_eval = forward + 4, p.t_eval_len = 1; /* later than the step's end */
+    CHECK(solve(&p, &c) == RAIMSKLO_STATUS_NOT_FINITE && result.evaluated == 1 && result.nonfinite_at == end);
+
+    direction = -1, p.x0 = 1, p.xend = 0, p.options.first_step = -0.1;
+    p.t_eval = backward, p.t_eval_len = 4;
+    CHECK(solve(&p, &c) == RAIMSKLO_STATUS_NOT_FINITE && result.evaluated == 4 && result.nonfinite_at == 0.48);
+    CHECK(poses[0] == poses[0] && poses[1] != poses[1]);
+}
+
 /* ---- the Jacobian, column by column ---- */
 
 static void columns(void) {
@@ -487,6 +578,32 @@ static int poses_of_step(raimsklo_report *r, void *user) {
     CHECK(raimsklo_pose_at(r, r->previous, pose) == 0 && fabs(pose[0] - cos(r->previous)) < 1e-3);
     CHECK(raimsklo_pose_at(r, r->time, pose) == 0 && memcmp(pose, r->y, sizeof pose) == 0);
     return stops(s->reports, s->stop_report, 1);
+}
+
+/* The pose reported before, its order, and how far the step's beginning lies from it at most. */
+typedef struct {
+    double y[2];
+    size_t length; /* of the snapshot, which tells the order; 0: none yet */
+    double same_order, changed_order;
+} beginnings;
+
+static int beginning_of_step(raimsklo_report *r, void *user) {
+    beginnings *b = (beginnings *)user;
+    double pose[2], *most = b->length == r->snapshot_len ? &b->same_order : &b->changed_order;
+    size_t i;
+    CHECK(raimsklo_pose_at(r, r->previous, pose) == 0);
+    for (i = 0; i < 2 && b->length > 0; i++) *most = fmax(*most, fabs(pose[i] - b->y[i]));
+    memcpy(b->y, r->y, sizeof b->y), b->length = r->snapshot_len;
+    return 0;
+}
+
+static void beginning(void) {
+    beginnings b = {{0, 0}, 0, 0, 0};
+    raimsklo_callbacks c = calls(turns, NULL, beginning_of_step, &b);
+    raimsklo_problem p = oscillation(0, 10);
+    CHECK(solve(&p, &c) == RAIMSKLO_STATUS_SOLVED);
+    CHECK(b.same_order > 0 && b.same_order < 1e-14);              /* roundings */
+    CHECK(b.changed_order > 1e-9 && b.changed_order < 2 * tight); /* a step's error */
 }
 
 static void poses(void) {
@@ -527,12 +644,6 @@ static void poses(void) {
 /* A host that changes t_eval under way: a time that lies in no step is no success. */
 static int moves_the_time(raimsklo_report *report, void *user) {
     *(double *)user = report->previous / 2 - 1;
-    return 0;
-}
-
-static int turns(double t, const double *y, double *f, size_t n, void *user) {
-    (void)t, (void)n, (void)user;
-    f[0] = y[1], f[1] = -y[0];
     return 0;
 }
 
@@ -654,11 +765,14 @@ int main(void) {
     refusals();
     arguments();
     status_messages();
+    going_on();
     stopped();
     elsewhere();
     buffers();
+    first_time();
     columns();
     poses();
+    beginning();
     poses_that_are_missing();
     bits();
     modified();
