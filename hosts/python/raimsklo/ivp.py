@@ -144,7 +144,7 @@ def solve_ivp(
         tend,
         jac is not None,
     )
-    rtol, atol = settings.tolerances(rtol, "`rtol`"), settings.tolerances(atol, "`atol`")
+    rtol, atol = settings.tolerances(rtol, "rtol"), settings.tolerances(atol, "atol")
     fun, jac = settings.right_side(fun, args, vectorized), settings.jacobian(jac, args, n)
 
     def solve(rtol: Sequence[float], atol: Sequence[float], dense: bool) -> Result:

@@ -163,7 +163,7 @@ class LSODA(OdeSolver):
             jac is not None,
         )
         options.banded = 0 if lband is None and uband is None else 1
-        rtol, atol = settings.tolerances(rtol, "`rtol`"), settings.tolerances(atol, "`atol`")
+        rtol, atol = settings.tolerances(rtol, "rtol"), settings.tolerances(atol, "atol")
         self._run = calls.Run(t0, t_bound, self.y, rtol, atol, options)
         self._buffers = calls.Buffers(self._run)
         self._right_side, self._jacobian = settings.right_side(fun, (), vectorized), settings.jacobian(jac, (), self.n)

@@ -42,11 +42,12 @@ def options(settings: dict, sizes: dict, t0: float, tend: float, supplied: bool)
     return options
 
 
-def tolerances(values: Any, what: str) -> array:
+def tolerances(values: Any, name: str) -> array:
     """One of the two lists of tolerances."""
-    numbers = given.vector(values, what)
-    if any(map(math.isnan, numbers)):
-        raise ValueError(f"{what} has a NaN.")
+    numbers = given.vector(values, f"`{name}`")
+    for index, number in enumerate(numbers):
+        if math.isnan(number):
+            raise ValueError(f"{name}[{index}] is NaN")
     return numbers
 
 

@@ -144,8 +144,8 @@ class Sizes(unittest.TestCase):
         self.assertTrue(solve_ivp(decay, (0, 1), [1.0], first_step=1.0).success)
 
     def test_tolerances(self):
-        self.refused("`rtol` has a NaN.", rtol=math.nan)
-        self.refused("`atol` has a NaN.", atol=[math.nan])
+        self.refused("rtol[0] is NaN", rtol=math.nan)
+        self.refused("atol[0] is NaN", atol=[math.nan])
         self.refused("`rtol` must be 1-dimensional.", rtol=[[1e-3]])
 
     def test_not_numbers(self):
