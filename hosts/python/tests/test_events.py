@@ -18,11 +18,12 @@ try:
 except ImportError:
     numpy = None
 try:
-    from raimsklo.scipy_solver import LSODA
     from scipy.integrate import solve_ivp
     from scipy.optimize import brentq
 except ImportError:
     solve_ivp = None
+if solve_ivp is not None:
+    from raimsklo.scipy_solver import LSODA
 
 TOLERANCE = 4 * 2.0**-52
 

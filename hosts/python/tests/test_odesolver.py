@@ -18,12 +18,13 @@ from test_solve import robertson, robertson_jac, swing, van_der_pol  # noqa: E40
 try:
     import numpy
     import scipy.sparse
-    from raimsklo import scipy_solver
-    from raimsklo.scipy_solver import LSODA
     from scipy.integrate import OdeSolver
     from scipy.integrate import solve_ivp as scipy_ivp
 except ImportError:
-    scipy_solver, OdeSolver = None, object
+    scipy_ivp, OdeSolver = None, object
+if scipy_ivp is not None:  # where scipy is there, a module of ours that cannot be imported is a failure
+    from raimsklo import scipy_solver
+    from raimsklo.scipy_solver import LSODA
 
 TIGHT = dict(rtol=1e-6, atol=[1e-8, 1e-12, 1e-8], max_steps=5000)  # for Robertson's problem
 
@@ -69,7 +70,7 @@ class WithoutScipy(unittest.TestCase):
             self.assertIn("needs scipy", printed.stdout.decode())
 
 
-@unittest.skipIf(scipy_solver is None, "no scipy")
+@unittest.skipIf(scipy_ivp is None, "no scipy")
 class Solves(unittest.TestCase):
     RUNS = [
         (swing, (0.0, 10.0), [1.0, 0.0], dict(rtol=1e-6, atol=1e-9)),
@@ -214,7 +215,7 @@ class Solves(unittest.TestCase):
             LSODA(swing, 1.0, [1, 0], 1.0, rtol=-1.0)
 
 
-@unittest.skipIf(scipy_solver is None, "no scipy")
+@unittest.skipIf(scipy_ivp is None, "no scipy")
 class Fails(unittest.TestCase):
     def test_named_ends(self):
         result = solve(swing, (0, 10), [1, 0], max_steps=3)
@@ -329,7 +330,7 @@ class Fails(unittest.TestCase):
             solve(swing, (0, 1), [1, 0], jac=[[0.0, 1j], [0.0, 0.0]])
 
 
-@unittest.skipIf(scipy_solver is None, "no scipy")
+@unittest.skipIf(scipy_ivp is None, "no scipy")
 class Steps(unittest.TestCase):
     """A solver that is stepped."""
 

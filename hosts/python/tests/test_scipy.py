@@ -131,8 +131,6 @@ class Manners(unittest.TestCase):
         self.assertFalse(result.success)
 
     def test_the_class_names_the_method(self):
-        if not hasattr(raimsklo, "LSODA"):
-            self.skipTest("raimsklo.scipy_solver is not there")
         ours = solve_ivp(swing, (0, 10), [1.0, 0.0], method=raimsklo.LSODA)
         self.assertEqual(list(ours.t), list(solve_ivp(swing, (0, 10), [1.0, 0.0]).t))
         from scipy.integrate import LSODA
@@ -141,10 +139,6 @@ class Manners(unittest.TestCase):
             solve_ivp(swing, (0, 10), [1.0, 0.0], method=LSODA)
 
     def test_events(self):
-        try:
-            import raimsklo.events  # noqa: F401
-        except ImportError:
-            self.skipTest("raimsklo.events is not there")
         stop = lambda t, y: y[0] + 0.9  # noqa: E731
         stop.terminal = True
         seen = [lambda t, y: y[0], lambda t, y: y[1] - 7.0, stop]

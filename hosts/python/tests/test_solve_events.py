@@ -11,10 +11,6 @@ from raimsklo import solve_ivp  # noqa: E402
 from test_solve import swing  # noqa: E402
 
 try:
-    import raimsklo.events as there
-except ImportError:
-    there = None
-try:
     import numpy
 except ImportError:
     numpy = None
@@ -32,7 +28,6 @@ def poses(result):
     return [list(row) for row in result.y]
 
 
-@unittest.skipIf(there is None, "raimsklo.events is not there")
 class Events(unittest.TestCase):
     def test_none(self):
         result = solve_ivp(swing, (0, 10), [1, 0])
