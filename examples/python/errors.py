@@ -7,17 +7,13 @@ that its own error is far below: beside scipy's DOP853 at 1e-12 it is 2e-8 rad f
 As many decimals are shown as leave the error at most half a unit of the last one.
 """
 
-import os
-import sys
 from math import floor, log10
 
-HERE = os.path.dirname(os.path.abspath(__file__))
-sys.path[:0] = [HERE, os.path.join(HERE, "../../hosts/python")]
-
-import poses  # noqa: E402
-from progress import Progress  # noqa: E402
-from raimsklo import solve_ivp  # noqa: E402
-from rigs import HAND, TAIL  # noqa: E402
+import repository  # noqa: F401; before raimsklo: it says which one
+import poses
+from progress import Progress
+from raimsklo import solve_ivp
+from rigs import HAND, TAIL
 
 TIGHT, TRIED = (1e-9, 1e-11), [(1e-4, 1e-6), (1e-5, 1e-7), (1e-6, 1e-8)]
 

@@ -71,6 +71,9 @@ def write(figure, stem, kinds=("png", "svg"), width=12.0, height=7.2, dpi=130):
             colours = LinearSegmentedColormap.from_list("scale", panel.scale.colours)
             meaning = ScalarMappable(Normalize(panel.scale.low, panel.scale.high), colours)
             left.colorbar(meaning, ax=axes, label=panel.scale.name, aspect=30, pad=0.03)
+        # laid out once: each saving would widen the equal axes anew, and the files would differ
+        drawn.canvas.draw()
+        drawn.set_layout_engine("none")
         for path, kind in zip(paths, kinds):
             drawn.savefig(path, dpi=dpi, metadata={"Date": None} if kind == "svg" else None)
             if kind == "png":  # a third of the size

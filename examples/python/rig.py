@@ -15,20 +15,20 @@ import os
 import sys
 from collections import namedtuple
 
-HERE = os.path.dirname(os.path.abspath(__file__))
-sys.path[:0] = [HERE, os.path.join(HERE, "../../hosts/python")]
-
-import panels  # noqa: E402
-import poses  # noqa: E402
-from progress import Progress  # noqa: E402
-from raimsklo import solve_ivp  # noqa: E402
-from rigs import HAND, TAIL  # noqa: E402
+import repository  # noqa: F401; before raimsklo: it says which one
+import panels
+import poses
+from progress import Progress
+from raimsklo import solve_ivp
+from rigs import HAND, TAIL
 
 try:
     import plot
 except ImportError:
     plot = None
     import picture
+
+PICTURES = os.path.join(os.path.dirname(os.path.abspath(__file__)), "../../docs/pictures")
 
 # At rtol 1e-4 the method takes the tail for stiff, and asks for eight times as many derivatives as here (errors.py).
 RTOL, ATOL, MAX_STEPS = 1e-5, 1e-7, 100000
@@ -119,8 +119,8 @@ def readme():
     result = solve(show.rig)
     drawn = figure(show, result, poses.frames(show.rig, result))
     drawn.over_time = drawn.over_time[1:]
-    stem = os.path.join(HERE, "../../docs/pictures", show.rig.name)
-    os.makedirs(os.path.dirname(stem), exist_ok=True)
+    os.makedirs(PICTURES, exist_ok=True)
+    stem = os.path.join(PICTURES, show.rig.name)
     print(os.path.relpath(plot.write(drawn, stem, ["png"], width=9.6, height=5.2, dpi=150)[0]))
 
 

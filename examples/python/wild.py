@@ -17,11 +17,8 @@ import sys
 import time
 from collections import namedtuple
 
-HERE = os.path.dirname(os.path.abspath(__file__))
-sys.path[:0] = [HERE, os.path.join(HERE, "../../hosts/python")]
-
-from progress import Progress  # noqa: E402
-from raimsklo import solve_ivp  # noqa: E402
+import repository  # noqa: F401; before raimsklo: it says which one
+from progress import Progress
 
 RTOL, ATOL, MAX_STEPS = 1e-6, 1e-9, 20000
 
@@ -80,6 +77,8 @@ Row = namedtuple("Row", "solver end reached nonfinite requests most cap seconds"
 
 
 def ours(case):
+    from raimsklo import solve_ivp  # not above: scipy's process may have no raimsklo
+
     began = time.monotonic()
     result = solve_ivp(
         lambda t, y: case.fun(t, [float(v) for v in y]),
