@@ -55,7 +55,7 @@ int main(void) {
     callbacks.user = &hangs;
     raimsklo_solve_alloc(&problem, &callbacks, &result);
     if (result.status == RAIMSKLO_STATUS_STOPPED && result.stopped == HANGS) {
-        printf("the wrist hangs at %.6f: thumb %.6f, index %.6f, little %.6f\n", hangs.time, hangs.pose[1],
+        printf("the wrist hangs at %.4f: thumb %.4f, index %.4f, little %.4f\n", hangs.time, hangs.pose[1],
                hangs.pose[2], hangs.pose[3]);
         printf("%s after %zu steps, %zu derivatives\n", raimsklo_message(result.number), result.accepted, result.nfe);
         return 0;

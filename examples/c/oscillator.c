@@ -1,5 +1,5 @@
-/* A pendulum for small angles, y'' = -y, from 0 to 10; prints the pose at each accepted step. The question loop, with
- * nothing but the proved library.
+/* A pendulum for small angles, y'' = -y, from 0 to 10; prints the pose at each accepted step, with the digits that
+ * its error allows. The question loop, with nothing but the proved library.
  *     bash tools/library raimsklo
  *     cc -Iinclude examples/c/oscillator.c target/staticlib/libraimsklo.a -o target/oscillator
  *     target/oscillator */
@@ -18,7 +18,7 @@ int main(void) {
         size_t kind = RAIMSKLO_CONTINUE;
         f[0] = question[0], f[1] = question[1];
         if (a.number == RAIMSKLO_WANTS_DERIVATIVE) kind = RAIMSKLO_DERIVATIVE, f[0] = question[1], f[1] = -question[0];
-        if (a.number == RAIMSKLO_REPORT) printf("%8.4f  % .10f  % .10f\n", a.time, question[0], question[1]);
+        if (a.number == RAIMSKLO_REPORT) printf("%8.4f  % .3f  % .3f\n", a.time, question[0], question[1]);
         a = raimsklo_reply(kind, f, N, a.time, work, WORK, pivots, N, session, sizeof session, question, QUESTION);
     }
     printf("%s: %zu steps accepted, %zu derivatives\n", raimsklo_message(a.number), a.accepted, a.nfe);

@@ -43,8 +43,8 @@ int main(int argc, char **argv) {
     printf("frame,time");
     for (i = 1; i <= LINKS; i++) printf(",angle%zu", i);
     for (k = 0; k < result.evaluated; k++) {
-        printf("\n%zu,%.17g", k, times[k]);
-        for (i = 0; i < LINKS; i++) printf(",%.17g", poses[k * N + i]);
+        printf("\n%zu,%.6f", k, times[k]);
+        for (i = 0; i < LINKS; i++) printf(",%.6f", poses[k * N + i]);
     }
     printf("\n");
 

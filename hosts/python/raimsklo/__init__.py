@@ -7,11 +7,12 @@
 >>> result.success, float(result.t[-1])
 (True, 10.0)
 
-Know before use: in whole runs the order never exceeds 2, so at the same tolerances it asks for 2 to 11 times the
-derivatives of ODEPACK's LSODA and its error is 3 to 20 times as large, more on smooth problems (docs/SPEED.md), from
-three states on the linear solve may answer another system, and Robertson's problem to 4e10 ends in wrong numbers: all
-of it the published Rust's, kept bit for bit (docs/DIFFERENCES.md). In return every run ends, by name or by a numbered
-refusal, its work is capped beforehand, its bits are the same everywhere, and a pose comes only from an accepted step.
+Know before use: in whole runs the order never exceeds 2, so at the same tolerances, 1e-6 to 1e-8, it asks for 2 to 11
+times the derivatives of ODEPACK's LSODA and its error is 3 to 20 times as large, more on smooth problems
+(docs/SPEED.md), from three states on the linear solve may answer another system, and Robertson's problem to 4e10 ends
+in wrong numbers: all of it the published Rust's, kept bit for bit (docs/DIFFERENCES.md). In return every run ends, by
+name or by a numbered refusal, its work is capped beforehand, its bits are the same everywhere, and a pose comes only
+from an accepted step.
 
 What scipy's has and this has not: complex states, lband and uband.
 What this has and scipy's has not: a named end, the counts with their caps, a report after each step, the first time

@@ -29,8 +29,8 @@ def brent(f: Callable[[float], float], a: float, b: float, fa: float, fb: float)
     """A zero of f between a and b, where it is fa and fb: of unlike signs, or 0 (then that end is the zero).
 
     Brent's method (Algorithms for Minimization without Derivatives, 1973, chapter 4). `a` may be above b. The zero is
-    within 4*2^-52*(1 + |zero|), or f jumps over 0 there. Where f is so flat that its steps do not shrink, bisection ends
-    the search.
+    within 4*2^-52*(1 + |zero|), or f jumps over 0 there. Where f is so flat that its steps do not shrink, bisection
+    ends the search.
     """
     if fa == 0.0:
         return a
