@@ -19,7 +19,8 @@
  *     number  the run has ended              what to change
  *     110     success                        nothing; a pose may still be NaN or infinite where a derivative was: look
  *     111     interrupted by the host        nothing
- *     112     needs more steps               raise max_steps, loosen the tolerances or shorten the interval
+ *     112     needs more steps               raise max_steps, give a first_step, loosen the tolerances, shorten the
+ *                                            interval, or look for a pole of the right side near this time
  *     113     step too small                 loosen the tolerances, lower min_step, or look for a jump or a pole of the
  *                                            right side near this time
  *     114     poor convergence               give a Jacobian, raise maxcor or mxncf, lower min_step, or look for a jump
@@ -30,7 +31,7 @@
  *      1      n above 64                                  10      atol[index] below 0
  *      2      a tolerance list not 1 or n long            11      first step `value` zero, NaN or away from the end
  *      3      a length is wrong                           12      weight rtol*|y|+atol at `index` at most 0
- *      4      a setting above 1,000,000                   13      the session holds a value out of its range
+ *      4      a setting above 1,000,000                   13      session or pivots hold a value out of its range
  *      5      max_steps 0                                 14      another reply was asked for, or the run has ended
  *      6      maxcor 0                                    15      raimsklo_interpolate: the snapshot's header
  *      7      mxordn or mxords 0                          16      raimsklo_interpolate: the pose's length
@@ -43,7 +44,7 @@
  * derivative, or at the end of an accepted step, whose pose is then not reported. They leave work and pivots as far as
  * the call had come and a session that has ended (14 from then on), and there are no counts. What ends a run, 11 and 12
  * included, leaves the question as it was: after 12 and 113 to 115 a trial pose may stand there that was not accepted.
- * The last accepted pose is that of the last report.
+ * The pose to keep is that of the last report; the step that 12 or 115 ends at was accepted, and is not reported.
  *
  * Reports. A pose is handed out by a report alone, and a report follows an accepted step alone. After a step `continue`
  * keeps y and time as given: hand back those of the report, unless the run shall go on from others. `modified` takes y
@@ -182,9 +183,9 @@ typedef struct raimsklo_options {
     size_t has_max_step;   /* 0: the interval is the largest step; else max_step */
     size_t has_min_step;   /* 0: no smallest step; else min_step */
     size_t has_first_step; /* 0: the first step is computed; else first_step */
-    double max_step;
-    double min_step;
-    double first_step;     /* of the sign of xend - x0 */
+    double max_step;       /* by its size, without the sign; 0 and NaN are none */
+    double min_step;       /* the same; beyond the interval it leads nowhere */
+    double first_step;     /* of the sign of xend - x0; where the error is 0, as on a straight line, steps never grow */
 } raimsklo_options;
 
 /* What a call answers. Fields that a number has no use for are 0. */
@@ -207,7 +208,8 @@ size_t raimsklo_question_length(size_t n); /* 0 where n is above 64 */
 size_t raimsklo_session_length(void);
 
 /* A run from x0 to xend begins, in either direction. With no states (y0_len 0) it is a success at once: h and all
- * counts 0, nothing written. Equal ends are refused (11) where no first step is given, and a success where one is. */
+ * counts 0, nothing written. Equal ends are refused (11) where no first step is given, and a success where one is.
+ * Tolerances bound the error of one step; over a run errors add up. The last step may go beyond xend by a rounding. */
 raimsklo_answer raimsklo_start(
     double x0, double xend,
     const double *y0, size_t y0_len,
@@ -292,7 +294,8 @@ static inline const char *raimsklo_message(size_t number) {
 static inline const char *raimsklo_advice(size_t number) {
     switch (number) {
     case RAIMSKLO_NEEDS_MORE_STEPS:
-        return "raise max_steps, loosen the tolerances or shorten the interval";
+        return "raise max_steps, give a first_step, loosen the tolerances, shorten the interval, "
+               "or look for a pole of the right side near this time";
     case RAIMSKLO_STEP_TOO_SMALL:
         return "loosen the tolerances, lower min_step, or look for a jump or a pole of the right side near this time";
     case RAIMSKLO_POOR_CONVERGENCE:
@@ -305,7 +308,7 @@ static inline const char *raimsklo_advice(size_t number) {
     }
 }
 
-/* Jacobians that no step asks for more than, by differences or not. Settings that a start refuses as too large (4) give
+/* Jacobians that no step asks for more than, by differences or not. Where a start refuses mxncf as too large (4) it is
  * 0: there is no step. */
 static inline size_t raimsklo_jacobian_cap(raimsklo_options options) {
     if (options.mxncf > RAIMSKLO_MAX_SETTING) return 0;
@@ -313,7 +316,7 @@ static inline size_t raimsklo_jacobian_cap(raimsklo_options options) {
 }
 
 /* Derivatives that no step of n states asks for more than, in either family, those of its difference Jacobians
- * included; 0 where a setting or n is too large for a start. */
+ * included; 0 where mxncf, maxcor or n is too large for a start. */
 static inline size_t raimsklo_cap(raimsklo_options options, size_t n) {
     size_t jacobians = raimsklo_jacobian_cap(options);
     if (jacobians == 0 || options.maxcor > RAIMSKLO_MAX_SETTING || n > RAIMSKLO_MAX_STATES) return 0;

@@ -12,7 +12,7 @@
  *     if (raimsklo_solve(&problem, &callbacks, memory, LENGTH, &result) == RAIMSKLO_STATUS_SOLVED)
  *         printf("%g %g\n", result.time, result.y[0]);
  *     else
- *         fprintf(stderr, "%s: %s\n", raimsklo_status_message(result.status), raimsklo_message(result.number));
+ *         fprintf(stderr, "%s; %s\n", raimsklo_result_message(&result), raimsklo_advice(result.number));
  *
  * The call returns result.status, which is 0 only where the end was reached and every pose is there and finite:
  *
@@ -22,16 +22,16 @@
  *     RAIMSKLO_STATUS_ENDED_EARLY    -1    number 112 to 115: raimsklo_advice says what to change
  *     RAIMSKLO_STATUS_NOT_FINITE     -2    number 110, but a pose has a NaN or an infinity, first at nonfinite_at
  *     RAIMSKLO_STATUS_REFUSED        -3    number 1 to 12, with its index (9, 10, 12) or value (11)
- *     RAIMSKLO_STATUS_ARGUMENT       -4    number 0: a pointer is NULL, a tolerance is NaN, or t_eval is not in the
- *                                          run's order
+ *     RAIMSKLO_STATUS_ARGUMENT       -4    number 0: a pointer is NULL, a tolerance is NaN, or t_eval does not go from
+ *                                          x0 to xend
  *     RAIMSKLO_STATUS_MEMORY         -5    number 0: raimsklo_solve_alloc found no memory
  *     RAIMSKLO_STATUS_OUTSIDE        -6    raimsklo_pose_at: the time is not of the report's step; raimsklo_solve:
  *                                          number 110, but a time of t_eval lies in no accepted step
  *
- * Whatever the status, result.time and result.y are the last accepted pose, x0 and y0 where there is none (y is 0 where
- * y0 is NULL or n above 64), and has_nonfinite and nonfinite_at are set where an accepted pose, the start's included,
- * or a pose of t_eval is not finite. The run itself goes on as the library has it: its requests, reports and bits are
- * those of the question loop in raimsklo.h.
+ * Whatever the status, result.time and result.y are the pose reported last, x0 and y0 where there is none (y is 0 where
+ * y0 is NULL or n above 64), and has_nonfinite and nonfinite_at are set where a pose that was reported, that of a start
+ * that was taken or one of t_eval is not finite. The run itself goes on as the library has it: its requests, reports
+ * and bits are those of the question loop in raimsklo.h. raimsklo_result_message has the reason in words.
  *
  * y0 may be result.y, to go on from the pose of the call before. Nothing else that is given may overlap the result.
  *
@@ -42,18 +42,21 @@
  *   report      is called after each accepted step. raimsklo_pose_at gives poses within the step. To go on from another
  *               pose, at order 1, write it to report->changed, which holds y before the call, and set report->modified
  *               to 1 (raimsklo.h says what modified does). NULL: no reports
- * They may solve other problems, with other memory. An exception or a longjmp may leave them, and with it the run; only
- * the memory of raimsklo_solve_alloc is then lost.
+ * They may solve other problems, with other memory. An exception or a longjmp may leave them, and with it the run: the
+ * result then says STOPPED with the pose reported last, and stopped is 0. Only the memory of raimsklo_solve_alloc is
+ * lost.
  *
  * t_eval: the poses at t_eval[0 .. t_eval_len], from x0 to xend in the run's order, go to poses[k*n + i]. Each is taken
  * from the first accepted step that reaches it: y at its end, else interpolated within it, before the report is called.
  * result.evaluated of them are there; the rest of poses is not written.
  *
- * Equal ends, x0 == xend, are a success with no step: all else is checked as ever, and one derivative is asked for.
+ * Equal finite ends, x0 == xend, are a success with no step: all else is checked as ever, and one derivative is asked
+ * for.
  *
  * Memory: RAIMSKLO_SOLVE_LENGTH(n) doubles or more, that hold anything and overlap nothing else; fewer are refused (3).
- * The call takes about 10 KB of the stack beside them, the library's part included. raimsklo_solve_alloc takes them
- * from malloc; where there is none, define RAIMSKLO_NO_MALLOC before the header.
+ * The call takes up to 13 KB of the stack beside them, the library's part included. raimsklo_solve_alloc takes them
+ * from malloc, and so does raimsklo_solve_simple, the shortest call; where there is none, define RAIMSKLO_NO_MALLOC
+ * before the header.
  */
 #ifndef RAIMSKLO_SOLVE_H
 #define RAIMSKLO_SOLVE_H
@@ -143,11 +146,18 @@ static inline const char *raimsklo_status_message(int status) {
     case RAIMSKLO_STATUS_ENDED_EARLY: return "ended early";
     case RAIMSKLO_STATUS_NOT_FINITE: return "a pose is not finite";
     case RAIMSKLO_STATUS_REFUSED: return "refused";
-    case RAIMSKLO_STATUS_ARGUMENT: return "a pointer is NULL, a tolerance is NaN, or t_eval is not in the run's order";
+    case RAIMSKLO_STATUS_ARGUMENT:
+        return "a pointer is NULL, a tolerance is NaN, or t_eval does not go from x0 to xend";
     case RAIMSKLO_STATUS_MEMORY: return "no memory";
     case RAIMSKLO_STATUS_OUTSIDE: return "a time is not of an accepted step";
     default: return "unknown status";
     }
+}
+
+/* Why a call ended, in words: the library's where it ended the run early or refused it, else those of the status. */
+static inline const char *raimsklo_result_message(const raimsklo_result *result) {
+    int by_library = result->status == RAIMSKLO_STATUS_ENDED_EARLY || result->status == RAIMSKLO_STATUS_REFUSED;
+    return by_library ? raimsklo_message(result->number) : raimsklo_status_message(result->status);
 }
 
 static inline raimsklo_problem raimsklo_make_problem(
@@ -193,7 +203,7 @@ static inline void raimsklo_fill_(double *numbers, size_t n, uint64_t bits) {
 }
 
 /* The pose at a time of the report's step, its ends included: 0, or RAIMSKLO_STATUS_OUTSIDE or RAIMSKLO_STATUS_REFUSED
- * (the step has no length), which leave the pose as it was. At the step's end it is y, exactly. At its beginning it is
+ * (the snapshot is damaged), which leave the pose as it was. At the step's end it is y, exactly. At its beginning it is
  * interpolated: it may differ from the pose reported before by a rounding, and by up to a step's error where the order
  * has changed. */
 static inline int raimsklo_pose_at(const raimsklo_report *report, double time, double *pose) {
@@ -301,9 +311,10 @@ static inline int raimsklo_solve(const raimsklo_problem *p, const raimsklo_callb
 
     raimsklo_empty_(p, result, RAIMSKLO_STATUS_ARGUMENT, y0);
     if (!raimsklo_usable_(p, callbacks, memory, memory_len, result)) return RAIMSKLO_STATUS_ARGUMENT;
+    result->status = RAIMSKLO_STATUS_STOPPED, result->number = RAIMSKLO_INTERRUPTED; /* if a callback never returns */
     n = p->n, options = p->options;
     options.supplied = callbacks->jacobian != NULL;
-    if (p->x0 == p->xend && raimsklo_has_ends_(p) && !options.has_first_step) {
+    if (p->x0 == p->xend && raimsklo_finite_(&p->x0, 1) && raimsklo_finite_(&p->xend, 1) && !options.has_first_step) {
         double length = p->xend - p->x0; /* -0 from 0 to -0, and the first step must have its sign */
         uint64_t bits;
         memcpy(&bits, &length, sizeof bits);
@@ -362,7 +373,7 @@ static inline int raimsklo_solve(const raimsklo_problem *p, const raimsklo_callb
 static inline int raimsklo_solve_alloc(const raimsklo_problem *p, const raimsklo_callbacks *callbacks,
                                        raimsklo_result *result) {
     size_t length = p == NULL || p->n > RAIMSKLO_MAX_STATES ? 0 : RAIMSKLO_SOLVE_LENGTH(p->n);
-    double y0[RAIMSKLO_MAX_STATES], *memory = length == 0 ? NULL : (double *)malloc(length * sizeof *memory);
+    double y0[RAIMSKLO_MAX_STATES], *memory = length == 0 ? NULL : (double *)malloc(length * sizeof(double));
     int status;
     if (memory == NULL && length > 0) {
         raimsklo_empty_(p, result, RAIMSKLO_STATUS_MEMORY, y0);
@@ -371,6 +382,18 @@ static inline int raimsklo_solve_alloc(const raimsklo_problem *p, const raimsklo
     status = raimsklo_solve(p, callbacks, memory, length, result);
     free(memory);
     return status;
+}
+
+/* The shortest call: one rtol and one atol for all states, the default options, the Jacobian by differences, no
+ * reports, memory from malloc. */
+static inline raimsklo_result raimsklo_solve_simple(raimsklo_derivative derivative, void *user, double x0, double xend,
+                                                    const double *y0, size_t n, double rtol, double atol) {
+    raimsklo_problem problem = raimsklo_make_problem(x0, xend, y0, n, &rtol, 1, &atol, 1);
+    raimsklo_callbacks callbacks;
+    raimsklo_result result;
+    callbacks.derivative = derivative, callbacks.jacobian = NULL, callbacks.report = NULL, callbacks.user = user;
+    raimsklo_solve_alloc(&problem, &callbacks, &result);
+    return result;
 }
 #endif
 

@@ -60,7 +60,6 @@ int main(void) {
         printf("%s after %zu steps, %zu derivatives\n", raimsklo_message(result.number), result.accepted, result.nfe);
         return 0;
     }
-    fprintf(stderr, "%s: %s; %s\n", raimsklo_status_message(result.status), raimsklo_message(result.number),
-            raimsklo_advice(result.number));
+    fprintf(stderr, "%s; %s\n", raimsklo_result_message(&result), raimsklo_advice(result.number));
     return 1;
 }

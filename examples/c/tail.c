@@ -49,11 +49,10 @@ int main(int argc, char **argv) {
     printf("\n");
 
     fprintf(stderr, "%s at %g: %zu steps, %zu derivatives, at most %zu in a step, cap %zu\n",
-            raimsklo_message(result.number), result.time,
+            raimsklo_result_message(&result), result.time,
             result.accepted, result.nfe, result.largest_count, result.cap);
     if (result.status == RAIMSKLO_STATUS_SOLVED) return 0;
-    if (result.has_nonfinite) fprintf(stderr, "a pose is not finite, first at %g\n", result.nonfinite_at);
-    fprintf(stderr, "%s: %zu of %d frames; %s\n", raimsklo_status_message(result.status), result.evaluated, FRAMES,
-            raimsklo_advice(result.number));
+    if (result.has_nonfinite) fprintf(stderr, "the first pose that is not finite is at %g\n", result.nonfinite_at);
+    fprintf(stderr, "%zu of %d frames; %s\n", result.evaluated, FRAMES, raimsklo_advice(result.number));
     return 1;
 }

@@ -36,7 +36,8 @@ static void set_texts(void) {
     messages[113] = "step too small";
     messages[114] = "poor convergence";
     messages[115] = "coefficient gap";
-    advices[112] = "raise max_steps, loosen the tolerances or shorten the interval";
+    advices[112] = "raise max_steps, give a first_step, loosen the tolerances, shorten the interval, or look for a "
+                   "pole of the right side near this time";
     advices[113] = "loosen the tolerances, lower min_step, or look for a jump or a pole of the right side near this "
                    "time";
     advices[114] = "give a Jacobian, raise maxcor or mxncf, lower min_step, or look for a jump or a pole of the right "
@@ -74,8 +75,8 @@ static void lengths(void) {
     CHECK(raimsklo_work_length(RAIMSKLO_MAX_STATES + 1) == 0);
     CHECK(raimsklo_question_length(RAIMSKLO_MAX_STATES + 1) == 0);
     CHECK(raimsklo_session_length() == RAIMSKLO_SESSION_LENGTH);
-    CHECK(RAIMSKLO_WORK_LENGTH(1 + 1) == 42 && RAIMSKLO_QUESTION_LENGTH(1 + 1) == 34);
-    CHECK(RAIMSKLO_PIVOTS_LENGTH(1 + 1) * 2 == 4 && RAIMSKLO_SNAPSHOT_LENGTH(1 + 1, 1 + 1) == 12);
+    CHECK(RAIMSKLO_WORK_LENGTH(1 + 1) * 2 == 84 && RAIMSKLO_QUESTION_LENGTH(1 + 1) * 2 == 68);
+    CHECK(RAIMSKLO_PIVOTS_LENGTH(1 + 1) * 2 == 4 && RAIMSKLO_SNAPSHOT_LENGTH(1 + 1, 1 + 1) * 2 == 24);
 }
 
 /* Worked by hand. */
@@ -85,7 +86,9 @@ static void caps(void) {
     CHECK(raimsklo_cap(o, 2) == 73 + 2 * 19);
     CHECK(raimsklo_cap(o, 24) == 529);
     CHECK(raimsklo_jacobian_cap(o) == 19);
-    o.supplied = 1;
+    o.supplied = 2; /* anything but 0 */
+    CHECK(raimsklo_cap(o, 24) == 73);
+    o.msbp = RAIMSKLO_MAX_SETTING + 1; /* which no cap depends on */
     CHECK(raimsklo_cap(o, 24) == 73);
     CHECK(raimsklo_jacobian_cap(o) == 19);
     o.supplied = 0, o.mxncf = 1;
@@ -121,8 +124,9 @@ static raimsklo_answer start(size_t n, double rtol, double atol, size_t toleranc
                           work, WORK, pivots, N, session, session_len, question, QUESTION);
 }
 
+static double f[N]; /* what a reply gives */
+
 static raimsklo_answer reply(size_t kind, size_t length) {
-    double f[N] = {0, 0};
     return raimsklo_reply(kind, f, length, 0, work, WORK, pivots, N, session, sizeof session, question, QUESTION);
 }
 
@@ -171,11 +175,71 @@ static void refusals(void) {
     CHECK(raimsklo_interpolate(0.75, &pose, 1, snapshot, 8) == RAIMSKLO_REFUSED_SHORT_SNAPSHOT);
 }
 
+/* All that is lent, to be held against itself later. */
+typedef struct {
+    double work[WORK], question[QUESTION];
+    size_t pivots[N];
+    uint8_t session[RAIMSKLO_SESSION_LENGTH];
+} lent;
+
+static lent lent_now(void) {
+    lent l;
+    memcpy(l.work, work, sizeof work), memcpy(l.question, question, sizeof question);
+    memcpy(l.pivots, pivots, sizeof pivots), memcpy(l.session, session, sizeof session);
+    return l;
+}
+
+static int unchanged(const lent *l) {
+    return memcmp(l->work, work, sizeof work) == 0 && memcmp(l->question, question, sizeof question) == 0
+        && memcmp(l->pivots, pivots, sizeof pivots) == 0 && memcmp(l->session, session, sizeof session) == 0;
+}
+
+/* An answer of 11 or 12 in a reply: no counts, the question as it was, and 14 from then on, which changes nothing. */
+static void ended_by(size_t number, const raimsklo_answer *a, const lent *before) {
+    lent after = lent_now();
+    CHECK_AT(a->number == number && a->nfe == 0 && a->accepted == 0 && a->time == 0, raimsklo_message(number));
+    CHECK(memcmp(after.question, before->question, sizeof after.question) == 0);
+    CHECK(reply(RAIMSKLO_DERIVATIVE, N).number == RAIMSKLO_REFUSED_UNASKED && unchanged(&after));
+}
+
+/* What the header says of refusals: nothing is changed, and another call can be made; but 11 and 12 end the run. */
+static void what_refusals_leave(void) {
+    raimsklo_options good = raimsklo_defaults(), o = good;
+    raimsklo_answer a;
+    lent before;
+    memset(work, 7, sizeof work), memset(question, 7, sizeof question);
+    memset(session, 7, sizeof session), memset(pivots, 7, sizeof pivots);
+    before = lent_now();
+    o.max_steps = 0;
+    CHECK(start(N, 0, 0, 1, sizeof session, o).number == RAIMSKLO_REFUSED_NO_STEPS && unchanged(&before));
+    CHECK(start(N, 0, 0, 3, sizeof session, good).number == RAIMSKLO_REFUSED_TOLERANCE_LENGTH && unchanged(&before));
+    CHECK(start(0, 0, 0, 1, sizeof session, good).number == RAIMSKLO_SUCCESS && unchanged(&before));
+
+    CHECK(start(N, 1, 1, 1, sizeof session, good).number == RAIMSKLO_WANTS_DERIVATIVE && !unchanged(&before));
+    before = lent_now();
+    CHECK(reply(RAIMSKLO_CONTINUE, N).number == RAIMSKLO_REFUSED_UNASKED && unchanged(&before));
+    CHECK(reply(RAIMSKLO_DERIVATIVE, 1).number == RAIMSKLO_REFUSED_UNASKED && unchanged(&before));
+    CHECK(reply(6, N).number == RAIMSKLO_REFUSED_UNASKED && unchanged(&before));
+    CHECK(reply(RAIMSKLO_DERIVATIVE, N).number == RAIMSKLO_FIRST_REPORT && !unchanged(&before));
+
+    CHECK(start(N, 1, 1, 1, sizeof session, good).number == RAIMSKLO_WANTS_DERIVATIVE);
+    f[0] = f[1] = 1e308; /* so large that the step computed is 0 */
+    before = lent_now(), a = reply(RAIMSKLO_DERIVATIVE, N);
+    f[0] = f[1] = 0;
+    CHECK(a.value == 0);
+    ended_by(RAIMSKLO_REFUSED_FIRST_STEP, &a, &before);
+    CHECK(start(N, 1, 0, N, sizeof session, good).number == RAIMSKLO_WANTS_DERIVATIVE);
+    before = lent_now(), a = reply(RAIMSKLO_DERIVATIVE, N);
+    CHECK(a.index == 1);
+    ended_by(RAIMSKLO_REFUSED_WEIGHT, &a, &before);
+}
+
 int main(void) {
     version();
     texts();
     lengths();
     caps();
     refusals();
+    what_refusals_leave();
     return passed("hosts/c/test_header");
 }

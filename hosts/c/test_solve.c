@@ -163,6 +163,15 @@ static raimsklo_problem sum(const scalar *s, double xend) {
     return p;
 }
 
+static int without_length(raimsklo_report *r, void *user) {
+    double pose = 7;
+    ((seen *)user)->reports++;
+    CHECK(r->previous == 0 && r->time == 0);
+    CHECK(raimsklo_pose_at(r, 0.5, &pose) == RAIMSKLO_STATUS_OUTSIDE && pose == 7);
+    CHECK(raimsklo_pose_at(r, 0, &pose) == 0 && pose == r->y[0]);
+    return 0;
+}
+
 static void sums(void) {
     scalar two = {2, 0.5, 0}, zero = {0, 0, 1};
     seen s = nothing_seen();
@@ -202,8 +211,10 @@ static void sums(void) {
     CHECK(result.total == 0 && result.accepted == 0 && result.rejected == 1);
 
     /* (8) with minimum step 2: h 0, steps that have no length; their poses are y, and there are none between */
-    s = nothing_seen(), p = sum(&two, 1), p.options.has_min_step = 1, p.options.min_step = 2, p.options.max_steps = 5;
+    p = sum(&two, 1), p.options.has_min_step = 1, p.options.min_step = 2, p.options.max_steps = 5;
+    s = nothing_seen(), c = calls(scripted, NULL, without_length, &s);
     CHECK(solve(&p, &c) == RAIMSKLO_STATUS_ENDED_EARLY && result.number == RAIMSKLO_NEEDS_MORE_STEPS && result.h == 0);
+    CHECK(s.reports == 5);
 }
 
 /* ---- the ends of the interval, and no states ---- */
@@ -226,6 +237,9 @@ static void ends(void) {
     CHECK(solve(&p, &c) == RAIMSKLO_STATUS_SOLVED);
     p.x0 = -0.0, p.xend = 0.0;
     CHECK(solve(&p, &c) == RAIMSKLO_STATUS_SOLVED);
+    p.x0 = p.xend = INFINITY; /* their difference is NaN: the library refuses the step that it computes */
+    CHECK(solve(&p, &c) == RAIMSKLO_STATUS_REFUSED && result.number == RAIMSKLO_REFUSED_FIRST_STEP && result.nfe == 1);
+    p.x0 = p.xend = 0.0;
     p.options.max_steps = 0;
     CHECK(solve(&p, &c) == RAIMSKLO_STATUS_REFUSED && result.number == RAIMSKLO_REFUSED_NO_STEPS);
     p = sum(&weightless, 0), p.options.has_first_step = 0;
@@ -305,7 +319,8 @@ static void refusals(void) {
 }
 
 static void arguments(void) {
-    const double backwards[2] = {2, 1}, outside[2] = {1, 11}, unknown[1] = {NAN}, half_known[2] = {1e-6, -NAN};
+    const double inside[2] = {1, 2}, backwards[2] = {2, 1}, before[2] = {-1, 5}, outside[2] = {1, 11};
+    const double unknown[1] = {NAN}, half_known[2] = {1e-6, -NAN}, known_last[2] = {NAN, 1e-6}, infinite = INFINITY;
     double poses[4];
     seen s = nothing_seen();
     raimsklo_callbacks c = calls(oscillator, NULL, NULL, &s), none = calls(NULL, NULL, NULL, NULL);
@@ -320,9 +335,13 @@ static void arguments(void) {
     CHECK(solve(&p, &c) == RAIMSKLO_STATUS_ARGUMENT);
     p = good, p.rtol = NULL;
     CHECK(solve(&p, &c) == RAIMSKLO_STATUS_ARGUMENT);
+    p = good, p.atol = NULL;
+    CHECK(solve(&p, &c) == RAIMSKLO_STATUS_ARGUMENT);
     p = good, p.rtol = unknown;
     CHECK(solve(&p, &c) == RAIMSKLO_STATUS_ARGUMENT && result.number == 0 && result.y[0] == 1);
     p.rtol = half_known, p.rtol_len = 2;
+    CHECK(solve(&p, &c) == RAIMSKLO_STATUS_ARGUMENT);
+    p.rtol = known_last;
     CHECK(solve(&p, &c) == RAIMSKLO_STATUS_ARGUMENT);
     p = good, p.atol = unknown;
     CHECK(solve(&p, &c) == RAIMSKLO_STATUS_ARGUMENT);
@@ -330,17 +349,30 @@ static void arguments(void) {
     CHECK(solve(&p, &c) == RAIMSKLO_STATUS_ARGUMENT);
     p.rtol_len = 3; /* of which there is one: a wrong length is refused as such, unread */
     CHECK(solve(&p, &c) == RAIMSKLO_STATUS_REFUSED && result.number == RAIMSKLO_REFUSED_TOLERANCE_LENGTH);
+    p = good, p.atol_len = 3;
+    CHECK(solve(&p, &c) == RAIMSKLO_STATUS_REFUSED && result.number == RAIMSKLO_REFUSED_TOLERANCE_LENGTH);
     p = good, p.rtol = unknown, p.rtol_len = 0;
     CHECK(solve(&p, &c) == RAIMSKLO_STATUS_REFUSED && result.number == RAIMSKLO_REFUSED_TOLERANCE_LENGTH);
-    p = good, p.t_eval = backwards, p.t_eval_len = 2;
+    p = good, p.n = p.rtol_len = p.atol_len = (size_t)-1; /* nothing is read */
+    CHECK(raimsklo_solve(&p, &c, memory, LENGTH, &result) == RAIMSKLO_STATUS_REFUSED);
+    CHECK(result.number == RAIMSKLO_REFUSED_TOO_MANY_STATES);
+    p = good, p.t_eval = inside, p.t_eval_len = 2; /* no poses */
     CHECK(solve(&p, &c) == RAIMSKLO_STATUS_ARGUMENT);
-    p.poses = poses;
+    p = good, p.poses = poses, p.t_eval_len = 2; /* no times */
+    CHECK(solve(&p, &c) == RAIMSKLO_STATUS_ARGUMENT);
+    p.t_eval = backwards;
+    CHECK(solve(&p, &c) == RAIMSKLO_STATUS_ARGUMENT);
+    p.t_eval = before;
     CHECK(solve(&p, &c) == RAIMSKLO_STATUS_ARGUMENT);
     p.t_eval = outside;
     CHECK(solve(&p, &c) == RAIMSKLO_STATUS_ARGUMENT);
     p.t_eval = unknown, p.t_eval_len = 1;
     CHECK(solve(&p, &c) == RAIMSKLO_STATUS_ARGUMENT);
     CHECK(s.derivatives == 0);
+    p = good, p.rtol = &infinite; /* is no NaN */
+    CHECK(solve(&p, &c) == RAIMSKLO_STATUS_SOLVED);
+    p = good, p.t_eval = inside, p.t_eval_len = 2, p.poses = poses;
+    CHECK(solve(&p, &c) == RAIMSKLO_STATUS_SOLVED && result.evaluated == 2);
 
     no_memory = 1;
     CHECK(raimsklo_solve_alloc(&good, &c, &result) == RAIMSKLO_STATUS_MEMORY && result.number == 0);
@@ -350,15 +382,26 @@ static void arguments(void) {
     CHECK(fabs(result.y[0] - cos(10)) < 1e-3 && result.time == 10);
 }
 
+/* The statuses by value, from -7 on, and the reason of a result: the library's where it has one. */
 static void status_messages(void) {
-    int a, b;
-    for (a = RAIMSKLO_STATUS_OUTSIDE; a <= RAIMSKLO_STATUS_STOPPED; a++) {
-        for (b = RAIMSKLO_STATUS_OUTSIDE; b < a; b++) {
-            CHECK(strcmp(raimsklo_status_message(a), raimsklo_status_message(b)) != 0);
-        }
-        CHECK(strcmp(raimsklo_status_message(a), "unknown status") != 0);
+    static const char *const told[] = {
+        "unknown status", "a time is not of an accepted step", "no memory",
+        "a pointer is NULL, a tolerance is NaN, or t_eval does not go from x0 to xend", "refused",
+        "a pose is not finite", "ended early", "solved", "stopped by a callback", "unknown status"};
+    int status;
+    for (status = -7; status <= 2; status++) {
+        const char *text = told[status + 7];
+        CHECK_AT(strcmp(raimsklo_status_message(status), text) == 0, text);
+        result.status = status, result.number = 0;
+        if (status == RAIMSKLO_STATUS_REFUSED) result.number = 12, text = raimsklo_message(12);
+        if (status == RAIMSKLO_STATUS_ENDED_EARLY) result.number = 113, text = raimsklo_message(113);
+        if (status == RAIMSKLO_STATUS_NOT_FINITE) result.number = 110;
+        CHECK_AT(strcmp(raimsklo_result_message(&result), text) == 0, text);
     }
-    CHECK(strcmp(raimsklo_status_message(RAIMSKLO_STATUS_STOPPED + 1), "unknown status") == 0);
+    CHECK(RAIMSKLO_STATUS_SOLVED == 0 && RAIMSKLO_STATUS_STOPPED == 1 && RAIMSKLO_STATUS_ENDED_EARLY == -1);
+    CHECK(RAIMSKLO_STATUS_NOT_FINITE == -2 && RAIMSKLO_STATUS_REFUSED == -3 && RAIMSKLO_STATUS_ARGUMENT == -4);
+    CHECK(RAIMSKLO_STATUS_MEMORY == -5 && RAIMSKLO_STATUS_OUTSIDE == -6);
+    CHECK(RAIMSKLO_SOLVE_LENGTH(1 + 1) * 2 == 160);
 }
 
 /* ---- from the pose of the call before, in the result ---- */
@@ -405,6 +448,14 @@ static void going_on(void) {
 
 /* ---- stopped by each callback ---- */
 
+/* Asks for both: the stop counts, and the pose reported stays as it was. */
+static int changes_and_stops(raimsklo_report *report, void *user) {
+    report->changed[0] = 9, report->modified = 1;
+    CHECK(report->y[0] != 9);
+    (void)user;
+    return 7;
+}
+
 static void stopped(void) {
     const double slow[2] = {1, 1};
     seen s = nothing_seen();
@@ -423,6 +474,9 @@ static void stopped(void) {
     s = nothing_seen(), s.stop_report = 3, s.scribble = 1;
     CHECK(solve(&p, &c) == RAIMSKLO_STATUS_STOPPED && result.number == RAIMSKLO_INTERRUPTED && result.stopped == 42);
     CHECK(s.reports == 3 && result.accepted == 3 && result.nfe == s.derivatives && result.h > 0);
+
+    s = nothing_seen(), c.report = changes_and_stops;
+    CHECK(solve(&p, &c) == RAIMSKLO_STATUS_STOPPED && result.stopped == 7 && result.accepted == 1);
 
     p = raimsklo_make_problem(0, 10, slow, 2, &tight, 1, &fine, 1), c = calls(stiff, stiff_columns, watch, &s);
     s = nothing_seen(), s.stop_jacobian = 2;
@@ -481,6 +535,8 @@ static void elsewhere(void) {
     alone = result;
     c.derivative = leaves, s = nothing_seen(), s.stop_derivative = 10;
     CHECK(leaving(&p, &c) == 5 && s.derivatives == 10);
+    CHECK(result.status == RAIMSKLO_STATUS_STOPPED && result.number == RAIMSKLO_INTERRUPTED && result.stopped == 0);
+    CHECK(result.time > 0 && result.time < 1 && fabs(result.y[0] - cos(result.time)) < 1e-3 && result.accepted > 0);
     c.derivative = solves_another; /* in the memory that was left behind */
     CHECK(solve(&p, &c) == RAIMSKLO_STATUS_SOLVED && result.nfe == alone.nfe && result.accepted == alone.accepted);
     CHECK(memcmp(result.y, alone.y, sizeof alone.y) == 0);
@@ -519,6 +575,12 @@ static int breaks(double t, const double *y, double *f, size_t n, void *user) {
     return 0;
 }
 
+/* The same of the first of two states. */
+static int first_breaks(double t, const double *y, double *f, size_t n, void *user) {
+    f[1] = cos(t);
+    return breaks(t, y, f, n, user);
+}
+
 /* The first time that is not finite: of t_eval where it lies within a step, else the step's end. */
 static void first_time(void) {
     const scalar one = {1, 1e-3, 1e-6};
@@ -536,6 +598,11 @@ static void first_time(void) {
     p.t_eval = forward + 4, p.t_eval_len = 1; /* later than the step's end */
     CHECK(solve(&p, &c) == RAIMSKLO_STATUS_NOT_FINITE && result.evaluated == 1 && result.nonfinite_at == end);
 
+    p = oscillation(0, 1), c.derivative = first_breaks;
+    CHECK(solve(&p, &c) == RAIMSKLO_STATUS_NOT_FINITE && result.y[0] != result.y[0] && result.y[1] == result.y[1]);
+
+    p = sum(&one, 1), c.derivative = breaks, p.poses = poses;
+    p.options.max_step = 0.1, p.options.has_max_step = 1;
     direction = -1, p.x0 = 1, p.xend = 0, p.options.first_step = -0.1;
     p.t_eval = backward, p.t_eval_len = 4;
     CHECK(solve(&p, &c) == RAIMSKLO_STATUS_NOT_FINITE && result.evaluated == 4 && result.nonfinite_at == 0.48);
@@ -657,6 +724,10 @@ static void poses_that_are_missing(void) {
     CHECK(solve(&p, &c) == RAIMSKLO_STATUS_OUTSIDE && result.number == RAIMSKLO_SUCCESS);
     CHECK(result.evaluated == 0 && out[0] == 7 && !result.has_nonfinite);
 
+    /* the start's step goes to infinity: what is not finite is told before what is missing */
+    time = 5, c.report = NULL, p.options.has_first_step = 1, p.options.first_step = INFINITY;
+    CHECK(solve(&p, &c) == RAIMSKLO_STATUS_NOT_FINITE && result.evaluated == 0);
+
     /* a step whose end is finite, and a pose within it that is not */
     memset(&result, 0, sizeof result), memset(&report, 0, sizeof report);
     report.previous = 0.5, report.time = 1, report.y = &y, report.n = 1;
@@ -665,6 +736,60 @@ static void poses_that_are_missing(void) {
     raimsklo_hand_out_(&p, &report, &result);
     CHECK(result.evaluated == 1 && result.time == 1 && result.y[0] == 2);
     CHECK(result.has_nonfinite && result.nonfinite_at == 0.75);
+
+    report.snapshot_len = 5, out[0] = 7; /* damaged */
+    CHECK(raimsklo_pose_at(&report, 0.75, out) == RAIMSKLO_STATUS_REFUSED && out[0] == 7);
+}
+
+/* ---- counts, caps, and what is there when a report is called ---- */
+
+/* The counts of the steps, and whether the pose of t_eval was there when its step was reported. */
+typedef struct {
+    size_t largest, last;
+    double time, pose[2];
+    int there;
+} counts;
+
+static int counting(raimsklo_report *report, void *user) {
+    counts *c = (counts *)user;
+    if (report->count > c->largest) c->largest = report->count;
+    c->last = report->count;
+    if (report->previous < c->time && c->time <= report->time) c->there = c->pose[0] != 7;
+    return 0;
+}
+
+static void counted(void) {
+    counts seen_counts = {0, 0, 5, {7, 7}, 0};
+    raimsklo_callbacks c = calls(turns, NULL, counting, &seen_counts);
+    raimsklo_problem p = oscillation(0, 10);
+    p.options.mxncf = 3, p.t_eval = &seen_counts.time, p.t_eval_len = 1, p.poses = seen_counts.pose;
+    CHECK(solve(&p, &c) == RAIMSKLO_STATUS_SOLVED && result.largest_count == seen_counts.largest);
+    CHECK(seen_counts.last < seen_counts.largest && seen_counts.there);
+    CHECK(result.jacobian_cap == 12 && result.cap == 15 * 3 + 7 + 2 * 12);
+}
+
+/* ---- the shortest call ---- */
+
+static void simple(void) {
+    static double many[MOST];
+    seen s = nothing_seen();
+    raimsklo_callbacks c = calls(oscillator, NULL, NULL, &s);
+    raimsklo_problem p = oscillation(0, 10);
+    raimsklo_result r;
+    size_t i;
+    CHECK(solve(&p, &c) == RAIMSKLO_STATUS_SOLVED);
+    s = nothing_seen(), r = raimsklo_solve_simple(oscillator, &s, 0, 10, start2, 2, tight, fine);
+    CHECK(memcmp(r.y, result.y, sizeof r.y) == 0 && r.status == RAIMSKLO_STATUS_SOLVED && r.nfe == s.derivatives);
+    CHECK(r.accepted == result.accepted && r.nfe == result.nfe && r.time == 10 && r.cap == result.cap);
+    r = raimsklo_solve_simple(oscillator, &s, 0, 10, start2, 2, fine, tight); /* rtol stands before atol */
+    CHECK(r.status == RAIMSKLO_STATUS_SOLVED && r.accepted != result.accepted);
+    for (i = 0; i < MOST; i++) many[i] = 1;
+    r = raimsklo_solve_simple(decays, &s, 0, 0.1, many, MOST, 1e-3, 1e-6);
+    CHECK(r.status == RAIMSKLO_STATUS_SOLVED && fabs(r.y[MOST - 1] - exp(-0.8)) < 1e-2);
+    r = raimsklo_solve_simple(NULL, NULL, 0, 10, start2, 2, tight, fine);
+    CHECK(r.status == RAIMSKLO_STATUS_ARGUMENT);
+    r = raimsklo_solve_simple(oscillator, &s, 0, 10, start2, 2, -1, fine);
+    CHECK(r.status == RAIMSKLO_STATUS_REFUSED && r.number == RAIMSKLO_REFUSED_NEGATIVE_RELATIVE);
 }
 
 /* ---- the run against the question loop ---- */
@@ -774,6 +899,8 @@ int main(void) {
     poses();
     beginning();
     poses_that_are_missing();
+    counted();
+    simple();
     bits();
     modified();
     return passed("hosts/c/test_solve");

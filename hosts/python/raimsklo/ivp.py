@@ -121,8 +121,8 @@ def solve_ivp(
     A run that comes to no end says why:
 
     >>> early = solve_ivp(lambda t, y: [-y[0]], (0, 10), [1.0], max_steps=3)
-    >>> early.success, early.message
-    (False, 'needs more steps: raise max_steps, loosen the tolerances or shorten the interval')
+    >>> early.success, early.end, early.message[:33]
+    (False, 'needs more steps', 'needs more steps: raise max_steps')
     """
     if method != "LSODA" and not (isinstance(method, type) and method is _solver_class()):
         raise ValueError("`method` must be 'LSODA' or raimsklo.LSODA: this library has one method")

@@ -17,7 +17,8 @@ ENDS = {
 }
 
 ADVICE = {
-    112: "raise max_steps, loosen the tolerances or shorten the interval",
+    112: "raise max_steps, give a first_step, loosen the tolerances, shorten the interval, or look for a pole of the "
+    "right side near this time",
     113: "loosen the tolerances, lower min_step, or look for a jump or a pole of the right side near this time",
     114: "give a Jacobian, raise maxcor or mxncf, lower min_step, or look for a jump or a pole of the right side near "
     "this time",

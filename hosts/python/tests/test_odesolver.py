@@ -220,9 +220,7 @@ class Fails(unittest.TestCase):
     def test_named_ends(self):
         result = solve(swing, (0, 10), [1, 0], max_steps=3)
         self.assertEqual((result.status, result.success, len(result.t)), (-1, False, 4))
-        self.assertEqual(
-            result.message, "needs more steps: raise max_steps, loosen the tolerances or shorten the interval"
-        )
+        self.assertRegex(result.message, "^needs more steps: raise max_steps, give a first_step, loosen the tolerances")
         self.assertGreater(result.nfev, 0)
         jumps = lambda t, y: [1e12 * math.sin(1e6 * t) * (1.0 + math.sin(1e9 * y[0]))]  # noqa: E731
         result = solve(jumps, (0, 1), [0.0], min_step=0.5)

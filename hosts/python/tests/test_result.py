@@ -19,7 +19,10 @@ try:
 except ImportError:
     numpy = None
 
-ADVISED = "needs more steps: raise max_steps, loosen the tolerances or shorten the interval"
+ADVISED = (
+    "needs more steps: raise max_steps, give a first_step, loosen the tolerances, shorten the interval, or look for a "
+    "pole of the right side near this time"
+)
 
 
 def poses(result):

@@ -43,7 +43,10 @@ impl End {
     pub fn advice(self) -> &'static str {
         match self {
             End::Success | End::Interrupted => "",
-            End::NeedsMoreSteps => "raise max_steps, loosen the tolerances or shorten the interval",
+            End::NeedsMoreSteps => {
+                "raise max_steps, give a first_step, loosen the tolerances, shorten the interval, or look for a pole \
+                 of the right side near this time"
+            }
             End::StepTooSmall => {
                 "loosen the tolerances, lower min_step, or look for a jump or a pole of the right side near this time"
             }

@@ -49,7 +49,8 @@ fn every_early_end_has_its_name_and_advice() {
             End::NeedsMoreSteps,
             112,
             "needs more steps",
-            "raise max_steps, loosen the tolerances or shorten the interval",
+            "raise max_steps, give a first_step, loosen the tolerances, shorten the interval, or look for a pole of \
+             the right side near this time",
         ),
         (
             End::StepTooSmall,
