@@ -3,7 +3,7 @@
 mod common;
 
 use common::{problem, swing, swinging};
-use raimsklo::{interpolate, solve, solve_dense, steps, Control, End, NoPose, Problem};
+use raimsklo::{interpolate, solve, solve_dense, steps, Control, End, NoPose, Problem, Reason};
 
 #[test]
 fn interpolation_within_a_step() {
@@ -42,6 +42,39 @@ fn a_step_is_exact_at_its_end_and_near_at_its_beginning() {
         }
         assert!(changes > 0);
     }
+}
+
+#[test]
+fn a_steps_end_is_its_pose_where_nothing_can_be_interpolated() {
+    // steps of length 0: the smallest one is beyond the interval, or 1 over the largest is infinite
+    let whole = problem(0.5, &[1.0], &[1e-3], &[1e-6]);
+    let decay = |_: f64, y: &[f64], f: &mut [f64]| f[0] = -y[0];
+    for options in [whole.options.min_step(1.0), whole.options.max_step(1e-320)] {
+        let step = steps(&Problem { options, ..whole }, decay).unwrap().next().unwrap().unwrap();
+        assert_eq!((step.previous, step.time, step.y.as_slice()), (0.0, 0.0, &[1.0][..]));
+        assert_eq!(interpolate(step.time, &mut [0.0], &step.snapshot).unwrap_err().reason, Reason::ShortSnapshot);
+        assert_eq!((step.at(step.time), step.as_step().at(-0.0)), (Ok(vec![1.0]), Ok(vec![1.0])));
+    }
+    for (x0, xend) in [(f64::NEG_INFINITY, 0.5), (f64::INFINITY, 0.5)] {
+        let step = steps(&Problem { x0, xend, ..whole }, decay).unwrap().next().unwrap().unwrap();
+        assert!(step.time == x0 && step.y[0].is_finite() && step.y[0] != 1.0);
+        assert_eq!(step.at(x0), Ok(step.y.clone()));
+    }
+    // a step that ends nowhere has no pose, at its beginning either
+    let lost = Problem { options: whole.options.min_step(f64::INFINITY), ..whole };
+    let step = steps(&lost, decay).unwrap().next().unwrap().unwrap();
+    assert!(step.time.is_nan() && step.at(0.0).is_err() && step.at(step.time).is_err());
+}
+
+#[test]
+fn a_damaged_snapshot_has_no_pose_within_the_step() {
+    let mut step = steps(&swinging(1.0), swing).unwrap().next().unwrap().unwrap();
+    step.snapshot.truncate(7);
+    let refused = interpolate(step.previous, &mut [0.0; 2], &step.snapshot).unwrap_err();
+    let no_pose = step.at(step.previous).unwrap_err();
+    assert_eq!((no_pose, refused.number()), (NoPose::Refused(refused), 17));
+    assert_eq!(no_pose.to_string(), "refused (17): the snapshot's history is too short or its step is zero");
+    assert_eq!(step.at(step.time), Ok(step.y.clone()));
 }
 
 #[test]
