@@ -117,3 +117,47 @@ fn poses_at_any_time() {
         assert!(dense.at(-0.1).is_none() && dense.at(10.1).is_none() && dense.at(f64::NAN).is_none());
     }
 }
+
+#[test]
+fn of_several_steps_that_end_at_one_time_the_curve_has_the_first() {
+    // steps too small to move so late a time: at the start it is y0 whatever was reported there since
+    let swirl = |_: f64, y: &[f64], f: &mut [f64]| (f[0], f[1]) = (1e4 * y[1], -1e4 * y[0]);
+    let mut late = Problem { x0: 1.7e9, ..problem(1.7e9 + 1.0, &[1.0, 0.0], &[1e-9], &[1e-12]) };
+    late.options.max_steps = 12;
+    let curve = solve_dense(&late, swirl).unwrap_err().curve;
+    assert_eq!((curve.steps().len(), curve.span()), (12, (1.7e9, 1.7e9)));
+    for step in curve.steps() {
+        assert_eq!((step.previous, step.time, step.at(1.7e9).unwrap()), (1.7e9, 1.7e9, step.y.clone()));
+        assert!(step.y[1] < 0.0);
+    }
+    assert_eq!(curve.at(1.7e9).unwrap(), late.y0);
+
+    // toward a pole, whichever way time runs: it moves at first, and stands at last
+    for ahead in [10.0, -10.0] {
+        let options = late.options.max_steps(1000);
+        let tangent = Problem { xend: 1.7e9 + ahead, y0: &[0.0], rtol: &[1e-3], atol: &[1e-6], options, ..late };
+        let curve = solve_dense(&tangent, |_, y, f| f[0] = 1.0 + y[0] * y[0]).unwrap_err().curve;
+        let (_, end) = curve.span();
+        let first = curve.steps().iter().position(|step| step.time == end).unwrap();
+        let there = &curve.steps()[first..];
+        assert!(first > 50 && there.len() > 50 && there[1].y != there[0].y);
+        assert_eq!(curve.at(end).unwrap(), there[0].y);
+        let middle = 0.5 * (1.7e9 + curve.steps()[first / 2].time);
+        assert!((curve.at(middle).unwrap()[0] - (middle - 1.7e9).tan()).abs() < 1e-2);
+    }
+}
+
+#[test]
+fn a_curve_has_no_pose_beyond_its_steps() {
+    for (x0, xend) in [(0.0, 10.0), (10.0, 0.0)] {
+        let mut cut = Problem { x0, ..problem(xend, &[1.0, 0.0], &[1e-3], &[1e-6]) };
+        cut.options.max_steps = 5;
+        let curve = solve_dense(&cut, swing).unwrap_err().curve;
+        let (_, end) = curve.span();
+        let outside = [x0 - (end - x0), end + (end - x0), xend, f64::INFINITY, f64::NEG_INFINITY, f64::NAN];
+        for time in outside {
+            assert_eq!(curve.at(time), None, "{time}");
+        }
+        assert!(curve.at(0.5 * (x0 + end)).is_some() && curve.at(end).is_some());
+    }
+}
