@@ -63,6 +63,40 @@ pub struct Incomplete<E = std::convert::Infallible> {
     pub curve: Box<Dense>,
 }
 
+impl<E> Incomplete<E> {
+    /// As [`Error::into_boxed`]; the curve is dropped.
+    ///
+    /// ```
+    /// use raimsklo::{solve_dense, Incomplete, Options, Problem};
+    ///
+    /// fn main() -> Result<(), Box<dyn std::error::Error>> {
+    ///     let options = Options::default();
+    ///     let problem = Problem { x0: 0.0, xend: 1.0, y0: &[1.0], rtol: &[1e-6], atol: &[1e-9], options };
+    ///     let decay = |_: f64, y: &[f64], f: &mut [f64]| {
+    ///         f[0] = -y[0];
+    ///         if y[0] > 0.0 { Ok(()) } else { Err("the rig is gone") }
+    ///     };
+    ///     let (_, curve) = solve_dense(&problem, decay).map_err(Incomplete::into_boxed)?;
+    ///     println!("{:?}", curve.at(0.5));
+    ///     Ok(())
+    /// }
+    /// ```
+    pub fn into_boxed(self) -> Box<dyn std::error::Error>
+    where
+        E: Into<Box<dyn std::error::Error>>,
+    {
+        self.error.into_boxed()
+    }
+
+    /// As [`Error::into_boxed_sync`]; the curve is dropped.
+    pub fn into_boxed_sync(self) -> Box<dyn std::error::Error + Send + Sync>
+    where
+        E: Into<Box<dyn std::error::Error + Send + Sync>>,
+    {
+        self.error.into_boxed_sync()
+    }
+}
+
 impl<E: fmt::Display> fmt::Display for Incomplete<E> {
     fn fmt(&self, f: &mut fmt::Formatter<'_>) -> fmt::Result {
         self.error.fmt(f)
