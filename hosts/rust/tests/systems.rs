@@ -82,11 +82,33 @@ fn every_driver_takes_a_jacobian() {
     assert_eq!(problem.solve_dense(by_name).unwrap().0, finished);
 }
 
+/// Stiff, and with a derivative alone: all else is the trait's.
+struct Plain;
+
+impl System for Plain {
+    type Error = Infallible;
+
+    fn derivative(&mut self, time: f64, y: &[f64], f: &mut [f64]) -> Result<(), Infallible> {
+        robertson(time, y, f);
+        Ok(())
+    }
+}
+
 #[test]
 fn what_a_system_says_goes_before_the_options() {
-    let whole = swinging(10.0);
+    // a Jacobian is wanted in this run, and where the system has none it is taken by differences
+    let whole = chemistry();
     let asking = Problem { options: whole.options.with_jacobian(), ..whole };
-    assert_eq!(solve(&asking, swing, |_| Control::Continue), solve(&whole, swing, |_| Control::Continue));
+    let finished = solve(&whole, robertson, |_| Control::Continue).unwrap();
+    assert!(finished.nje > 0);
+    assert_eq!(solve(&asking, robertson, |_| Control::Continue), Ok(finished));
+    assert_eq!(asking.solve_dense(Plain).unwrap().0, finished);
+    let mut run = asking.steps(Plain).unwrap();
+    assert!(run.by_ref().all(|step| step.is_ok()) && run.finished() == Some(finished));
+
+    let supplied = RightSide::new(robertson).jacobian(robertson_jacobian);
+    let finished = whole.solve(supplied, |_| Control::Continue);
+    assert_eq!(asking.solve(supplied, |_| Control::Continue), finished);
 }
 
 #[test]
