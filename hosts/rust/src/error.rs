@@ -10,8 +10,12 @@ use crate::{Finished, Refused};
 #[derive(Clone, Debug, PartialEq)]
 #[non_exhaustive]
 pub enum Error<E = Infallible> {
-    /// The problem was refused; or, in the midst of a run, a weight that came to be at most 0 (12), which has ended
-    /// it, or a modified pose of another length (14).
+    /// The problem was refused; or, in the midst of a run, which has ended by it:
+    ///
+    /// * the first step that was computed from the first derivative is 0 or NaN (11): that derivative is infinite or
+    ///   very large, or an end of the interval is NaN;
+    /// * a weight came to be at most 0 (12);
+    /// * a modified pose has another length (14).
     Refused(Refused),
     /// A tolerance is NaN, which the library takes: its state would have no error control. Nothing was asked for.
     NanTolerance {

@@ -212,19 +212,19 @@ impl Solver {
         }
     }
 
-    /// Replies with the derivative at the question's time and state: n numbers.
+    /// Replies with the derivative at the question's time and state: n numbers, else refused (14).
     pub fn derivative(&mut self, f: &[f64]) -> Result<(), Refused> {
         self.reply(DERIVATIVE, f, 0.0)
     }
 
-    /// Replies with the Jacobian at the question's time and state: n·n numbers, column by column, df_i/dy_j at
-    /// `j * n + i`.
+    /// Replies with the Jacobian at the question's time and state: n·n numbers, else refused (14), column by column,
+    /// df_i/dy_j at `j * n + i`.
     pub fn jacobian(&mut self, columns: &[f64]) -> Result<(), Refused> {
         self.reply(JACOBIAN, columns, 0.0)
     }
 
-    /// Goes on from this pose and time; those of the report keep the run as it is. At the first report the time alone
-    /// counts.
+    /// Goes on from this pose, of n numbers, else refused (14), and time; those of the report keep the run as it is. At
+    /// the first report the time alone counts.
     pub fn go_on(&mut self, y: &[f64], time: f64) -> Result<(), Refused> {
         self.reply(CONTINUE, y, time)
     }
@@ -234,7 +234,7 @@ impl Solver {
         self.reply(INTERRUPT, y, time)
     }
 
-    /// Goes on from this pose, at order 1; the time counts at the first report alone.
+    /// Goes on from this pose, of n numbers, else refused (14), at order 1; the time counts at the first report alone.
     pub fn modified(&mut self, y: &[f64], time: f64) -> Result<(), Refused> {
         self.reply(MODIFIED, y, time)
     }

@@ -3,6 +3,7 @@
 
 mod common;
 
+use std::cell::Cell;
 use std::convert::Infallible;
 use std::error::Error as _;
 
@@ -248,4 +249,47 @@ fn errors_go_to_other_threads() {
     sent::<NoPose>();
     sent::<Refused>();
     sent::<End>();
+}
+
+#[test]
+fn a_first_step_that_cannot_be_computed_ends_the_run() {
+    let whole = problem(1.0, &[1.0], &[1e-3], &[1e-6]);
+    let calls = Cell::new(0);
+    let refused = |problem: &Problem, slope: f64| {
+        calls.set(0);
+        let rising = |_: f64, _: &[f64], f: &mut [f64]| {
+            calls.set(calls.get() + 1);
+            f[0] = slope;
+        };
+        match solve(problem, rising, |_| Control::Interrupt).unwrap_err() {
+            Error::Refused(refused) => refused.reason,
+            error => panic!("{error}"),
+        }
+    };
+    // it comes in the midst of the run, after the first derivative
+    for slope in [f64::INFINITY, f64::NEG_INFINITY, 1e300, 1e200] {
+        assert_eq!((refused(&whole, slope), calls.get()), (Reason::FirstStep, 1));
+    }
+    for (x0, xend) in [(0.0, f64::NAN), (f64::NAN, 1.0), (f64::NAN, f64::NAN)] {
+        assert_eq!((refused(&Problem { x0, xend, ..whole }, 1.0), calls.get()), (Reason::FirstStep, 1));
+    }
+    // a NaN derivative is no such case: its poses are NaN
+    assert!(ended(run(&whole, |_, _, f| f[0] = f64::NAN).unwrap_err()).nonfinite_at.is_some());
+}
+
+#[test]
+fn a_modified_pose_of_another_length_is_refused() {
+    let unasked = Refused { reason: Reason::Unasked, index: 0, value: 0.0 };
+    for pose in [vec![], vec![1.0], vec![1.0, 0.0, 0.0]] {
+        let mut reports = 0;
+        let outcome = solve(&problem(10.0, &[1.0, 0.0], &[1e-3], &[1e-6]), swing, |_| {
+            reports += 1;
+            if reports == 1 {
+                Control::Modified(pose.clone())
+            } else {
+                Control::Interrupt
+            }
+        });
+        assert_eq!((outcome, reports), (Err(Error::Refused(unasked)), 1));
+    }
 }
