@@ -30,7 +30,8 @@ impl End {
             112 => End::NeedsMoreSteps,
             113 => End::StepTooSmall,
             114 => End::PoorConvergence,
-            _ => End::CoefficientGap,
+            115 => End::CoefficientGap,
+            number => unreachable!("no end of a run has the number {number}"),
         }
     }
 
@@ -131,5 +132,19 @@ impl fmt::Display for Finished {
             write!(f, "{but} the pose at time {time:?} is not finite")?;
         }
         Ok(())
+    }
+}
+
+#[cfg(test)]
+mod tests {
+    use super::End;
+
+    #[test]
+    fn an_end_has_the_number_that_it_is_made_of() {
+        // the last of them comes in no whole run that is known
+        for number in 110..=115 {
+            assert_eq!(End::of(number).number(), number);
+        }
+        assert!(std::panic::catch_unwind(|| End::of(116)).is_err());
     }
 }

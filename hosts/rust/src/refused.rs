@@ -65,6 +65,14 @@ const REASONS: [Reason; 17] = [
     Reason::ShortSnapshot,
 ];
 
+const _: () = {
+    let mut i = 0;
+    while i < REASONS.len() {
+        assert!(REASONS[i] as usize == i + 1);
+        i += 1;
+    }
+};
+
 /// A refused call.
 ///
 /// A refused start has begun nothing, and a refused reply has changed nothing: the question stands as it was. But 11

@@ -3,7 +3,7 @@
 mod common;
 
 use common::{problem, swinging};
-use raimsklo::{solve, Control, End, Error, Options, Problem, Question, Reason, Refused, Solver};
+use raimsklo::{interpolate, solve, Control, End, Error, Options, Problem, Question, Reason, Refused, Solver};
 
 #[test]
 fn refusals() {
@@ -18,6 +18,18 @@ fn refusals() {
     assert_eq!(refused(&backward), Refused { reason: Reason::FirstStep, index: 0, value: -0.5 });
     let told = "refused (11): the first step -0.5 is zero, NaN or leads away from the end";
     assert_eq!(refused(&backward).to_string(), told);
+    let whole = problem(1.0, &[0.0], &[1e-3], &[1e-6]);
+    let settings = [
+        (Options::default().msbp(1_000_001), Reason::SettingTooLarge),
+        (Options::default().max_steps(0), Reason::NoSteps),
+        (Options::default().maxcor(0), Reason::NoIterations),
+        (Options::default().mxordn(0), Reason::NoOrder),
+        (Options::default().mxords(0), Reason::NoOrder),
+    ];
+    for (options, reason) in settings {
+        assert_eq!(refused(&Problem { options, ..whole }).reason, reason);
+    }
+    assert_eq!(interpolate(0.0, &mut [0.0], &[f64::NAN; 8]).unwrap_err().reason, Reason::DamagedSnapshot);
     let weightless = problem(1.0, &[0.0], &[1e-3], &[0.0]);
     let error = solve(&weightless, |_, _, f| f[0] = 0.0, |_| Control::Continue).unwrap_err();
     assert_eq!(error, Error::Refused(Refused { reason: Reason::Weight, index: 0, value: 0.0 }));

@@ -6,7 +6,7 @@ use std::convert::Infallible;
 use std::error::Error as _;
 use std::fmt;
 
-use common::{breaking, problem, robertson, robertson_jacobian, swing, swinging};
+use common::{breaking, problem, robertson, robertson_jacobian, swinging};
 use raimsklo::{solve, solve_dense, steps, Control, Error, Finished, Incomplete, Problem, RightSide, System};
 
 #[derive(Clone, Debug, PartialEq)]
