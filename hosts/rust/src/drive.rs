@@ -7,9 +7,9 @@ impl Problem<'_> {
     /// Runs the problem, with a report after each accepted step.
     ///
     /// `Ok` is a success, or an interrupt that the report asked for, and every pose that was reported is finite then.
-    /// An early end (112 to 115) and a run with a pose that is not finite are [`Error::Ended`]. Equal ends of the
-    /// interval are a success without a step. A tolerance that is NaN is an error ([`Error::NanTolerance`]) where the
-    /// library takes the problem.
+    /// An early end (112 to 115) and a run with a pose that is not finite are [`Error::Ended`]. Equal finite ends of
+    /// the interval are a success without a step; infinite ones, whose difference is NaN, are refused (11). A tolerance
+    /// that is NaN is an error ([`Error::NanTolerance`]) where the library takes the problem.
     ///
     /// Whether the Jacobian is asked for or taken by differences is the system's to say, whatever the options have.
     /// A closure that panics leaves by unwinding: no foreign frame stands between it and the caller.

@@ -78,7 +78,8 @@ impl std::error::Error for End {}
 pub struct Finished {
     /// How it ended.
     pub end: End,
-    /// The time of the last report, the start's if no step was accepted: so far the poses go.
+    /// The time of the last report, the start's if no step was accepted: so far the poses go. After a success it may
+    /// be past [`Problem::xend`](crate::Problem::xend) by a rounding.
     pub time: f64,
     /// The first time at which a pose that was handed out, the start's included, has a NaN or an infinity.
     pub nonfinite_at: Option<f64>,
@@ -88,7 +89,7 @@ pub struct Finished {
     pub nfe: usize,
     /// Jacobians.
     pub nje: usize,
-    /// Factorings of the iteration's matrix.
+    /// Factorings of the iteration's matrix, but for those that found it singular.
     pub nlu: usize,
     /// Steps, accepted and rejected, as counted at the last accepted one.
     pub total: usize,

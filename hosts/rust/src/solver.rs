@@ -108,8 +108,9 @@ impl Solver {
     /// Begins a run; bad input is refused (1 to 11).
     ///
     /// The problem is handed on as it is: where the ends of the interval are equal and no first step is given, the
-    /// reply to the first question is refused with 11. The drivers make a success of it. A tolerance that is NaN passes
-    /// here and leaves the error of its state uncontrolled. The drivers make an error of it.
+    /// reply to the first question is refused with 11. The drivers make a success of it where they are finite. A
+    /// tolerance that is NaN passes here and leaves the error of its state uncontrolled. The drivers make an error of
+    /// it.
     pub fn start(problem: &Problem) -> Result<Solver, Refused> {
         let n = problem.y0.len();
         // more states are refused before a buffer is looked at, and buffers for them need not fit any memory
