@@ -27,9 +27,9 @@ impl Dense {
         &self.steps
     }
 
-    /// The pose at a time; `None` beyond the accepted steps, where there is none. At the start it is always `y0`, at the
-    /// end of a step the pose that was reported there: of several steps that end at one time, as steps do that are too
-    /// small to move it, the first's. The last of all is that of `steps().last()`.
+    /// The pose at a time; `None` beyond the accepted steps, where there is none. At the start it is always `y0`, at
+    /// the end of a step the pose that was reported there: of several steps that end at one time, as steps do that are
+    /// too small to move it, the first's. The last of all is that of `steps().last()`.
     pub fn at(&self, time: f64) -> Option<Vec<f64>> {
         if time == self.x0 {
             return Some(self.y0.clone());
