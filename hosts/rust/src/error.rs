@@ -12,8 +12,8 @@ use crate::{Finished, Refused};
 pub enum Error<E = Infallible> {
     /// The problem was refused; or, in the midst of a run, which has ended by it:
     ///
-    /// * the first step that was computed from the first derivative is 0 or NaN (11): that derivative is infinite or
-    ///   very large, or an end of the interval is NaN;
+    /// * there is no first step that could be computed from the first derivative (11): that derivative is infinite or
+    ///   very large, by which the step is 0, or an end of the interval is NaN;
     /// * a weight came to be at most 0 (12);
     /// * a modified pose has another length (14).
     Refused(Refused),

@@ -27,7 +27,7 @@ pub enum Reason {
     /// An entry of atol is below 0.
     NegativeAbsolute = 10,
     /// The first step, given or computed, is zero, NaN or leads away from the end. One computed is zero where the first
-    /// derivative is infinite or very large; and where an end of the interval is NaN, every step leads away.
+    /// derivative is infinite or very large; where an end of the interval is NaN, no step leads to the end.
     FirstStep = 11,
     /// The weight rtol·|y|+atol of a state is at most 0.
     Weight = 12,

@@ -198,6 +198,10 @@ fn caps_are_known_beforehand() {
     (options.mxncf, options.maxcor) = (usize::MAX, usize::MAX);
     assert_eq!((options.cap(2), options.jacobian_cap()), (usize::MAX, usize::MAX));
     assert_eq!(options.with_jacobian().cap(2), usize::MAX);
+    // each part alone
+    assert_eq!(options.with_jacobian().maxcor(1).cap(2), usize::MAX);
+    let half = options.mxncf(usize::MAX / 2 - 8).maxcor(0);
+    assert_eq!((half.cap(1), half.cap(2)), (usize::MAX / 2 + 8, usize::MAX));
 }
 
 #[test]
