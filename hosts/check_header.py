@@ -221,6 +221,7 @@ def texts(same):
     refusals = {number: text for number, text in messages.items() if number < 100}
     for number, (told, filled) in FILLED.items():
         refusals[number] = refusals[number].replace(told, filled)
+    questions = {number: text for number, text in messages.items() if 100 <= number < 110}
     ends = {number: text for number, text in messages.items() if number >= 110}
 
     expected = {"REFUSALS": refusals, "ENDS": ends, "ADVICE": advice}
@@ -231,7 +232,7 @@ def texts(same):
             same(f"{number} in the Python package's {name}", expected[name].get(number, ""), there.get(number))
 
     literals = rust_literals()
-    for table in (refusals, ends, advice):
+    for table in (refusals, questions, ends, advice):
         for number, text in sorted(table.items()):
             same(f"{number} in the Rust crate, as a literal", text, text if text in literals else None)
     enum = re.search(r"enum Reason \{(.*?)\n\}", "".join(read_all(RUST)), flags=re.S)

@@ -13,7 +13,8 @@ fn main() {
     let here = PathBuf::from(env::var_os("CARGO_MANIFEST_DIR").expect("cargo says where the crate is"));
     let folder = match env::var_os("RAIMSKLO_ARCHIVE") {
         Some(named) => {
-            let folder = PathBuf::from(named);
+            // a relative path is read from here, so it is told and handed on as a whole
+            let folder = here.join(named);
             if !archive_in(&folder).exists() {
                 missing(&format!("RAIMSKLO_ARCHIVE names {}, which has no libraimsklo.a", folder.display()));
             }

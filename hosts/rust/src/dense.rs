@@ -27,17 +27,15 @@ impl Dense {
         &self.steps
     }
 
-    /// The pose at a time; `None` beyond the accepted steps, where there is none. At the ends of steps it is the pose
-    /// that was reported there, at the start `y0`.
+    /// The pose at a time; `None` beyond the accepted steps, where there is none. At the start it is always `y0`, at
+    /// the end of a step the pose that was reported there: of several steps that end at one time, as steps do that are
+    /// too small to move it, the first's. The last of all is that of `steps().last()`.
     pub fn at(&self, time: f64) -> Option<Vec<f64>> {
         if time == self.x0 {
             return Some(self.y0.clone());
         }
         let (from, to) = self.span();
         let backward = to < from;
-        if !(if backward { to <= time && time <= from } else { from <= time && time <= to }) {
-            return None;
-        }
         let before = |step: &Accepted| if backward { time < step.time } else { step.time < time };
         self.steps.get(self.steps.partition_point(before))?.at(time).ok()
     }
@@ -63,6 +61,40 @@ pub struct Incomplete<E = std::convert::Infallible> {
     pub error: Error<E>,
     /// The start and the steps accepted before.
     pub curve: Box<Dense>,
+}
+
+impl<E> Incomplete<E> {
+    /// As [`Error::into_boxed`]; the curve is dropped.
+    ///
+    /// ```
+    /// use raimsklo::{solve_dense, Incomplete, Options, Problem};
+    ///
+    /// fn main() -> Result<(), Box<dyn std::error::Error>> {
+    ///     let options = Options::default();
+    ///     let problem = Problem { x0: 0.0, xend: 1.0, y0: &[1.0], rtol: &[1e-6], atol: &[1e-9], options };
+    ///     let decay = |_: f64, y: &[f64], f: &mut [f64]| {
+    ///         f[0] = -y[0];
+    ///         if y[0] > 0.0 { Ok(()) } else { Err("the rig is gone") }
+    ///     };
+    ///     let (_, curve) = solve_dense(&problem, decay).map_err(Incomplete::into_boxed)?;
+    ///     println!("{:?}", curve.at(0.5));
+    ///     Ok(())
+    /// }
+    /// ```
+    pub fn into_boxed(self) -> Box<dyn std::error::Error>
+    where
+        E: Into<Box<dyn std::error::Error>>,
+    {
+        self.error.into_boxed()
+    }
+
+    /// As [`Error::into_boxed_sync`]; the curve is dropped.
+    pub fn into_boxed_sync(self) -> Box<dyn std::error::Error + Send + Sync>
+    where
+        E: Into<Box<dyn std::error::Error + Send + Sync>>,
+    {
+        self.error.into_boxed_sync()
+    }
 }
 
 impl<E: fmt::Display> fmt::Display for Incomplete<E> {

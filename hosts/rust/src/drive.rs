@@ -7,9 +7,9 @@ impl Problem<'_> {
     /// Runs the problem, with a report after each accepted step.
     ///
     /// `Ok` is a success, or an interrupt that the report asked for, and every pose that was reported is finite then.
-    /// An early end (112 to 115) and a run with a pose that is not finite are [`Error::Ended`]. Equal ends of the
-    /// interval are a success without a step. A tolerance that is NaN is an error ([`Error::NanTolerance`]) where the
-    /// library takes the problem.
+    /// An early end (112 to 115) and a run with a pose that is not finite are [`Error::Ended`]. Equal finite ends of
+    /// the interval are a success without a step; infinite ones, whose difference is NaN, are refused (11). A tolerance
+    /// that is NaN is an error ([`Error::NanTolerance`]) where the library takes the problem.
     ///
     /// Whether the Jacobian is asked for or taken by differences is the system's to say, whatever the options have.
     /// A closure that panics leaves by unwinding: no foreign frame stands between it and the caller.
@@ -96,7 +96,7 @@ pub fn solve_dense<R: Outcome>(
 pub(crate) struct Run<S> {
     solver: Solver,
     system: S,
-    f: Vec<f64>,
+    reply: Vec<f64>,
     columns: Vec<f64>,
 }
 
@@ -111,18 +111,18 @@ impl<S: System> Run<S> {
             }
         }
         let columns = if has_jacobian { n * n } else { 0 };
-        Ok(Run { solver, system, f: vec![0.0; n], columns: vec![0.0; columns] })
+        Ok(Run { solver, system, reply: vec![0.0; n], columns: vec![0.0; columns] })
     }
 
     /// Replies until a step is accepted; the end, once the run has ended.
     pub(crate) fn advance(&mut self) -> Result<Option<Finished>, Error<S::Error>> {
-        let Run { solver, system, f, columns } = self;
+        let Run { solver, system, reply, columns } = self;
         loop {
             match solver.question() {
                 Question::Derivative { time, y } => {
-                    f.fill(f64::NAN);
-                    system.derivative(time, y, f).map_err(Error::Host)?;
-                    solver.derivative(f)?;
+                    reply.fill(f64::NAN);
+                    system.derivative(time, y, reply).map_err(Error::Host)?;
+                    solver.derivative(reply)?;
                 }
                 Question::Jacobian { time, y } => {
                     columns.fill(0.0);
@@ -130,8 +130,8 @@ impl<S: System> Run<S> {
                     solver.jacobian(columns)?;
                 }
                 Question::FirstReport { time, y } => {
-                    f.copy_from_slice(y);
-                    solver.go_on(f, time)?;
+                    reply.copy_from_slice(y);
+                    solver.go_on(reply, time)?;
                 }
                 Question::Report(_) => return Ok(None),
                 Question::Finished(finished) => return Ok(Some(finished)),
@@ -152,13 +152,16 @@ impl<S: System> Run<S> {
 
     /// Replies to the report.
     pub(crate) fn control(&mut self, control: Control) -> Result<(), Refused> {
-        let Run { solver, f, .. } = self;
+        let Run { solver, reply, .. } = self;
         let Step { time, y, .. } = reported(solver);
-        f.copy_from_slice(y);
-        match control {
-            Control::Continue => solver.go_on(f, time),
-            Control::Interrupt => solver.interrupt(f, time),
-            Control::Modified(y) => solver.modified(&y, time),
+        if let Control::Modified(y) = control {
+            return solver.modified(&y, time);
+        }
+        reply.copy_from_slice(y);
+        if control == Control::Interrupt {
+            solver.interrupt(reply, time)
+        } else {
+            solver.go_on(reply, time)
         }
     }
 }

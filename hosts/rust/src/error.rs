@@ -10,8 +10,12 @@ use crate::{Finished, Refused};
 #[derive(Clone, Debug, PartialEq)]
 #[non_exhaustive]
 pub enum Error<E = Infallible> {
-    /// The problem was refused; or, in the midst of a run, a weight that came to be at most 0 (12), which has ended
-    /// it, or a modified pose of another length (14).
+    /// The problem was refused; or, in the midst of a run, which has ended by it:
+    ///
+    /// * there is no first step that could be computed from the first derivative (11): that derivative is infinite or
+    ///   very large, by which the step is 0, or an end of the interval is NaN;
+    /// * a weight came to be at most 0 (12);
+    /// * a modified pose has another length (14).
     Refused(Refused),
     /// A tolerance is NaN, which the library takes: its state would have no error control. Nothing was asked for.
     NanTolerance {

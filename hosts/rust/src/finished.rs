@@ -30,7 +30,8 @@ impl End {
             112 => End::NeedsMoreSteps,
             113 => End::StepTooSmall,
             114 => End::PoorConvergence,
-            _ => End::CoefficientGap,
+            115 => End::CoefficientGap,
+            number => unreachable!("no end of a run has the number {number}"),
         }
     }
 
@@ -80,7 +81,8 @@ impl std::error::Error for End {}
 pub struct Finished {
     /// How it ended.
     pub end: End,
-    /// The time of the last report, the start's if no step was accepted: so far the poses go.
+    /// The time of the last report, the start's if no step was accepted: so far the poses go. After a success it may
+    /// be past [`Problem::xend`](crate::Problem::xend) by a rounding.
     pub time: f64,
     /// The first time at which a pose that was handed out, the start's included, has a NaN or an infinity.
     pub nonfinite_at: Option<f64>,
@@ -90,7 +92,7 @@ pub struct Finished {
     pub nfe: usize,
     /// Jacobians.
     pub nje: usize,
-    /// Factorings of the iteration's matrix.
+    /// Factorings of the iteration's matrix, but for those that found it singular.
     pub nlu: usize,
     /// Steps, accepted and rejected, as counted at the last accepted one.
     pub total: usize,
@@ -134,5 +136,19 @@ impl fmt::Display for Finished {
             write!(f, "{but} the pose at time {time:?} is not finite")?;
         }
         Ok(())
+    }
+}
+
+#[cfg(test)]
+mod tests {
+    use super::End;
+
+    #[test]
+    fn an_end_has_the_number_that_it_is_made_of() {
+        // the last of them comes in no whole run that is known
+        for number in 110..=115 {
+            assert_eq!(End::of(number).number(), number);
+        }
+        assert!(std::panic::catch_unwind(|| End::of(116)).is_err());
     }
 }

@@ -84,13 +84,14 @@ settings! {
 }
 
 impl Options {
-    /// Gives the largest step; its sign does not matter. Without one it is the interval.
+    /// Gives the largest step; its sign does not matter. Without one it is the interval; 0 and NaN act as none given.
     #[must_use]
     pub fn max_step(self, h: f64) -> Self {
         Options { has_max_step: 1, max_step: h, ..self }
     }
 
-    /// Gives the smallest step; its sign does not matter. Without one there is none.
+    /// Gives the smallest step; its sign does not matter. Without one there is none; NaN acts as none given. A run
+    /// with one beyond the interval never moves: it has `max_steps` steps of length 0.
     #[must_use]
     pub fn min_step(self, h: f64) -> Self {
         Options { has_min_step: 1, min_step: h, ..self }
@@ -149,7 +150,7 @@ impl Options {
 pub struct Problem<'a> {
     /// The start's time.
     pub x0: f64,
-    /// The end's time.
+    /// The end's time. The last step may end past it by a rounding, and derivatives may be asked for there.
     pub xend: f64,
     /// The start's pose, of at most 64 states.
     pub y0: &'a [f64],

@@ -26,14 +26,15 @@ pub enum Reason {
     NegativeRelative = 9,
     /// An entry of atol is below 0.
     NegativeAbsolute = 10,
-    /// The first step, given or computed, is zero, NaN or leads away from the end.
+    /// The first step, given or computed, is zero, NaN or leads away from the end. One computed is zero where the first
+    /// derivative is infinite or very large; where an end of the interval is NaN, no step leads to the end.
     FirstStep = 11,
     /// The weight rtol·|y|+atol of a state is at most 0.
     Weight = 12,
     /// The session holds a value out of its range; nobody but the library writes that of a
     /// [`Solver`](crate::Solver).
     DamagedSession = 13,
-    /// Another reply was asked for, or the run has ended.
+    /// Another reply was asked for, or the run has ended, or the reply has another length.
     Unasked = 14,
     /// The snapshot's header is damaged.
     DamagedSnapshot = 15,
@@ -63,6 +64,14 @@ const REASONS: [Reason; 17] = [
     Reason::PoseLength,
     Reason::ShortSnapshot,
 ];
+
+const _: () = {
+    let mut i = 0;
+    while i < REASONS.len() {
+        assert!(REASONS[i] as usize == i + 1);
+        i += 1;
+    }
+};
 
 /// A refused call.
 ///

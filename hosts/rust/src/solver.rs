@@ -108,8 +108,9 @@ impl Solver {
     /// Begins a run; bad input is refused (1 to 11).
     ///
     /// The problem is handed on as it is: where the ends of the interval are equal and no first step is given, the
-    /// reply to the first question is refused with 11. The drivers make a success of it. A tolerance that is NaN passes
-    /// here and leaves the error of its state uncontrolled. The drivers make an error of it.
+    /// reply to the first question is refused with 11. The drivers make a success of it where they are finite. A
+    /// tolerance that is NaN passes here and leaves the error of its state uncontrolled. The drivers make an error of
+    /// it.
     pub fn start(problem: &Problem) -> Result<Solver, Refused> {
         let n = problem.y0.len();
         // more states are refused before a buffer is looked at, and buffers for them need not fit any memory
@@ -212,19 +213,19 @@ impl Solver {
         }
     }
 
-    /// Replies with the derivative at the question's time and state: n numbers.
+    /// Replies with the derivative at the question's time and state: n numbers, else refused (14).
     pub fn derivative(&mut self, f: &[f64]) -> Result<(), Refused> {
         self.reply(DERIVATIVE, f, 0.0)
     }
 
-    /// Replies with the Jacobian at the question's time and state: n·n numbers, column by column, df_i/dy_j at
-    /// `j * n + i`.
+    /// Replies with the Jacobian at the question's time and state: n·n numbers, else refused (14), column by column,
+    /// df_i/dy_j at `j * n + i`.
     pub fn jacobian(&mut self, columns: &[f64]) -> Result<(), Refused> {
         self.reply(JACOBIAN, columns, 0.0)
     }
 
-    /// Goes on from this pose and time; those of the report keep the run as it is. At the first report the time alone
-    /// counts.
+    /// Goes on from this pose, of n numbers, else refused (14), and time; those of the report keep the run as it is. At
+    /// the first report the time alone counts.
     pub fn go_on(&mut self, y: &[f64], time: f64) -> Result<(), Refused> {
         self.reply(CONTINUE, y, time)
     }
@@ -234,7 +235,7 @@ impl Solver {
         self.reply(INTERRUPT, y, time)
     }
 
-    /// Goes on from this pose, at order 1; the time counts at the first report alone.
+    /// Goes on from this pose, of n numbers, else refused (14), at order 1; the time counts at the first report alone.
     pub fn modified(&mut self, y: &[f64], time: f64) -> Result<(), Refused> {
         self.reply(MODIFIED, y, time)
     }

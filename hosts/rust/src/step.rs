@@ -24,12 +24,16 @@ impl Step<'_> {
     /// The pose at a time of this step, its ends included. A time outside, or a NaN, is an error: beyond its ends a
     /// step says nothing about the solution.
     ///
-    /// At the step's end it is `y` exactly. At its beginning it is the interpolation's too, not the pose that the step
-    /// began from: they may differ by a rounding (of the time too, which counts where the pose is steep), and by up to
-    /// a step's error where the order has changed. Take the pose reported before where that one is meant.
+    /// At the step's end it is `y` itself. At its beginning it is the interpolation's, not the pose that the step began
+    /// from: they may differ by a rounding (of the time too, which counts where the pose is steep), and by up to a
+    /// step's error where the order has changed. Take the pose reported before where that one is meant.
     pub fn at(&self, time: f64) -> Result<Vec<f64>, NoPose> {
         let Step { previous, time: end, .. } = *self;
-        if !(previous.min(end) <= time && time <= previous.max(end)) {
+        // not left to the interpolation: it refuses a step of length 0, and is NaN where the time is infinite
+        if time == end {
+            return Ok(self.y.to_vec());
+        }
+        if !(previous <= time && time <= end || end <= time && time <= previous) {
             return Err(NoPose::OutsideStep { time, previous, end });
         }
         let mut pose = vec![f64::NAN; self.y.len()];
@@ -61,7 +65,7 @@ impl Accepted {
         Step { previous, time, y, count, snapshot }
     }
 
-    /// As [`Step::at`]: exact at the step's end, the interpolation at its beginning.
+    /// As [`Step::at`]: `y` at the step's end, the interpolation at its beginning.
     pub fn at(&self, time: f64) -> Result<Vec<f64>, NoPose> {
         self.as_step().at(time)
     }

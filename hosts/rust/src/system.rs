@@ -116,7 +116,7 @@ pub enum Control {
     Continue,
     /// End the run here; the driver returns [`End::Interrupted`](crate::End::Interrupted).
     Interrupt,
-    /// Go on from another pose, at order 1.
+    /// Go on from another pose, at order 1: of n numbers, else refused (14), which ends the run of a driver.
     Modified(Vec<f64>),
 }
 

@@ -3,6 +3,7 @@
 
 mod common;
 
+use std::cell::Cell;
 use std::convert::Infallible;
 use std::error::Error as _;
 
@@ -70,6 +71,13 @@ fn every_early_end_has_its_name_and_advice() {
     for (end, number, text, advice) in told {
         assert_eq!((end.number(), end.to_string().as_str(), end.advice()), (number, text, advice));
         let _: &dyn std::error::Error = &end;
+    }
+
+    // none but the first two are well, whatever else the run has
+    let mut finished = run(&problem(1.0, &[1.0, 0.0], &[1e-3], &[1e-6]), swing).unwrap();
+    for (end, number, ..) in told {
+        finished.end = end;
+        assert_eq!((finished.is_ok(), finished.check().is_ok()), (number < 112, number < 112));
     }
 
     let error = run(&cut_after(3), swing).unwrap_err();
@@ -154,6 +162,12 @@ fn equal_ends_are_a_success_without_a_step() {
     assert_eq!(refused(&Problem { atol: &[0.0], ..still }), 12);
     assert_eq!(refused(&Problem { options: still.options.first_step(0.0), ..still }), 11);
     assert_eq!(ended(run(&Problem { y0: &[1.0, f64::NAN], ..still }, swing).unwrap_err()).nonfinite_at, Some(3.0));
+    // ends that are not finite have no difference
+    for x in [f64::INFINITY, f64::NEG_INFINITY] {
+        for options in [still.options, still.options.first_step(1.0), still.options.first_step(-1.0)] {
+            assert_eq!(refused(&Problem { x0: x, xend: x, options, ..still }), 11);
+        }
+    }
     // the machine hands on what it is given
     assert_eq!(Solver::start(&still).unwrap().derivative(&[0.0, -1.0]).unwrap_err().reason, Reason::FirstStep);
 }
@@ -168,6 +182,8 @@ fn no_driver_takes_a_nan_tolerance() {
         (Problem { rtol: &[1e-3, nan], ..whole }, "rtol", 1),
         (Problem { atol: &[-nan], ..whole }, "atol", 0),
         (Problem { rtol: &[0.0, nan], atol: &[nan, 1e-6], ..whole }, "rtol", 1),
+        (Problem { rtol: &[nan, nan], ..whole }, "rtol", 0),
+        (Problem { y0: &[1.0, 0.0, 0.0], atol: &[1e-6, nan, nan], ..whole }, "atol", 1),
         (Problem { y0: &[], atol: &[nan], ..whole }, "atol", 0),
         (Problem { xend: whole.x0, atol: &[1e-6, nan], ..whole }, "atol", 1),
     ];
@@ -249,4 +265,64 @@ fn errors_go_to_other_threads() {
     sent::<NoPose>();
     sent::<Refused>();
     sent::<End>();
+}
+
+#[test]
+fn a_first_step_that_cannot_be_computed_ends_the_run() {
+    let whole = problem(1.0, &[1.0], &[1e-3], &[1e-6]);
+    let calls = Cell::new(0);
+    let refused = |problem: &Problem, slope: f64| {
+        calls.set(0);
+        let rising = |_: f64, _: &[f64], f: &mut [f64]| {
+            calls.set(calls.get() + 1);
+            f[0] = slope;
+        };
+        match solve(problem, rising, |_| Control::Interrupt).unwrap_err() {
+            Error::Refused(refused) => refused.reason,
+            error => panic!("{error}"),
+        }
+    };
+    // it comes in the midst of the run, after the first derivative
+    for slope in [f64::INFINITY, f64::NEG_INFINITY, 1e300, 1e200] {
+        assert_eq!((refused(&whole, slope), calls.get()), (Reason::FirstStep, 1));
+    }
+    for (x0, xend) in [(0.0, f64::NAN), (f64::NAN, 1.0), (f64::NAN, f64::NAN)] {
+        assert_eq!((refused(&Problem { x0, xend, ..whole }, 1.0), calls.get()), (Reason::FirstStep, 1));
+    }
+    // a NaN derivative is no such case: its poses are NaN
+    assert!(ended(run(&whole, |_, _, f| f[0] = f64::NAN).unwrap_err()).nonfinite_at.is_some());
+}
+
+#[test]
+fn a_modified_pose_of_another_length_is_refused() {
+    let unasked = Refused { reason: Reason::Unasked, index: 0, value: 0.0 };
+    for pose in [vec![], vec![1.0], vec![1.0, 0.0, 0.0]] {
+        let mut reports = 0;
+        let outcome = solve(&problem(10.0, &[1.0, 0.0], &[1e-3], &[1e-6]), swing, |_| {
+            reports += 1;
+            if reports == 1 {
+                Control::Modified(pose.clone())
+            } else {
+                Control::Interrupt
+            }
+        });
+        assert_eq!((outcome, reports), (Err(Error::Refused(unasked)), 1));
+    }
+}
+
+#[test]
+fn a_success_may_end_past_the_interval_by_a_rounding() {
+    let (x0, xend) = (-0.412, 0.018);
+    let swinging = Problem { x0, ..problem(xend, &[1.0, 0.0], &[1e-3], &[1e-6]) };
+    let mut latest = x0;
+    let watched = |time: f64, y: &[f64], f: &mut [f64]| {
+        latest = f64::max(latest, time);
+        swing(time, y, f);
+    };
+    let (finished, curve) = solve_dense(&swinging, watched).unwrap();
+    let past = 0.018000000000000002;
+    assert_eq!((finished.end, finished.time, latest, curve.span()), (End::Success, past, past, (x0, past)));
+    assert!(past > xend && past - xend < 1e-17);
+    assert_eq!(curve.at(past).unwrap(), curve.steps().last().unwrap().y);
+    assert!(curve.at(xend).is_some());
 }

@@ -2,8 +2,10 @@
 
 mod common;
 
+use std::cell::Cell;
+
 use common::{problem, robertson, robertson_jacobian, swing, swinging};
-use raimsklo::{solve, steps, Control, End, Options, Problem, RightSide};
+use raimsklo::{solve, solve_dense, steps, Control, End, Options, Problem, RightSide};
 
 #[test]
 fn oscillator() {
@@ -72,6 +74,88 @@ fn what_a_report_says() {
 fn nothing_to_do() {
     let finished = solve(&problem(1.0, &[], &[1e-3], &[1e-6]), |_, _, _| (), |_| Control::Continue).unwrap();
     assert_eq!((finished.end, finished.nfe), (End::Success, 0));
+    // its time is the start's, whatever that is
+    let empty = Problem { x0: 0.5, ..problem(1.0, &[], &[1e-3], &[1e-6]) };
+    assert_eq!(solve(&empty, |_, _, _| (), |_| Control::Continue).unwrap().time, 0.5);
+    let (finished, curve) = solve_dense(&empty, |_, _, _| ()).unwrap();
+    assert_eq!((finished.time, curve.span(), curve.at(0.5)), (0.5, (0.5, 0.5), Some(vec![])));
+}
+
+#[test]
+fn sixty_four_states() {
+    let y0: Vec<f64> = (0..64).map(f64::from).collect();
+    let mut last = vec![];
+    let decay = |_: f64, y: &[f64], f: &mut [f64]| {
+        for (f, y) in f.iter_mut().zip(y) {
+            *f = -y;
+        }
+    };
+    let finished = solve(&problem(1.0, &y0, &[1e-6], &[1e-9]), decay, |step| {
+        last = step.y.to_vec();
+        Control::Continue
+    });
+    assert_eq!(finished.unwrap().end, End::Success);
+    assert!(last.len() == 64 && last.iter().zip(&y0).all(|(y, y0)| (y - y0 / 1f64.exp()).abs() <= 1e-4 * y0));
+}
+
+#[test]
+fn a_step_counts_its_derivatives() {
+    // what belongs to no step: the first derivative, and one after each modified pose
+    let calls = Cell::new(0);
+    let counted = |time: f64, y: &[f64], f: &mut [f64]| {
+        calls.set(calls.get() + 1);
+        robertson(time, y, f);
+    };
+    let chemistry = problem(40.0, &[1.0, 0.0, 0.0], &[1e-6], &[1e-8, 1e-12, 1e-8]);
+    let (mut before, mut sum, mut reports, mut largest) = (1, 0, 0, 0);
+    let finished = solve(&chemistry, counted, |step| {
+        assert_eq!(step.count, calls.get() - before);
+        (sum, reports, largest) = (sum + step.count, reports + 1, largest.max(step.count));
+        if reports == 5 {
+            before = calls.get() + 1;
+            return Control::Modified(step.y.to_vec());
+        }
+        before = calls.get();
+        Control::Continue
+    });
+    let finished = finished.unwrap();
+    assert_eq!((finished.nfe, calls.get()), (sum + 2, sum + 2));
+    assert!(finished.nje > 0 && 3 < largest && largest <= chemistry.options.cap(3));
+
+    // the same of steps that outlive their reports
+    calls.set(0);
+    let (finished, curve) = solve_dense(&chemistry, counted).unwrap();
+    let borrowed: usize = curve.steps().iter().map(|step| step.as_step().count).sum();
+    let kept: usize = curve.steps().iter().map(|step| step.count).sum();
+    assert_eq!((kept + 1, borrowed + 1, finished.nfe), (calls.get(), calls.get(), calls.get()));
+}
+
+#[test]
+fn counts_of_a_run_have_their_names() {
+    // its first Jacobian is a wrong one, by which the iteration's matrix is singular: it is not factored
+    let chemistry = problem(40.0, &[1.0, 0.0, 0.0], &[1e-3], &[1e-8, 1e-12, 1e-8]);
+    let (mut jacobians, mut derivatives, mut reports) = (0, 0, 0);
+    let counted = |time: f64, y: &[f64], f: &mut [f64]| {
+        derivatives += 1;
+        robertson(time, y, f);
+    };
+    let wrong_at_first = |time: f64, y: &[f64], columns: &mut [f64]| {
+        jacobians += 1;
+        if jacobians == 1 {
+            columns.fill(1e200);
+        } else {
+            robertson_jacobian(time, y, columns);
+        }
+    };
+    let finished = chemistry.solve(RightSide::new(counted).jacobian(wrong_at_first), |_| {
+        reports += 1;
+        Control::Continue
+    });
+    let finished = finished.unwrap();
+    assert_eq!((finished.nfe, finished.nje, finished.accepted), (derivatives, jacobians, reports));
+    assert_eq!((finished.nfe, finished.nje, finished.nlu), (146, 20, 19));
+    assert_eq!((finished.total, finished.accepted, finished.rejected), (96, 92, 4));
+    assert_eq!(finished.h, 2.3290535969835418);
 }
 
 #[test]
@@ -113,6 +197,11 @@ fn caps_are_known_beforehand() {
     assert_eq!((options.cap(2), options.jacobian_cap()), (13 * 3 + 7 + 2 * 10, 10));
     (options.mxncf, options.maxcor) = (usize::MAX, usize::MAX);
     assert_eq!((options.cap(2), options.jacobian_cap()), (usize::MAX, usize::MAX));
+    assert_eq!(options.with_jacobian().cap(2), usize::MAX);
+    // each part alone
+    assert_eq!(options.with_jacobian().maxcor(1).cap(2), usize::MAX);
+    let half = options.mxncf(usize::MAX / 2 - 8).maxcor(0);
+    assert_eq!((half.cap(1), half.cap(2)), (usize::MAX / 2 + 8, usize::MAX));
 }
 
 #[test]
@@ -140,6 +229,18 @@ fn options_say_what_they_were_given() {
         assert_eq!(end(options.min_step(1.0)).unwrap_err().finished().unwrap().end, End::PoorConvergence);
         assert_eq!(end(options.max_step(1e-2)), end(options.max_step(-1e-2)));
         assert!(end(options.max_step(1e-2)).unwrap().accepted >= 1000);
+
+        // these act as none given
+        for none in [options.max_step(0.0), options.max_step(f64::NAN), options.min_step(f64::NAN)] {
+            assert_eq!(end(none), end(options));
+        }
+        // beyond the interval a smallest step never moves
+        for h in [10.5, -10.5] {
+            let error = end(options.min_step(h)).unwrap_err();
+            let finished = error.finished().unwrap();
+            assert_eq!((finished.end, finished.time, finished.h), (End::NeedsMoreSteps, x0, 0.0));
+            assert_eq!((finished.accepted, finished.rejected), (100_000, 0));
+        }
     }
 
     // a first step has the direction of time

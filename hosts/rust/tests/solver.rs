@@ -3,7 +3,7 @@
 mod common;
 
 use common::{problem, swinging};
-use raimsklo::{solve, Control, End, Error, Options, Problem, Question, Reason, Refused, Solver};
+use raimsklo::{interpolate, solve, Control, End, Error, Options, Problem, Question, Reason, Refused, Solver, Step};
 
 #[test]
 fn refusals() {
@@ -18,6 +18,18 @@ fn refusals() {
     assert_eq!(refused(&backward), Refused { reason: Reason::FirstStep, index: 0, value: -0.5 });
     let told = "refused (11): the first step -0.5 is zero, NaN or leads away from the end";
     assert_eq!(refused(&backward).to_string(), told);
+    let whole = problem(1.0, &[0.0], &[1e-3], &[1e-6]);
+    let settings = [
+        (Options::default().msbp(1_000_001), Reason::SettingTooLarge),
+        (Options::default().max_steps(0), Reason::NoSteps),
+        (Options::default().maxcor(0), Reason::NoIterations),
+        (Options::default().mxordn(0), Reason::NoOrder),
+        (Options::default().mxords(0), Reason::NoOrder),
+    ];
+    for (options, reason) in settings {
+        assert_eq!(refused(&Problem { options, ..whole }).reason, reason);
+    }
+    assert_eq!(interpolate(0.0, &mut [0.0], &[f64::NAN; 8]).unwrap_err().reason, Reason::DamagedSnapshot);
     let weightless = problem(1.0, &[0.0], &[1e-3], &[0.0]);
     let error = solve(&weightless, |_, _, f| f[0] = 0.0, |_| Control::Continue).unwrap_err();
     assert_eq!(error, Error::Refused(Refused { reason: Reason::Weight, index: 0, value: 0.0 }));
@@ -137,4 +149,66 @@ fn a_solver_knows_poses_that_are_not_finite() {
     run.interrupt(&[f64::NAN], 0.0).unwrap();
     let Question::Finished(finished) = run.question() else { panic!("no end") };
     assert_eq!((finished.end, finished.nonfinite_at, finished.is_ok()), (End::Interrupted, Some(0.0), false));
+}
+
+#[test]
+fn a_time_of_the_hosts_counts_at_the_first_report() {
+    let mut run = Solver::start(&problem(1.0, &[1.0], &[1e-3], &[1e-6])).unwrap();
+    run.derivative(&[-1.0]).unwrap();
+    let first = |reply: fn(&mut Solver, f64) -> Result<(), Refused>, time| {
+        let mut run = run.clone();
+        reply(&mut run, time).unwrap();
+        run
+    };
+    // a step is tried from there; a modified pose has its derivative there
+    let asked = |run: &Solver| match run.question() {
+        Question::Derivative { time, .. } => time,
+        question => panic!("{question}"),
+    };
+    let tried = asked(&first(|run, time| run.go_on(&[1.0], time), 0.0));
+    let later = asked(&first(|run, time| run.go_on(&[1.0], time), 0.25));
+    assert!(tried > 0.0 && later == 0.25 + tried);
+    assert_eq!(asked(&first(|run, time| run.modified(&[2.0], time), 0.25)), 0.25);
+    // an end has no time of its own, but the session keeps it; and poses go so far as they were reported
+    let interrupted = |time| first(|run, time| run.interrupt(&[1.0], time), time);
+    assert_eq!(format!("{:?}", interrupted(0.25)), format!("{:?}", interrupted(0.25)));
+    assert_ne!(format!("{:?}", interrupted(0.25)), format!("{:?}", interrupted(0.0)));
+    assert!(matches!(interrupted(0.25).question(), Question::Finished(finished) if finished.time == 0.0));
+}
+
+#[test]
+fn every_question_has_its_text() {
+    let mut stiff = problem(1.0, &[1.0], &[1e-3], &[1e-6]);
+    stiff.options = stiff.options.with_jacobian();
+    let mut run = Solver::start(&stiff).unwrap();
+    let mut told = vec![];
+    while !run.ended() {
+        let text = run.question().to_string();
+        match run.question() {
+            Question::Derivative { y, .. } => {
+                let f = [-1e4 * y[0]];
+                run.derivative(&f).unwrap();
+            }
+            Question::Jacobian { .. } => {
+                assert_eq!(run.jacobian(&[]).unwrap_err().number(), 14);
+                run.jacobian(&[-1e4]).unwrap();
+            }
+            Question::FirstReport { time, y } | Question::Report(Step { time, y, .. }) => {
+                let y = y.to_vec();
+                run.go_on(&y, time).unwrap();
+            }
+            question => panic!("{question}"),
+        }
+        if !told.contains(&text) {
+            told.push(text);
+        }
+    }
+    let texts = [
+        "a derivative is wanted",
+        "first report, before any step",
+        "report: a step was accepted",
+        "a Jacobian is wanted",
+    ];
+    assert_eq!(told, texts);
+    assert_eq!(run.question().to_string(), "success");
 }

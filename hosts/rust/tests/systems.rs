@@ -6,7 +6,7 @@ use std::convert::Infallible;
 use std::error::Error as _;
 use std::fmt;
 
-use common::{breaking, problem, robertson, robertson_jacobian, swing, swinging};
+use common::{breaking, problem, robertson, robertson_jacobian, swinging};
 use raimsklo::{solve, solve_dense, steps, Control, Error, Finished, Incomplete, Problem, RightSide, System};
 
 #[derive(Clone, Debug, PartialEq)]
@@ -82,11 +82,33 @@ fn every_driver_takes_a_jacobian() {
     assert_eq!(problem.solve_dense(by_name).unwrap().0, finished);
 }
 
+/// Stiff, and with a derivative alone: all else is the trait's.
+struct Plain;
+
+impl System for Plain {
+    type Error = Infallible;
+
+    fn derivative(&mut self, time: f64, y: &[f64], f: &mut [f64]) -> Result<(), Infallible> {
+        robertson(time, y, f);
+        Ok(())
+    }
+}
+
 #[test]
 fn what_a_system_says_goes_before_the_options() {
-    let whole = swinging(10.0);
+    // a Jacobian is wanted in this run, and where the system has none it is taken by differences
+    let whole = chemistry();
     let asking = Problem { options: whole.options.with_jacobian(), ..whole };
-    assert_eq!(solve(&asking, swing, |_| Control::Continue), solve(&whole, swing, |_| Control::Continue));
+    let finished = solve(&whole, robertson, |_| Control::Continue).unwrap();
+    assert!(finished.nje > 0);
+    assert_eq!(solve(&asking, robertson, |_| Control::Continue), Ok(finished));
+    assert_eq!(asking.solve_dense(Plain).unwrap().0, finished);
+    let mut run = asking.steps(Plain).unwrap();
+    assert!(run.by_ref().all(|step| step.is_ok()) && run.finished() == Some(finished));
+
+    let supplied = RightSide::new(robertson).jacobian(robertson_jacobian);
+    let finished = whole.solve(supplied, |_| Control::Continue);
+    assert_eq!(asking.solve(supplied, |_| Control::Continue), finished);
 }
 
 #[test]
@@ -106,7 +128,10 @@ fn an_error_of_the_host_comes_back_as_it_was() {
     let mut run = problem.steps(Kettle { calls: (0, 0), until: 2.0 }).unwrap();
     let taken: Vec<f64> = run.by_ref().map_while(Result::ok).map(|step| step.time).collect();
     assert!(run.next().is_none() && run.finished().is_none());
-    let Incomplete { error, curve } = problem.solve_dense(Kettle { calls: (0, 0), until: 2.0 }).unwrap_err();
+    let cut = problem.solve_dense(Kettle { calls: (0, 0), until: 2.0 }).unwrap_err();
+    assert_eq!(cut.to_string(), "stopped by the host: rig 7 is gone");
+    assert_eq!(cut.source().unwrap().downcast_ref(), Some(&RigGone(7)));
+    let Incomplete { error, curve } = cut;
     assert_eq!(error, Error::Host(RigGone(7)));
     let kept: Vec<f64> = curve.steps().iter().map(|step| step.time).collect();
     assert!(times.len() > 10 && times == taken && times == kept && curve.at(times[9]).is_some());
@@ -187,12 +212,17 @@ fn question_mark_takes_a_boxed_error() {
         Ok(rows)
     }
     fn curve(problem: &Problem) -> Result<f64, Boxed> {
-        let (_, curve) = solve_dense(problem, |_, _, _| Err("no rig")).map_err(|cut| cut.error.into_boxed())?;
+        let (_, curve) = solve_dense(problem, |_, _, _| Err("no rig")).map_err(Incomplete::into_boxed)?;
+        Ok(curve.span().1)
+    }
+    fn curve_sync(problem: &Problem) -> Result<f64, BoxedSync> {
+        let (_, curve) = solve_dense(problem, |_, _, _| Err("no rig")).map_err(Incomplete::into_boxed_sync)?;
         Ok(curve.span().1)
     }
     let whole = chemistry();
     assert_eq!(rows(&whole).unwrap_err().to_string(), "no rig");
     assert_eq!(curve(&whole).unwrap_err().to_string(), "no rig");
+    assert_eq!(curve_sync(&whole).unwrap_err().to_string(), "no rig");
 
     // what is not the host's is the driver's own error in every box
     let refused = rows(&Problem { rtol: &[], ..whole }).unwrap_err();
@@ -200,6 +230,8 @@ fn question_mark_takes_a_boxed_error() {
     assert!(matches!(refused.downcast_ref(), Some(Error::<Infallible>::Refused(_))));
     let nan = curve(&Problem { atol: &[f64::NAN], ..whole }).unwrap_err();
     assert_eq!(nan.downcast_ref(), Some(&Error::<Infallible>::NanTolerance { list: "atol", index: 0 }));
+    let refused = curve_sync(&Problem { rtol: &[], ..whole }).unwrap_err();
+    assert!(matches!(refused.downcast_ref(), Some(Error::<Infallible>::Refused(_))));
     let breaks = |time: f64, y: &[f64], f: &mut [f64]| {
         breaking(time, y, f);
         Ok::<(), String>(())
