@@ -1,4 +1,4 @@
-"""The build backend that pip calls: setuptools' where it can make wheels, otherwise the same wheel by Python alone.
+"""The build backend that pip calls: setuptools' where it can make wheels, otherwise a wheel as good by Python alone.
 
 So that an install fetches nothing, wherever it is made: the wheel is the package's files, the shared library among
 them, and four files about them. An editable wheel has, in place of the package, one line with the path to this folder.
@@ -20,21 +20,35 @@ def _text(*path):
         return file.read()
 
 
+def _project():
+    """What pyproject.toml says of the project: its texts, its lists of texts, and the extras with what they ask for."""
+    tables = dict(re.findall(r"(?ms)^\[([\w.-]+)\]\n(.*?)(?=^\[|\Z)", _text("pyproject.toml")))
+
+    def lists(table):
+        found = re.findall(r"(?ms)^([\w-]+) = \[(.*?)\]$", tables[table])
+        return {name: re.findall(r'"(.*?)"', inside) for name, inside in found}
+
+    texts = dict(re.findall(r'(?m)^([\w-]+) = "(.*)"$', tables["project"]))
+    return texts, lists("project"), lists("project.optional-dependencies")
+
+
 def _metadata():
-    project = dict(re.findall(r'(?m)^([\w-]+) = "(.*)"$', _text("pyproject.toml").split("[project]")[1]))
+    texts, lists, extras = _project()
     version = re.search(r'(?m)^__version__ = "(.*)"$', _text(NAME, "__init__.py")).group(1)
     lines = [
         "Metadata-Version: 2.1",
         f"Name: {NAME}",
         f"Version: {version}",
-        f"Summary: {project['description']}",
-        f"Requires-Python: {project['requires-python']}",
+        f"Summary: {texts['description']}",
         "License: Apache-2.0",
+        f"Keywords: {','.join(lists['keywords'])}",
+        *(f"Classifier: {classifier}" for classifier in lists["classifiers"]),
+        f"Requires-Python: {texts['requires-python']}",
         "Description-Content-Type: text/markdown",
-        "",
-        _text(project["readme"]),
     ]
-    return version, "\n".join(lines).encode()
+    for extra, wanted in extras.items():
+        lines += [f"Provides-Extra: {extra}", *(f"Requires-Dist: {name} ; extra == '{extra}'" for name in wanted)]
+    return version, "\n".join([*lines, "", _text(texts["readme"])]).encode()
 
 
 def _package():
@@ -75,6 +89,14 @@ def build_wheel(wheel_directory, config_settings=None, metadata_directory=None):
 
 def build_editable(wheel_directory, config_settings=None, metadata_directory=None):
     return _write(wheel_directory, {f"__editable__.{NAME}.pth": f"{HERE}\n".encode()})
+
+
+class UnsupportedOperation(Exception):
+    """What a backend raises that makes no source distribution."""
+
+
+def build_sdist(sdist_directory, config_settings=None):
+    raise UnsupportedOperation("the package carries a built library: make a wheel")
 
 
 def _setuptools():

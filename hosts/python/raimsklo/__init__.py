@@ -23,14 +23,17 @@ question at a time, for callers that keep control.
 
 from __future__ import annotations
 
-from typing import Any
+from typing import TYPE_CHECKING, Any
 
 from .dense import DenseOutput
 from .ivp import solve_ivp
 from .library import Answer, Options, defaults
 from .refused import ADVICE, DERIVATIVE_WANTED, ENDS, FIRST_REPORT, JACOBIAN_WANTED, REPORT, SUCCESS, Refused, message
 from .result import Result
-from .run import CONTINUE, DERIVATIVE, INTERRUPT, JACOBIAN, MODIFIED, Run, interpolate
+from .run import CONTINUE, DERIVATIVE, INTERRUPT, JACOBIAN, MODIFIED, Run, interpolate, root
+
+if TYPE_CHECKING:  # at run time it is imported when it is asked for, since it takes scipy
+    from .scipy_solver import LSODA as LSODA
 
 __version__ = "0.2.0"
 
@@ -56,16 +59,17 @@ __all__ = [
     "defaults",
     "interpolate",
     "message",
+    "root",
     "solve_ivp",
 ]
 
 
 def __getattr__(name: str) -> Any:
-    if name == "LSODA":  # imported when it is asked for, since it takes scipy
+    if name == "LSODA":
         try:
-            from .scipy_solver import LSODA
+            from .scipy_solver import LSODA as solver
         except ImportError as missing:
             raise AttributeError(f"raimsklo.LSODA needs scipy: {missing}") from missing
-        globals()[name] = LSODA
-        return LSODA
+        globals()[name] = solver
+        return solver
     raise AttributeError(f"module {__name__!r} has no attribute {name!r}")

@@ -25,7 +25,8 @@ def _apart(result: Result, before: Result, rtol: Sequence[float], atol: Sequence
     """The largest difference between two runs at the times of the second, in the tolerances asked."""
     largest, n = 0.0, len(result.y)
     times = [float(t) for t in result.t]
-    poses = before.sol._at(times)  # the ends of two runs may differ by a rounding
+    sol: Any = before.sol
+    poses = sol._at(times)  # the ends of two runs may differ by a rounding
     for i in range(n):
         absolute, relative = _entry(atol, i), _entry(rtol, i)
         for y, earlier in zip(map(float, result.y[i]), poses[i::n]):

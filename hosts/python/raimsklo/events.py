@@ -16,10 +16,8 @@ from __future__ import annotations
 from math import inf
 from typing import Any, Callable, List, Optional, Tuple
 
-try:
-    import numpy
-except ImportError:
-    numpy = None  # type: ignore[assignment]
+from . import given
+from .given import numpy
 
 _TOLERANCE = 4 * 2.0**-52  # absolute and relative, as scipy takes them for events
 _ITERATIONS = 100  # as many as scipy's, which then gives up
@@ -95,18 +93,13 @@ def _copy(pose: Any) -> Any:
 
 
 def _number(value: Any, name: str) -> float:
-    """The number that the event of this name gave."""
-    if numpy is not None and isinstance(value, (numpy.ndarray, numpy.generic)):
-        if value.size != 1:
-            raise ValueError(f"{name} gave an array of shape {value.shape}, and one number is wanted")
-        value = value.item()
-    elif isinstance(value, (list, tuple)) and len(value) == 1:
+    """The number that the event of this name gave, also as an array or a list of one."""
+    if isinstance(value, (list, tuple)) and len(value) == 1:
         value = value[0]
-    if isinstance(value, complex):
-        raise ValueError(f"{name} gave the complex number {value!r}, and a real one is wanted")
-    if not (hasattr(value, "__float__") or hasattr(value, "__index__")):
-        raise ValueError(f"{name} gave {value!r}, and one number is wanted")
-    return float(value)
+    try:
+        return given.number(value, f"what {name} gave")
+    except TypeError:
+        raise ValueError(f"{name} gave {value!r}, and one number is wanted") from None
 
 
 class _Event:
@@ -136,7 +129,7 @@ class _Event:
 
     def _direction(self, direction: Any) -> float:
         try:
-            direction = float(direction)
+            direction = given.number(direction, "`direction`")
         except (TypeError, ValueError):
             direction = float("nan")
         if direction != direction:
@@ -161,6 +154,7 @@ class Events:
             events = (events,)
         self._events = [_Event(function, f"events[{place}]") for place, function in enumerate(events)]
         self._args = tuple(args)
+        self.found: List[Tuple[float, Any]] = []
         for event in self._events:
             event.value = self._value(event, t0, y0)
 
@@ -173,9 +167,9 @@ class Events:
         """Takes note of what occurred in an accepted step from `previous` to `t`, with the pose y at t.
 
         pose_at(time) gives the pose at a time within the step. Answers None, or (time, pose) where a terminal event
-        stops the run; what occurred later in the step is dropped then.
+        stops the run; what occurred later in the step is dropped then. `found` has times and poses of the step.
         """
-        passed = []
+        self.found, passed = [], []
         for event in self._events:
             before, event.value = event.value, self._value(event, t, y)
             if event.passes(before, event.value):
@@ -186,6 +180,7 @@ class Events:
             pose = pose_at(time)
             event.times.append(time)
             event.poses.append(_copy(pose))
+            self.found.append((time, event.poses[-1]))
             if len(event.times) >= event.limit:
                 return time, _copy(pose)
         return None

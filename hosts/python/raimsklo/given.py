@@ -8,7 +8,7 @@ from __future__ import annotations
 
 import operator
 from array import array
-from collections.abc import Mapping, Set
+from collections.abc import Iterator, Mapping, Set
 from numbers import Complex, Real
 from typing import Any, Tuple
 
@@ -25,14 +25,23 @@ if numpy is not None:
     PLAIN |= {numpy.float64, numpy.float32, numpy.int64, numpy.int32}
 
 
+def _unmasked(values: Any, what: str) -> Any:
+    """What is given, where none of it is masked."""
+    if numpy is not None and isinstance(values, numpy.ma.MaskedArray) and numpy.ma.is_masked(values):
+        raise ValueError(f"{what} has masked entries")
+    return values
+
+
 def _plain(value: Any) -> Any:
     """Python's own number for one of numpy's, or for an array of one number."""
-    return value.item() if getattr(value, "size", 0) == 1 and hasattr(value, "item") else value
+    one = getattr(value, "size", 0) == 1 and hasattr(value, "item")
+    # of a complex number of another precision numpy's item is its own again
+    return value.item() if one and not isinstance(value, Complex) else value
 
 
 def number(value: Any, what: str) -> float:
     """One real number."""
-    value = _plain(value)
+    value = _plain(_unmasked(value, what))
     if isinstance(value, Complex) and not isinstance(value, Real):
         raise _complex(what)
     if isinstance(value, (str, bytes, bytearray)):
@@ -66,12 +75,11 @@ def scalar(values: Any) -> bool:
     return not hasattr(values, "__iter__") if dimensions is None else dimensions == 0
 
 
-def _real_array(values: Any, what: str) -> Any:
+def real_array(values: Any, what: str) -> Any:
     """A numpy array of doubles, of the shape that was given."""
     if hasattr(values, "toarray"):  # scipy's sparse matrices and arrays
         values = values.toarray()
-    if isinstance(values, numpy.ma.MaskedArray) and numpy.ma.is_masked(values):
-        raise ValueError(f"{what} has masked entries")
+    values = _unmasked(values, what)
     try:
         values = numpy.asarray(values)
     except ValueError:
@@ -84,8 +92,8 @@ def _real_array(values: Any, what: str) -> Any:
 
 
 def _listed(values: Any, what: str) -> list:
-    """A list of what is given in an order; a dict or a set has none."""
-    if isinstance(values, (Mapping, Set)):
+    """A list of what is given in an order, as often as it is asked: no dict or set, and no generator."""
+    if isinstance(values, (Mapping, Set, Iterator)):
         raise TypeError(f"{what} is {values!r}, and a list of numbers is wanted")
     return list(values)
 
@@ -103,7 +111,7 @@ def vector(values: Any, what: str, told: str = "{} must be 1-dimensional.") -> a
     nested = ValueError(told.format(what))
     if numpy is None:
         return _entries(values, what, nested)
-    values = _real_array(values, what)
+    values = real_array(values, what)
     if values.ndim > 1:
         raise nested
     return array("d", values.tobytes())
@@ -115,7 +123,7 @@ def derivative(f: Any, n: int) -> array:
     if numpy is None:
         numbers = _entries(f, what, Refused(14, told=f"fun gave lists within a list, and {n} numbers are wanted"))
     else:
-        f = _real_array(f, what)
+        f = real_array(f, what)
         if f.ndim > 1:
             raise Refused(14, told=f"fun gave an array of shape {f.shape}, and ({n},) is wanted")
         numbers = array("d", f.tobytes())
@@ -135,7 +143,7 @@ def by_columns(jacobian: Any, n: int) -> array:
         if len(rows) != n or any(len(row) != n for row in rows):
             raise wrong
         return array("d", [number(rows[i][j], what) for j in range(n) for i in range(n)])
-    matrix = _real_array(jacobian, what)
+    matrix = real_array(jacobian, what)
     if n == 1 and matrix.size == 1:
         matrix = matrix.reshape(1, 1)
     if matrix.shape != (n, n):
@@ -144,7 +152,7 @@ def by_columns(jacobian: Any, n: int) -> array:
 
 
 def arguments(args: Any) -> Tuple[Any, ...]:
-    """`args` as scipy's unpacks them; what cannot be unpacked is one argument."""
+    """`args` as scipy's unpacks them; what cannot be unpacked is one argument, and so is a text."""
     if args is None:
         return ()
     return (args,) if scalar(args) else tuple(args)

@@ -5,7 +5,7 @@ from __future__ import annotations
 import math
 import sys
 from array import array
-from typing import Any, Callable, Optional, Sequence, Tuple, Union
+from typing import Any, Callable, List, Optional, Sequence, SupportsFloat, SupportsInt, Union
 
 from . import answer, given, settings
 from .dense import DenseOutput
@@ -19,27 +19,29 @@ __all__ = ["DenseOutput", "Result", "solve_ivp"]
 
 def solve_ivp(
     fun: Callable[..., Any],
-    t_span: Tuple[float, float],
+    t_span: Any,
     y0: Any,
     method: Union[str, type] = "LSODA",
-    t_eval: Optional[Sequence[float]] = None,
+    t_eval: Any = None,
     dense_output: bool = False,
-    events: Union[Callable[..., float], Sequence[Callable[..., float]], None] = None,
+    events: Union[Callable[..., Any], Sequence[Callable[..., Any]], None] = None,
     vectorized: bool = False,
     args: Any = None,
     *,
     rtol: Any = 1e-3,
     atol: Any = 1e-6,
     jac: Any = None,
-    max_step: Optional[float] = None,
-    min_step: Optional[float] = None,
-    first_step: Optional[float] = None,
-    max_steps: int = 100000,
-    mxordn: int = 12,
-    mxords: int = 5,
-    maxcor: int = 3,
-    msbp: int = 20,
-    mxncf: int = 10,
+    max_step: Optional[SupportsFloat] = None,
+    min_step: Optional[SupportsFloat] = None,
+    first_step: Optional[SupportsFloat] = None,
+    lband: Optional[int] = None,
+    uband: Optional[int] = None,
+    max_steps: SupportsInt = 100000,
+    mxordn: SupportsInt = 12,
+    mxords: SupportsInt = 5,
+    maxcor: SupportsInt = 3,
+    msbp: SupportsInt = 20,
+    mxncf: SupportsInt = 10,
     report: Optional[Callable[[float, float, Any, int], Any]] = None,
     tolerances: str = "step",
 ) -> Result:
@@ -51,7 +53,8 @@ def solve_ivp(
         ``fun(t, y, *args)`` gives the derivative, one number for each state, as an array or a list. `y` is a fresh
         array (without numpy a list) at each call.
     t_span : (float, float)
-        Start and end, in either direction. Where they are equal, the result is a success without a step.
+        Start and end, in either direction. Where they are equal, the result is a success without a step. The end may be
+        infinite, for a run that an event or `report` stops.
     y0 : array_like
         The start's pose, at most 64 states.
     method : "LSODA" or raimsklo.LSODA
@@ -76,6 +79,8 @@ def solve_ivp(
     max_step, min_step, first_step : float, optional
         Sizes of steps, above 0 in either direction of time (`min_step` may be 0), the latter two at most as long as
         the interval.
+    lband, uband : None
+        Refused (8) where given: banded storage is not supported.
     max_steps : int
         The largest number of accepted steps.
     mxordn, mxords, maxcor, msbp, mxncf : int
@@ -133,7 +138,8 @@ def solve_ivp(
     if tolerances == "answer" and events is not None:
         raise ValueError("events go with the tolerances of a step: those of the answer take several runs")
 
-    t0, tend = (given.number(t, "`t_span`") for t in t_span)
+    t0, tend = t_span
+    t0, tend = settings.interval(t0, tend, ("t_span", "t_span"))
     y0 = given.vector(y0, "`y0`")
     n, args = len(y0), given.arguments(args)
     times = None if t_eval is None else _times(t_eval, t0, tend)
@@ -143,6 +149,7 @@ def solve_ivp(
         t0,
         tend,
         jac is not None,
+        lband is not None or uband is not None,
     )
     rtol, atol = settings.tolerances(rtol, "rtol"), settings.tolerances(atol, "atol")
     fun, jac = settings.right_side(fun, args, vectorized), settings.jacobian(jac, args, n)
@@ -204,15 +211,16 @@ class _Kept:
         self.events, self.report = events, report
         self.sign = -1.0 if tend < t0 else 1.0
         self.sol = DenseOutput(run.n, t0, y0, self.sign) if dense else None
-        self.times, self.poses, self.counts = array("d"), array("d"), []
+        self.times, self.poses = array("d"), array("d")
+        self.counts: List[int] = []
         self.largest_count, self.order, self.stopped = 0, 0, False
         self.began = (t0, y0)  # time and pose at the beginning of the step under way, where there are events
-        self.nonfinite_at = None if all(map(math.isfinite, y0)) else t0
+        self.nonfinite_at = None if all(map(math.isfinite, y0)) else t0  # the first time of a pose that is not finite
         here = 1 if t_eval is None else t_eval.count(t0)  # the start's pose itself, not one of the first step's
         self.times.extend([t0] * here)
         self.poses.extend(y0 * here)
 
-    def drive(self, fun: Callable[[float, Any], Any], jac: Optional[Callable[[float, Any], array]]) -> None:
+    def drive(self, fun: Callable[[float, Any], Any], jac: Any) -> None:
         """Answers the library's questions until the run has ended."""
         run, buffers = self.run, self.buffers
         state, put, derivative = buffers.state, buffers.put, buffers.derivative
@@ -245,7 +253,7 @@ class _Kept:
             self.sol._add(t, buffers.snapshot(self.order))
         end = None
         if self.events is not None:
-            end = self.events.after_step(asked.previous, t, buffers.state(), self.pose_at)
+            end = self.occurred(asked.previous, t, buffers.state(), self.pose_at)
             self.began = (t, array("d", bytes(buffers.y)))
         if self.t_eval is not None:
             self.between(t if end is None else end[0])
@@ -254,13 +262,25 @@ class _Kept:
         if end is not None:
             self.stop(*end)
         else:
-            if self.nonfinite_at is None and not buffers.finite():
-                self.nonfinite_at = t
+            if self.nonfinite_at is None:
+                self.look(t, buffers.finite())
             if self.t_eval is None:
                 self.times.append(t)
                 self.poses.frombytes(buffers.y)
         interrupted = self.report is not None and self.report(asked.previous, t, buffers.state(), count)
         return bool(interrupted) or self.stopped
+
+    def look(self, t: float, finite: bool) -> None:
+        """At a pose that is handed out, in whatever order the poses of a step are."""
+        if not finite and (self.nonfinite_at is None or self.sign * t < self.sign * self.nonfinite_at):
+            self.nonfinite_at = t
+
+    def occurred(self, previous: float, t: float, y: Any, pose_at: Callable[[float], Any]) -> Any:
+        """What the events say of a step: None, or time and pose of the one that stops the run."""
+        end = self.events.after_step(previous, t, y, pose_at)
+        for time, pose in self.events.found:
+            self.look(time, all(map(math.isfinite, pose)))
+        return end
 
     def pose_at(self, t: float) -> Any:
         """The pose at a time within the step that was reported last; at its ends the accepted poses themselves."""
@@ -278,18 +298,15 @@ class _Kept:
         if self.t_eval is None:
             self.times.append(time)
             self.poses.extend(pose)
-        if self.nonfinite_at is None and not all(map(math.isfinite, pose)):
-            self.nonfinite_at = time
 
     def between(self, end: float) -> None:
         """Keeps the poses at the times of t_eval up to `end`, from the step that was reported last."""
-        t_eval, sign, buffers = self.t_eval, self.sign, self.buffers
+        t_eval, sign, buffers = self.t_eval or (), self.sign, self.buffers
         while len(self.times) < len(t_eval) and sign * t_eval[len(self.times)] <= sign * end:
             t = t_eval[len(self.times)]
             self.poses.frombytes(buffers.interpolate(t, self.order))
             self.times.append(t)
-            if self.nonfinite_at is None and not buffers.finite_between():
-                self.nonfinite_at = t
+            self.look(t, buffers.finite_between())
 
     def without_states(self) -> None:
         """What no step brings: the times of a run without states."""
@@ -297,7 +314,7 @@ class _Kept:
         if end != self.t0:
             if self.sol is not None:
                 self.sol._add(end, b"")
-            stop = None if self.events is None else self.events.after_step(self.t0, end, nothing(end), nothing)
+            stop = None if self.events is None else self.occurred(self.t0, end, nothing(end), nothing)
             if stop is not None:
                 end = stop[0]
                 self.stop(*stop)

@@ -7,8 +7,7 @@ from __future__ import annotations
 
 import ctypes
 import os
-from ctypes import POINTER, Structure, c_double, c_size_t, c_uint8
-from typing import Any
+from ctypes import Structure, c_double, c_size_t
 
 # made by tools/record.py: the length of a session
 SESSION_LENGTH = 1448
@@ -63,17 +62,15 @@ class Answer(Structure):
 
 
 def _declare(library: ctypes.CDLL) -> None:
-    """Results and arguments of the functions that the package calls."""
-    doubles, sizes, octets = POINTER(c_double), POINTER(c_size_t), POINTER(c_uint8)
-    lent = [doubles, c_size_t, sizes, c_size_t, octets, c_size_t, doubles, c_size_t]
+    """Results and arguments; those of start, reply and interpolate are C's already (run.py), and go on unlooked at."""
     for name, result, taken in (
         ("defaults", Options, []),
         ("work_length", c_size_t, [c_size_t]),
         ("question_length", c_size_t, [c_size_t]),
         ("session_length", c_size_t, []),
-        ("start", Answer, [c_double, c_double] + [doubles, c_size_t] * 3 + [Options] + lent),
-        ("reply", Answer, [c_size_t, doubles, c_size_t, c_double] + lent),
-        ("interpolate", c_size_t, [c_double, doubles, c_size_t, doubles, c_size_t]),
+        ("start", Answer, None),
+        ("reply", Answer, None),
+        ("interpolate", c_size_t, None),
         ("root", c_double, [c_double, c_size_t]),
     ):
         function = getattr(library, "raimsklo_" + name)
@@ -106,13 +103,6 @@ def question_length(n: int) -> int:
 
 
 LIBRARY = _load()
-
-
-def ready(name: str, result: Any) -> Any:
-    """The function once more, for arguments that are C's already: they are passed on without a look at each."""
-    function = LIBRARY["raimsklo_" + name]
-    function.restype = result
-    return function
 
 
 def defaults() -> Options:

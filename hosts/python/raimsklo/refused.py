@@ -5,7 +5,7 @@ from __future__ import annotations
 from typing import Any, Optional
 
 DERIVATIVE_WANTED, JACOBIAN_WANTED, FIRST_REPORT, REPORT = 100, 101, 102, 103
-SUCCESS, INTERRUPTED = 110, 111
+SUCCESS = 110
 
 ENDS = {
     110: "success",

@@ -4,14 +4,13 @@ from __future__ import annotations
 
 import math
 from array import array
-from collections import namedtuple
 from ctypes import byref, c_double, c_size_t, c_uint8
 from struct import Struct, error
-from typing import Any, Callable, Optional
+from typing import Any, Callable, List, NamedTuple, Optional
 
 from . import given
-from .library import COUNT_WORDS, MOST_STATES, SESSION_LENGTH, Answer, Options
-from .library import defaults, question_length, ready, work_length
+from .library import COUNT_WORDS, LIBRARY, MOST_STATES, SESSION_LENGTH, Answer, Options
+from .library import defaults, question_length, work_length
 from .refused import DERIVATIVE_WANTED, ENDS, FIRST_REPORT, JACOBIAN_WANTED, REPORT, Refused, SUCCESS
 
 __all__ = [
@@ -29,6 +28,7 @@ __all__ = [
     "Refused",
     "Run",
     "interpolate",
+    "root",
 ]
 
 DERIVATIVE, JACOBIAN, CONTINUE, INTERRUPT, MODIFIED = 1, 2, 3, 4, 5
@@ -37,12 +37,19 @@ DOUBLE = 8  # bytes
 ORDERS = 13  # of a snapshot, 0 to 12
 HEADER = 6  # numbers of a snapshot before its columns
 
-start = ready("start", Answer)
-reply = ready("reply", Answer)
-interpolate_into = ready("interpolate", c_size_t)
+start, reply, interpolate_into = LIBRARY.raimsklo_start, LIBRARY.raimsklo_reply, LIBRARY.raimsklo_interpolate
 size, time_of = c_size_t.from_param, c_double.from_param
 
-Counts = namedtuple("Counts", list(COUNT_WORDS))
+
+class Counts(NamedTuple):
+    """The library's counts of a run: steps accepted, derivatives, Jacobians, factorings, attempts rejected, steps."""
+
+    accepted: int
+    nfe: int
+    nje: int
+    nlu: int
+    rejected: int
+    total: int
 
 
 class Run:
@@ -112,8 +119,8 @@ class Run:
         self._pivots = (c_size_t * n)()
         self._session = (c_uint8 * SESSION_LENGTH)()
         self._question = (c_double * question_length(n))()
-        lent = [(byref(b), size(len(b))) for b in (self._work, self._pivots, self._session, self._question)]
-        self._lent = sum(lent, ())
+        buffers: List[Any] = [self._work, self._pivots, self._session, self._question]
+        self._lent: Any = sum(((byref(b), size(len(b))) for b in buffers), ())
         self._octets = memoryview(self._question).cast("B")
         numbers = [(pointer(v), size(len(v))) for v in (y0, rtol, atol)]
         self._take(start(time_of(x0), time_of(xend), *sum(numbers, ()), options, *self._lent))
@@ -147,7 +154,8 @@ class Run:
     def counts(self) -> Counts:
         """The library's counts so far, at a question, a report or an end: they stand in the session."""
         octets = bytes(self._session)
-        return Counts(*(int.from_bytes(octets[DOUBLE * w : DOUBLE * (w + 1)], "little") for w in COUNT_WORDS.values()))
+        words = {name: octets[DOUBLE * word : DOUBLE * (word + 1)] for name, word in COUNT_WORDS.items()}
+        return Counts(**{name: int.from_bytes(word, "little") for name, word in words.items()})
 
     @property
     def ended(self) -> bool:
@@ -217,6 +225,19 @@ def interpolate(t: float, snapshot: Any, n: int) -> Any:
     return given.handed_out(pose)
 
 
+def root(x: float, k: int) -> float:
+    """The root of order k of x as the solver takes it, k from 2 to 13; NaN for another order.
+
+    Examples
+    --------
+    >>> from raimsklo import root
+    >>> root(8.0, 3), root(2.0, 1)
+    (2.0, nan)
+    """
+    order = given.whole(k, "k")
+    return LIBRARY.raimsklo_root(given.number(x, "`x`"), order if 0 <= order < 2**64 else 0)
+
+
 class Buffers:
     """A run's buffers as a driver reads and writes them: nothing is made anew for a call that can be kept.
 
@@ -267,8 +288,10 @@ class Buffers:
             self.finite = lambda: all(map(math.isfinite, y))
             self.finite_between = lambda: all(map(math.isfinite, between))
             return
-        y, between = (numpy.frombuffer(b, dtype=float, count=n) for b in (self.run._question, self._pose))
-        doubles, ndarray, zeros = octets.cast("d"), numpy.ndarray, numpy.zeros(n)
+        lent: List[Any] = [self.run._question, self._pose]
+        y, between = (numpy.frombuffer(b, dtype=float, count=n) for b in lent)
+        doubles, zeros = octets.cast("d"), numpy.zeros(n)
+        ndarray: Any = numpy.ndarray
 
         def put(f: Any) -> None:
             if type(f) is ndarray:

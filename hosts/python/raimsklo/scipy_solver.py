@@ -10,7 +10,7 @@ from typing import Any, Callable
 
 try:
     import numpy
-    from scipy.integrate import DenseOutput, OdeSolver
+    from scipy.integrate import DenseOutput, OdeSolver  # type: ignore[import]
 except ImportError as missing:
     raise ImportError("raimsklo.scipy_solver needs scipy (and numpy), which is not there") from missing
 
@@ -122,6 +122,11 @@ class LSODA(OdeSolver):
     (1, 1.0096)
     """
 
+    t: float
+    y: numpy.ndarray
+    direction: float
+    status: str
+
     def __init__(
         self,
         fun: Callable,
@@ -148,10 +153,8 @@ class LSODA(OdeSolver):
         if extraneous:
             names = ", ".join(f"`{name}`" for name in extraneous)
             warnings.warn(f"The following arguments have no effect for a chosen solver: {names}.", stacklevel=2)
-        t0, t_bound = given.number(t0, "`t0`"), given.number(t_bound, "`t_bound`")
-        if not numpy.isfinite(t0) or numpy.isnan(t_bound):
-            raise ValueError(f"no interval: t0 is {t0!r}, t_bound is {t_bound!r}")
-        super().__init__(fun, t0, y0, t_bound, vectorized)
+        t0, t_bound = settings.interval(t0, t_bound, ("t0", "t_bound"))
+        super().__init__(fun, t0, given.handed_out(given.vector(y0, "`y0`")), t_bound, vectorized)
         self.direction = float(self.direction)
         if not numpy.isfinite(self.y).all():
             raise ValueError(f"`y0`, the pose at {t0!r}, is not finite")
@@ -161,12 +164,13 @@ class LSODA(OdeSolver):
             t0,
             t_bound,
             jac is not None,
+            lband is not None or uband is not None,
         )
-        options.banded = 0 if lband is None and uband is None else 1
         rtol, atol = settings.tolerances(rtol, "rtol"), settings.tolerances(atol, "atol")
         self._run = calls.Run(t0, t_bound, self.y, rtol, atol, options)
         self._buffers = calls.Buffers(self._run)
-        self._right_side, self._jacobian = settings.right_side(fun, (), vectorized), settings.jacobian(jac, (), self.n)
+        self._right_side = settings.right_side(fun, (), vectorized)
+        self._jacobian: Any = settings.jacobian(jac, (), self.n)
         self._pose = self.y.copy()  # of the last accepted step; that before and the snapshot serve the dense output
         self.y = self._pose.copy()
         self._pose_old, self._snapshot = self._pose, b""
@@ -189,12 +193,13 @@ class LSODA(OdeSolver):
         number = self._run.answer.number
         if number >= SUCCESS:
             return number
-        return SUCCESS if self.status == "finished" else None  # an interval without length: scipy takes no step
+        return SUCCESS if self.status == "finished" else None  # scipy sees for itself that the end is reached
 
     @property
     def end(self) -> str | None:
         """Its name."""
-        return ENDS.get(self.number)
+        number = self.number
+        return None if number is None else ENDS[number]
 
     def _step_impl(self) -> tuple[bool, str | None]:
         run, buffers, fun = self._run, self._buffers, self._right_side
@@ -235,9 +240,6 @@ class LSODA(OdeSolver):
             return False, f"the pose at {time!r} has a NaN or an infinity"
         self._pose_old, self._pose, self._snapshot = self._pose, buffers.state(), bytes(buffers.snapshot(asked.order))
         self.t, self.y = time, buffers.state()
-        if self.direction * (time - self.t_bound) >= 0:
-            # scipy asks for no further step: the library says its end
-            self._run._take(buffers.reported(calls.CONTINUE, time))
         return True, None
 
     def _dense_output_impl(self) -> StepOutput:

@@ -7,16 +7,24 @@ from __future__ import annotations
 
 import math
 from array import array
-from typing import Any, Callable, Optional
+from typing import Any, Callable, Optional, Tuple
 
 from . import given
 from .library import Options, defaults
 
 
-def options(settings: dict, sizes: dict, t0: float, tend: float, supplied: bool) -> Options:
-    """The settings by name, the sizes of steps (None: not given), and whether the host gives the Jacobian."""
+def interval(start: Any, end: Any, names: Tuple[str, str]) -> Tuple[float, float]:
+    """The ends of the interval; the last may be infinite, for a run that an event or its host stops."""
+    t0, tend = (given.number(t, f"`{name}`") for t, name in zip((start, end), names))
+    if not math.isfinite(t0) or math.isnan(tend):
+        raise ValueError(f"no interval: it begins at {t0!r} and ends at {tend!r}")
+    return t0, tend
+
+
+def options(settings: dict, sizes: dict, t0: float, tend: float, supplied: bool, banded: bool) -> Options:
+    """The settings by name, the sizes of steps (None: not given), whether the host gives the Jacobian, and by bands."""
     options = defaults()
-    options.supplied = int(supplied)
+    options.supplied, options.banded = int(supplied), int(banded)
     for name, value in settings.items():
         value = given.whole(value, name)
         if value < 0:
@@ -55,7 +63,9 @@ def right_side(fun: Callable[..., Any], args: tuple, vectorized: bool) -> Callab
     """`fun` of time and pose alone."""
     if not callable(fun):
         raise TypeError(f"`fun` must be callable, not {fun!r}")
-    with_args = (lambda t, y: fun(t, y, *args)) if args else fun
+    with_args: Callable[[float, Any], Any] = fun
+    if args:
+        with_args = lambda t, y: fun(t, y, *args)  # noqa: E731
     if not vectorized:
         return with_args
 
@@ -63,7 +73,7 @@ def right_side(fun: Callable[..., Any], args: tuple, vectorized: bool) -> Callab
         if given.numpy is None:
             f = with_args(t, [[state] for state in y])
             return [row if given.scalar(row) or len(row) != 1 else row[0] for row in f]
-        f = given.numpy.asarray(with_args(t, y[:, None]))
+        f = given.real_array(with_args(t, y[:, None]), "what `fun` gave")
         return f[:, 0] if f.ndim == 2 and f.shape[1] == 1 else f
 
     return column

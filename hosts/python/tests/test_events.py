@@ -115,7 +115,7 @@ class Roots(unittest.TestCase):
         self.assertEqual(brent(unasked, 1.0, 2.0, 0.0, 5.0), 1.0)
         self.assertEqual(brent(unasked, 1.0, 2.0, -5.0, -0.0), 2.0)
         self.assertEqual(brent(unasked, 2.0, 1.0, 0.0, 0.0), 2.0)
-        self.assertEqual(brent(unasked, 3.0, math.nextafter(3.0, 4.0), -1.0, 2.0), 3.0)
+        self.assertEqual(brent(unasked, 3.0, 3.0 + 2.0**-51, -1.0, 2.0), 3.0)
 
     def test_only_asks_within_the_bracket(self):
         for f, (a, b), _ in self.KNOWN:
@@ -269,7 +269,12 @@ class Values(unittest.TestCase):
         for made in shapes:
             watched, _ = told(lambda t, y: made(y[0] - 0.5), [0.0, 1.0], lambda t: [t])  # noqa: B023
             self.assertAlmostEqual(watched.t_events[0][0], 0.5, delta=1e-15)
-        for wrong in (numpy.zeros(2), numpy.zeros((0,)), numpy.array([1j]), numpy.complex128(1), numpy.array(["a"])):
+        one = 1 + 5j
+        kinds = (numpy.complex64, numpy.complex128, numpy.clongdouble)
+        wrongs = [numpy.zeros(2), numpy.zeros((0,)), numpy.array(["a"]), numpy.ma.masked, [numpy.ma.masked]]
+        for kind in kinds:
+            wrongs += [kind(one), [kind(one)], numpy.array(one, kind), numpy.array([kind(1)])]
+        for wrong in wrongs:
             with self.assertRaisesRegex(ValueError, r"events\[0\] gave"):
                 Events(lambda t, y: wrong, (), 0.0, [0.0])  # noqa: B023
 
@@ -282,7 +287,7 @@ class Values(unittest.TestCase):
         for terminal in (-1, 2.5, math.nan, math.inf, "yes", [1, 2], 1j):
             with self.assertRaisesRegex(ValueError, r"`terminal` of events\[0\] must be a boolean or a positive int"):
                 Events(event(place, terminal=terminal), (), 0.0, [0.0])
-        for direction in (math.nan, "up", [1, 2], 1j):
+        for direction in (math.nan, "up", "1", [1, 2], 1j):
             with self.assertRaisesRegex(ValueError, r"`direction` of events\[0\] must be a number"):
                 Events(event(place, direction=direction), (), 0.0, [0.0])
         with self.assertRaisesRegex(TypeError, r"events\[1\] is not callable"):

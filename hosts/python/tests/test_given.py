@@ -123,9 +123,12 @@ class Sizes(unittest.TestCase):
     def test_max_step(self):
         for size in (0, 0.0, -0.0, -0.1, -math.inf, math.nan):
             self.refused("`max_step` must be positive.", max_step=size)
-        free = solve_ivp(decay, (0, 1), [1.0])
+        # here the steps grow as far as the interval, the largest step that there is if none is given
+        slow = lambda t, y: [-0.0128 * y[0]]  # noqa: E731
+        free = solve_ivp(slow, (0, 2.06), [1.0], rtol=1e-2, atol=1e-4)
         for size in (None, math.inf):
-            self.assertEqual(list(solve_ivp(decay, (0, 1), [1.0], max_step=size).t), list(free.t))
+            result = solve_ivp(slow, (0, 2.06), [1.0], rtol=1e-2, atol=1e-4, max_step=size)
+            self.assertEqual(list(result.t), list(free.t))
 
     def test_min_step(self):
         for size in (-1e-9, -math.inf, math.nan):
@@ -176,8 +179,14 @@ class Settings(unittest.TestCase):
         self.assertEqual(result.cap, 22 + 7 + 19)
 
     def test_unknown(self):
-        with self.assertRaisesRegex(TypeError, "lband"):
-            solve_ivp(decay, (0, 1), [1.0], lband=1)
+        with self.assertRaisesRegex(TypeError, "lbands"):
+            solve_ivp(decay, (0, 1), [1.0], lbands=1)
+
+    def test_bands(self):
+        self.assertTrue(solve_ivp(decay, (0, 1), [1.0], lband=None, uband=None).success)
+        for bands in (dict(lband=0), dict(uband=1), dict(lband=1, uband=1)):
+            with self.assertRaisesRegex(Refused, r"\(8\): banded storage is not supported"):
+                solve_ivp(decay, (0, 1), [1.0], **bands)
 
     def test_method(self):
         for wrong in ("RK45", "lsoda", None, int):
@@ -185,7 +194,30 @@ class Settings(unittest.TestCase):
                 solve_ivp(decay, (0, 1), [1.0], wrong)
 
 
+class Intervals(unittest.TestCase):
+    def test_none(self):
+        nan, inf = math.nan, math.inf
+        for span in ((nan, 1), (0, nan), (nan, nan), (inf, 0), (-inf, 0), (inf, inf), (-inf, inf)):
+            with self.assertRaisesRegex(ValueError, "^no interval: it begins at .* and ends at"):
+                solve_ivp(swing, span, [1, 0])
+        for span in ((0,), (0, 1, 2), 3):
+            with self.assertRaises((TypeError, ValueError)):
+                solve_ivp(swing, span, [1, 0])
+
+    def test_without_an_end(self):
+        for end in (math.inf, -math.inf):
+            result = solve_ivp(swing, (0, end), [1, 0], report=lambda previous, t, y, count: abs(t) > 5.0)
+            self.assertEqual((result.end, abs(result.t[-1]) > 5.0), ("interrupted", True))
+
+
 class Shapes(unittest.TestCase):
+    def test_no_generator(self):
+        """What can be read once is no list of numbers, with numpy and without."""
+        with self.assertRaises(TypeError):
+            solve_ivp(decay, (0, 1), (y for y in [1.0]))
+        with self.assertRaises(TypeError):
+            solve_ivp(lambda t, y: (f for f in [1.0]), (0, 1), [1.0])
+
     def test_pose(self):
         wanted = poses(solve_ivp(decay, (0, 1), [1.0, 2.0]))
         given = [(1, 2), [True, 2], range(1, 3), [Fraction(1), 2.0]]
@@ -262,6 +294,13 @@ class Shapes(unittest.TestCase):
             solve_ivp(lambda t, y: [y[0], y], (0, 1), [1, 0])
         with self.assertRaisesRegex(ValueError, "what `fun` gave has masked entries"):
             solve_ivp(lambda t, y: numpy.ma.array(y, mask=[True, False]), (0, 1), [1, 0])
+        with self.assertRaisesRegex(ValueError, "what `fun` gave has masked entries"):
+            masked = lambda t, y: numpy.ma.array(y, mask=[[True], [False]])  # noqa: E731
+            solve_ivp(masked, (0, 1), [1, 0], vectorized=True)
+        with self.assertRaisesRegex(ValueError, "what `fun` gave is no array"):
+            solve_ivp(lambda t, y: [[0.0], [0.0, 1.0]], (0, 1), [1, 0], vectorized=True)
+        with self.assertRaisesRegex(ValueError, "`t_span` has masked entries"):
+            solve_ivp(swing, (0, numpy.ma.masked), [1, 0])
         matrix = numpy.array([[0.0, 1.0], [-1.0, 0.0]])
         columns = solve_ivp(lambda t, y: matrix @ y, (0, 10), [1, 0], vectorized=True)
         self.assertEqual(poses(columns), poses(solve_ivp(lambda t, y: matrix @ y, (0, 10), [1, 0])))
@@ -318,6 +357,18 @@ class Jacobians(unittest.TestCase):
         if sparse is not None:
             with self.assertRaisesRegex(ValueError, "what `jac` gave is complex"):
                 self.solved(sparse.csr_matrix(matrix * 1j))
+
+    def test_to_array(self):
+        """What has a method `toarray`, as scipy's sparse matrices have, whether numpy is there or not."""
+
+        class Sparse:
+            def toarray(self):
+                return [[0.0, 1.0], [-1.0, 0.0]]
+
+        given = dict(rtol=1e-6, atol=1e-9, mxordn=1)
+        wanted = poses(solve_ivp(swing, (0, 1), [1, 0], jac=Sparse().toarray(), **given))
+        self.assertEqual(poses(solve_ivp(swing, (0, 1), [1, 0], jac=Sparse(), **given)), wanted)
+        self.assertEqual(poses(solve_ivp(swing, (0, 1), [1, 0], jac=lambda t, y: Sparse(), **given)), wanted)
 
     @unittest.skipIf(sparse is None, "no scipy")
     def test_sparse_and_not_symmetric(self):

@@ -1,5 +1,6 @@
 """The wheel, an editable wheel, pip's install: what is installed carries the library and runs away from the source."""
 
+import email
 import importlib.util
 import os
 import subprocess
@@ -39,6 +40,15 @@ def version():
         return next(line.split('"')[1] for line in file if line.startswith("__version__"))
 
 
+def metadata(wheel):
+    """What a wheel says of itself; the form of a requirement does not count, nor the version of these fields."""
+    with zipfile.ZipFile(wheel) as opened:
+        told = email.message_from_string(opened.read(f"raimsklo-{version()}.dist-info/METADATA").decode())
+    plain = str.maketrans("", "", " '\"")
+    found = {(name, text.translate(plain) if name == "Requires-Dist" else text) for name, text in told.items()}
+    return {(name, text) for name, text in found if name != "Metadata-Version"} | {told.get_payload().strip()}
+
+
 class Installed(unittest.TestCase):
     def setUp(self):
         folder = tempfile.TemporaryDirectory()
@@ -60,15 +70,22 @@ class Installed(unittest.TestCase):
             return sorted(opened.namelist())
 
     def test_wheel(self):
-        names = self.unpacked(built("build_wheel", self.folder, OURS))
+        wheel = built("build_wheel", self.folder, OURS)
+        names = self.unpacked(wheel)
         for name in ("libraimsklo.so", "py.typed", "LICENSE", "NOTICE", "ivp.py"):
             self.assertIn("raimsklo/" + name, names)
         self.runs(os.path.join(self.folder, "raimsklo"))
+        told = metadata(wheel)
+        self.assertIn(("Provides-Extra", "scipy"), told)
+        self.assertIn(("Requires-Dist", "numpy;extra==fast"), told)
+        self.assertIn(("Classifier", "Typing :: Typed"), told)
         if has("setuptools") and has("wheel"):
             other = os.path.join(self.folder, "setuptools")
             os.mkdir(other)
-            with zipfile.ZipFile(built("build_wheel", other)) as opened:
+            theirs = built("build_wheel", other)
+            with zipfile.ZipFile(theirs) as opened:
                 self.assertEqual(sorted(opened.namelist()), names)
+            self.assertEqual(metadata(theirs), told)
 
     def test_editable_wheel(self):
         self.unpacked(built("build_editable", self.folder, OURS))
@@ -92,6 +109,10 @@ class Installed(unittest.TestCase):
         script = OURS + "import backend; backend.HERE = '.'; backend.build_wheel('.')"
         with self.assertRaisesRegex(AssertionError, "`bash hosts/python/build` makes it"):
             said([sys.executable, "-c", script], moved)
+
+    def test_no_source_distribution(self):
+        with self.assertRaisesRegex(AssertionError, "UnsupportedOperation: .* make a wheel"):
+            said([sys.executable, "-c", OURS + "import backend; backend.build_sdist('.')"], PACKAGE)
 
     @unittest.skipUnless(has("pip"), "no pip")
     def test_pip(self):

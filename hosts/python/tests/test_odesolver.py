@@ -253,6 +253,10 @@ class Fails(unittest.TestCase):
         self.assertEqual(caught.exception.number, 11)
         self.assertEqual(solve(lambda t, y: [math.inf], (0, 1), [1], first_step=0.1).status, -1)
 
+    def test_a_masked_start(self):
+        with self.assertRaisesRegex(ValueError, "`y0` has masked entries"):
+            LSODA(swing, 0.0, numpy.ma.array([1.0, 0.0], mask=[False, True]), 1.0)
+
     def test_a_start_that_is_not_finite(self):
         for end in (0.0, 1.0):
             with self.assertRaisesRegex(ValueError, "finite"):

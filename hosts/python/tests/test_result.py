@@ -45,6 +45,12 @@ class Refusals(unittest.TestCase):
                     (refused.number, refused.index, refused.value, refused.told, str(refused)),
                 )
 
+    def test_what_a_caller_added_is_kept(self):
+        refused = Refused(9, index=2)
+        refused.shot = "12b"
+        for other in (pickle.loads(pickle.dumps(refused)), copy.copy(refused), copy.deepcopy(refused)):
+            self.assertEqual(other.shot, "12b")
+
     def test_from_a_worker(self):
         with ProcessPoolExecutor(1) as workers:
             with self.assertRaises(Refused) as caught:
@@ -143,6 +149,15 @@ class NotFinite(unittest.TestCase):
         result = self.solved(t_eval=[0.1, 0.55, 0.56])
         self.assertTrue(math.isnan(result.y[0][1]))
         self.assertEqual((result.nonfinite_at, result.status), (0.55, -2))
+
+    def test_infinities_between(self):
+        """A pose between two finite ones may overflow; here the whole step does, and the time asked for comes first."""
+        rises = lambda t, y: [1e308, 0.0]  # noqa: E731
+        given = dict(rtol=1.0, atol=1.0, first_step=1.0, max_step=1.0)
+        every = solve_ivp(rises, (0, 10), [1.7e308, 0.0], **given)
+        self.assertEqual((every.status, math.isinf(every.y[0][-1]), every.nonfinite_at), (-2, True, 1.0))
+        result = solve_ivp(rises, (0, 10), [1.7e308, 0.0], t_eval=[0.5], **given)
+        self.assertEqual((result.status, math.isinf(result.y[0][0]), result.nonfinite_at), (-2, True, 0.5))
 
     def test_the_start(self):
         for bad in (math.nan, math.inf):

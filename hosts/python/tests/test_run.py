@@ -15,7 +15,7 @@ PACKAGE = os.path.abspath(os.path.join(os.path.dirname(os.path.abspath(__file__)
 sys.path.insert(0, PACKAGE)
 
 import raimsklo  # noqa: E402
-from raimsklo import Refused, Run, defaults, interpolate, solve_ivp  # noqa: E402
+from raimsklo import Refused, Run, defaults, given, interpolate, root, solve_ivp  # noqa: E402
 from test_solve import robertson, robertson_jac, swing, van_der_pol  # noqa: E402
 
 try:
@@ -144,6 +144,31 @@ class Questions(unittest.TestCase):
 
 
 class Threads(unittest.TestCase):
+    def test_plain_numbers_are_lent_as_they_are(self):
+        """Lists, tuples and arrays of doubles go into the buffers without the slow way, which takes all else."""
+        made = [lambda y: [y[1], -y[0]], lambda y: (y[1], -1 * y[0])]
+        if numpy is not None:
+            made += [lambda y: numpy.array([y[1], -y[0]]), lambda y: [numpy.float64(y[1]), -y[0]]]
+        slow = []
+        kept, given.derivative = given.derivative, lambda f, n: slow.append(f) or kept(f, n)
+        try:
+            for fun in made:
+                solve_ivp(lambda t, y: fun(y), (0, 1), [1.0, 0.0])  # noqa: B023
+            self.assertEqual(slow, [])
+            solve_ivp(lambda t, y: range(2), (0, 1), [1.0, 0.0])
+            self.assertGreater(len(slow), 1)
+        finally:
+            given.derivative = kept
+
+    def test_root(self):
+        self.assertEqual((root(8.0, 3), root(1.0, 13), root(0.0, 2)), (2.0, 1.0, 0.0))
+        self.assertEqual((root(math.inf, 2), root(2.0**1000, 2)), (math.inf, 2.0**500))
+        for x, k in ((-1.0, 2), (math.nan, 3), (2.0, 1), (2.0, 14), (2.0, -3), (2.0, 2**64 + 2)):
+            self.assertTrue(math.isnan(root(x, k)), (x, k))
+        for x, k in ((1j, 2), ("4", 2), (4.0, 2.5)):
+            with self.assertRaises((TypeError, ValueError)):
+                root(x, k)
+
     def test_several_runs(self):
         problems = [(swing, (0, 30), [1, 0]), (van_der_pol, (0, 500), [2, 0]), (robertson, (0, 40), [1, 0, 0])] * 2
         alone = [solve_ivp(*problem, rtol=1e-5, atol=1e-8) for problem in problems]

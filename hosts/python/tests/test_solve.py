@@ -163,6 +163,12 @@ class Answers(unittest.TestCase):
         wild = solve_ivp(lambda t, y: [float("nan")], (0, 1), [0.0], tolerances="answer", first_step=0.5)
         self.assertEqual((wild.success, len(wild.t), wild.runs), (False, 0, 16))
 
+    def test_not_finite_after_the_last_time_asked_for(self):
+        fun = lambda t, y: [math.nan if t > 0.5 else 1.0]  # noqa: E731
+        given = dict(rtol=1e-3, atol=1e-3, first_step=0.1, max_step=0.1)
+        result = solve_ivp(fun, (0, 1), [0.0], t_eval=[0.25], tolerances="answer", **given)
+        self.assertEqual((result.success, len(result.t), result.end), (False, 0, "tolerances not met"))
+
     def test_a_run_that_is_not_finite_repeats_none(self):
         """The second state is the same in every run, the first a NaN in the first run alone."""
         runs = [0]

@@ -96,6 +96,27 @@ class Events(unittest.TestCase):
             self.assertEqual(poses(result), poses(solve_ivp(swing, (0, 10 * sign), [1, 0], t_eval=times[:16], **TIGHT)))
             self.assertEqual((result.status, result.counts), (1, []))
 
+    def test_no_time_after_the_event_within_its_step(self):
+        times = [0.1, 0.52, 0.57, 0.59, 0.9]
+        stop = made(lambda t, y: t - 0.55, terminal=True)
+        result = solve_ivp(lambda t, y: [1.0], (0, 1), [0.0], events=stop, t_eval=times, first_step=0.1, max_step=0.1)
+        self.assertEqual((list(result.t), result.accepted), ([0.1, 0.52], 6))
+
+    def test_first_time_that_is_not_finite(self):
+        """Of the poses at events, at the times asked for and at the ends of steps the first, in either direction."""
+        for sign in (1.0, -1.0):
+            fun = lambda t, y: [1.0 if sign * t < 0.52 else math.nan]  # noqa: B023, E731
+            seen = [made(lambda t, y: sign * t - 0.57), made(lambda t, y: sign * t - 0.55)]  # noqa: B023
+            given = dict(events=seen, first_step=0.1, max_step=0.1)
+            result = solve_ivp(fun, (0, sign), [0.0], **given)
+            self.assertEqual((result.status, len(result.t_events[1])), (-2, 1))
+            self.assertTrue(math.isnan(result.y_events[1][0][0]))
+            self.assertEqual(result.nonfinite_at, result.t_events[1][0])
+            result = solve_ivp(fun, (0, sign), [0.0], t_eval=[sign * 0.54, sign * 0.56], **given)
+            self.assertEqual(result.nonfinite_at, sign * 0.54)
+            result = solve_ivp(fun, (0, sign), [0.0], t_eval=[sign * 0.1, sign * 0.56], **given)
+            self.assertEqual(result.nonfinite_at, result.t_events[1][0])
+
     def test_arguments(self):
         event = made(lambda t, y, level, other: y[0] - level, terminal=True, direction=-1.0)
         fun = lambda t, y, level, other: swing(t, y)  # noqa: E731
