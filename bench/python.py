@@ -11,6 +11,7 @@ tracemalloc sees (Python's and numpy's, all that grows with a run) at its peak, 
 missing, it times the package alone.
 """
 
+import argparse
 import gc
 import math
 import os
@@ -28,7 +29,6 @@ try:
 except ImportError:
     numpy = scipy_ivp = None
 
-ROUNDS = int(sys.argv[1]) if len(sys.argv) > 1 else 60
 STEPS = (2000, 20000)
 
 
@@ -105,7 +105,7 @@ def timed(solver, *given, **more):
     return time.process_time() - start
 
 
-def times():
+def times(rounds):
     solvers = (ours, within, theirs) if scipy_ivp else (ours,)
     print(f"{'microseconds a call of fun':34}{'solve_ivp':>10}{'LSODA':>10}{'scipy':>10}{'ratios':>16}")
     for n in (2, 64):
@@ -116,8 +116,8 @@ def times():
             ("BDF", drawn(n), (0.0, 4.0)),
         ):
             more = dict(rtol=1e-5, atol=1e-8)
-            rounds = [[timed(solver, fun, span, pose, **more) for solver in solvers] for _ in range(ROUNDS)]
-            least = [min(took) / called(s, fun, span, pose, **more) for s, took in zip(solvers, zip(*rounds))]
+            made = [[timed(solver, fun, span, pose, **more) for solver in solvers] for _ in range(rounds)]
+            least = [min(took) / called(s, fun, span, pose, **more) for s, took in zip(solvers, zip(*made))]
             ratios = "".join(f"{took / least[-1]:8.2f}" for took in least[:-1])
             print(f"{f'n = {n}, {family}':34}" + "".join(f"{1e6 * took:10.2f}" for took in least) + ratios)
 
@@ -174,8 +174,11 @@ def smooth():
 
 
 if __name__ == "__main__":
-    print(f"Python {sys.version.split()[0]}, numpy {numpy and numpy.__version__}, rounds: {ROUNDS}")
-    times()
+    parser = argparse.ArgumentParser(description="The Python package beside scipy's LSODA: time a call, memory a step.")
+    parser.add_argument("rounds", nargs="?", type=int, default=40, help="in turn, for each solver (40)")
+    given = parser.parse_args()
+    print(f"Python {sys.version.split()[0]}, numpy {numpy and numpy.__version__}, rounds: {given.rounds}")
+    times(given.rounds)
     if scipy_ivp is not None:
         memory()
         smooth()

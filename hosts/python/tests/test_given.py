@@ -124,10 +124,10 @@ class Sizes(unittest.TestCase):
         for size in (0, 0.0, -0.0, -0.1, -math.inf, math.nan):
             self.refused("`max_step` must be positive.", max_step=size)
         # here the steps grow as far as the interval, the largest step that there is if none is given
-        slow = lambda t, y: [-0.0128 * y[0]]  # noqa: E731
-        free = solve_ivp(slow, (0, 2.06), [1.0], rtol=1e-2, atol=1e-4)
+        slow = lambda t, y: [-0.02 * y[0]]  # noqa: E731
+        free = solve_ivp(slow, (0, 2), [1.0], rtol=1e-2, atol=1e-4)
         for size in (None, math.inf):
-            result = solve_ivp(slow, (0, 2.06), [1.0], rtol=1e-2, atol=1e-4, max_step=size)
+            result = solve_ivp(slow, (0, 2), [1.0], rtol=1e-2, atol=1e-4, max_step=size)
             self.assertEqual(list(result.t), list(free.t))
 
     def test_min_step(self):
