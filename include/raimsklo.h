@@ -32,7 +32,7 @@
  *      2      a tolerance list not 1 or n long            11      first step `value` zero, NaN or away from the end
  *      3      a length is wrong                           12      weight rtol*|y|+atol at `index` at most 0
  *      4      a setting above 1,000,000                   13      session or pivots hold a value out of its range
- *      5      max_steps 0                                 14      another reply was asked for, or the run has ended
+ *      5      max_steps 0                                 14      another kind or length was asked for, or it has ended
  *      6      maxcor 0                                    15      raimsklo_interpolate: the snapshot's header
  *      7      mxordn or mxords 0                          16      raimsklo_interpolate: the pose's length
  *      8      banded storage                              17      raimsklo_interpolate: history too short, or h zero
@@ -272,7 +272,7 @@ static inline const char *raimsklo_message(size_t number) {
     case RAIMSKLO_REFUSED_FIRST_STEP: return "the first step is zero, NaN or leads away from the end";
     case RAIMSKLO_REFUSED_WEIGHT: return "the weight rtol*|y|+atol of a state is at most 0";
     case RAIMSKLO_REFUSED_DAMAGED_SESSION: return "the session holds a value out of its range";
-    case RAIMSKLO_REFUSED_UNASKED: return "another reply was asked for, or the run has ended";
+    case RAIMSKLO_REFUSED_UNASKED: return "a reply of another kind or length was asked for, or the run has ended";
     case RAIMSKLO_REFUSED_DAMAGED_SNAPSHOT: return "the snapshot's header is damaged";
     case RAIMSKLO_REFUSED_POSE_LENGTH: return "the pose has another length than the snapshot's states";
     case RAIMSKLO_REFUSED_SHORT_SNAPSHOT: return "the snapshot's history is too short or its step is zero";

@@ -22,7 +22,7 @@ static void set_texts(void) {
     messages[11] = "the first step is zero, NaN or leads away from the end";
     messages[12] = "the weight rtol*|y|+atol of a state is at most 0";
     messages[13] = "the session holds a value out of its range";
-    messages[14] = "another reply was asked for, or the run has ended";
+    messages[14] = "a reply of another kind or length was asked for, or the run has ended";
     messages[15] = "the snapshot's header is damaged";
     messages[16] = "the pose has another length than the snapshot's states";
     messages[17] = "the snapshot's history is too short or its step is zero";

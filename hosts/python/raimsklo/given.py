@@ -34,9 +34,7 @@ def _unmasked(values: Any, what: str) -> Any:
 
 def _plain(value: Any) -> Any:
     """Python's own number for one of numpy's, or for an array of one number."""
-    one = getattr(value, "size", 0) == 1 and hasattr(value, "item")
-    # of a complex number of another precision numpy's item is its own again
-    return value.item() if one and not isinstance(value, Complex) else value
+    return value.item() if getattr(value, "size", 0) == 1 and hasattr(value, "item") else value
 
 
 def number(value: Any, what: str) -> float:

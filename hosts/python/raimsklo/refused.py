@@ -39,7 +39,7 @@ REFUSALS = {
     11: "the first step {value!r} is zero, NaN or leads away from the end",
     12: "the weight rtol*|y|+atol of state {index} is at most 0",
     13: "the session holds a value out of its range",
-    14: "another reply was asked for, or the run has ended",
+    14: "a reply of another kind or length was asked for, or the run has ended",
     15: "the snapshot's header is damaged",
     16: "the pose has another length than the snapshot's states",
     17: "the snapshot's history is too short or its step is zero",

@@ -50,8 +50,8 @@ impl Problem<'_> {
     }
 
     /// As a driver hands it to the library: the Jacobian as the system has it, and a first step of 1 where the ends of
-    /// the interval are equal, finite, and none is given. The library would refuse the one that it computes there, and none is
-    /// done. Zeros of two signs are equal ends too: the step has the sign that the library sees.
+    /// the interval are equal and finite and none is given. The library would refuse the one that it computes there,
+    /// and none is done. Zeros of two signs are equal ends too: the step has the sign that the library sees.
     fn driven(&self, has_jacobian: bool) -> Self {
         let mut options = Options { supplied: usize::from(has_jacobian), ..self.options };
         if self.x0 == self.xend && self.x0.is_finite() && options.given_first_step().is_none() {

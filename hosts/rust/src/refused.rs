@@ -34,7 +34,7 @@ pub enum Reason {
     /// The session holds a value out of its range; nobody but the library writes that of a
     /// [`Solver`](crate::Solver).
     DamagedSession = 13,
-    /// Another reply was asked for, or the run has ended, or the reply has another length.
+    /// A reply of another kind or length was asked for, or the run has ended.
     Unasked = 14,
     /// The snapshot's header is damaged.
     DamagedSnapshot = 15,
@@ -118,7 +118,7 @@ impl fmt::Display for Refused {
             Reason::FirstStep => write!(f, "the first step {value:?} is zero, NaN or leads away from the end"),
             Reason::Weight => write!(f, "the weight rtol*|y|+atol of state {index} is at most 0"),
             Reason::DamagedSession => write!(f, "the session holds a value out of its range"),
-            Reason::Unasked => write!(f, "another reply was asked for, or the run has ended"),
+            Reason::Unasked => write!(f, "a reply of another kind or length was asked for, or the run has ended"),
             Reason::DamagedSnapshot => write!(f, "the snapshot's header is damaged"),
             Reason::PoseLength => write!(f, "the pose has another length than the snapshot's states"),
             Reason::ShortSnapshot => write!(f, "the snapshot's history is too short or its step is zero"),

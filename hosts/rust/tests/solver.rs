@@ -52,7 +52,7 @@ fn every_refusal_has_its_number_and_text() {
         (Reason::FirstStep, "the first step NaN is zero, NaN or leads away from the end"),
         (Reason::Weight, "the weight rtol*|y|+atol of state 3 is at most 0"),
         (Reason::DamagedSession, "the session holds a value out of its range"),
-        (Reason::Unasked, "another reply was asked for, or the run has ended"),
+        (Reason::Unasked, "a reply of another kind or length was asked for, or the run has ended"),
         (Reason::DamagedSnapshot, "the snapshot's header is damaged"),
         (Reason::PoseLength, "the pose has another length than the snapshot's states"),
         (Reason::ShortSnapshot, "the snapshot's history is too short or its step is zero"),
