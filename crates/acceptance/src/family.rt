@@ -12,13 +12,13 @@ ghost use Rattle.acceptance.specs.Family.{changed_of};
 use common::{Common, MethodFamily, Settings};
 
 // What the family test says: stay, the gap in the coefficients, or move to the other family with this factor and order.
-#[derive(Drop)]
+#[derive(Clone, Copy)]
 pub struct Move {
     pub rh: f64,
     pub order: usize,
 }
 
-#[derive(Drop)]
+#[derive(Clone, Copy)]
 pub enum Change {
     Stay,
     Gap,
@@ -26,7 +26,7 @@ pub enum Change {
 }
 
 // An order with the factor that the step would have there.
-#[derive(Drop)]
+#[derive(Clone, Copy)]
 pub struct Proposal {
     pub order: usize,
     pub rh: f64,
@@ -112,7 +112,7 @@ fn to_bdf(s: Settings, c: Common, dsm: f64, work: &[f64]) -> Change
 }
 
 // The Adams method that the BDF one is compared with: its error, order, and factor before the stability limit.
-#[derive(Drop)]
+#[derive(Clone, Copy)]
 pub struct AdamsProposal {
     pub error: f64,
     pub order: usize,

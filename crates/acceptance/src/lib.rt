@@ -1,5 +1,7 @@
 // An accepted step, as in `stoda`: the columns corrected, the family test or the order choice, and the end of the step.
 // The family test and the change of family are in family.rt, the order choice in order.rt.
+#![tactic(auto)]
+
 ghost use Rattle.std.specs.Prelude.{◌≡◌, ◌+◌, ◌-◌, ◌^◌, ◌≤◌, ◌<◌, length};
 ghost use Rattle.common.specs.Layout.{matrix_at};
 ghost use Rattle.common.specs.Ranges.{StepInRange};
@@ -15,7 +17,7 @@ use common::{Common, Settings};
 use family::Change;
 
 // The branch that an accepted step took.
-#[derive(Drop)]
+#[derive(Clone, Copy)]
 pub enum Branch {
     Unchanged,
     SmallGain,
@@ -27,7 +29,7 @@ pub enum Branch {
     CoefficientGap,
 }
 
-#[derive(Drop)]
+#[derive(Clone, Copy)]
 pub struct Chosen {
     pub branch: Branch,
     pub common: Common,

@@ -53,7 +53,7 @@ fn lowered_size(s: Settings, c: Common, work: &[f64]) -> f64
 }
 
 // The factors at the orders nq + 1, nq and nq - 1.
-#[derive(Drop)]
+#[derive(Clone, Copy)]
 pub struct Factors {
     pub up: f64,
     pub same: f64,

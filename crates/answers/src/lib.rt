@@ -1,4 +1,6 @@
 // What a call answers, as one struct of numbers: each case of the machine's question has its number and its values.
+#![tactic(auto)]
+
 ghost use Rattle.std.specs.Prelude.{◌≡◌};
 ghost use Rattle.numbers.specs.Float.{zero_f};
 ghost use Rattle.answers.specs.Answers.{plain_reply, status_number, first_report_reply, report_reply, end_reply};
@@ -10,7 +12,7 @@ use refusals::Refusal;
 
 // Fields that a case has no use for are 0.
 #[repr(C)]
-#[derive(Drop)]
+#[derive(Clone, Copy)]
 pub struct Reply {
     pub number: usize, // what is wanted (100 to 103), how the run ended (110 to 115), or a refusal (1 to 14)
     pub index: usize, // of 9, 10 and 12

@@ -1,5 +1,7 @@
 // A step's attempts that are not accepted, as in `stoda`: no convergence, the error test, its failure, and what
 // follows the derivative of the third to ninth failure.
+#![tactic(auto)]
+
 ghost use Rattle.std.specs.Prelude.{◌≡◌, ◌^◌, ◌≤◌, ◌<◌, length};
 ghost use Rattle.common.specs.Layout.{matrix_at};
 ghost use Rattle.common.specs.State.{Moved};
@@ -11,7 +13,7 @@ ghost use Rattle.attempt.specs.Attempt.{missed_of, failed_of, restep_of};
 use common::{Common, Settings};
 
 // What follows a pass that did not lead to acceptance.
-#[derive(Drop)]
+#[derive(Clone, Copy)]
 pub enum Next {
     Pass,
     Restep,
@@ -19,7 +21,7 @@ pub enum Next {
     Poor,
 }
 
-#[derive(Drop)]
+#[derive(Clone, Copy)]
 pub struct Attempted {
     pub next: Next,
     pub common: Common,

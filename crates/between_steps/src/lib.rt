@@ -1,5 +1,7 @@
 // What the run does between two steps, shared by the machine and the step rules: what a host may say and how a run
 // may end, the way to a step's first prediction, the first step's size, a state that the host gives.
+#![tactic(auto)]
+
 ghost use Rattle.std.specs.Prelude.{◌≡◌, ◌≤◌, length};
 ghost use Rattle.vectors.specs.Weights.{ewset_like_of};
 ghost use Rattle.common.specs.Layout.{ewt_at, y_at, matrix_at};
@@ -12,7 +14,7 @@ ghost use Rattle.between_steps.specs.Start.{with_derivative, inverted, first_siz
 use common::{Common, MethodFamily, Settings};
 
 // How a run ends.
-#[derive(Drop)]
+#[derive(Clone, Copy)]
 pub enum Status {
     Success,
     Interrupted,
@@ -23,7 +25,7 @@ pub enum Status {
 }
 
 // What the host says to a report; the Rust's `XOut` is Continue.
-#[derive(Drop)]
+#[derive(Clone, Copy)]
 pub enum Answer {
     Continue,
     Interrupt,
@@ -31,7 +33,7 @@ pub enum Answer {
 }
 
 // The kind of a reply.
-#[derive(Drop)]
+#[derive(Clone, Copy)]
 pub enum Kind {
     Derivative,
     Jacobian,

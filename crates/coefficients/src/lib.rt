@@ -1,5 +1,7 @@
 // The coefficients of both families, as `cfode` computes them, and the stability limits SM1.
 // One table of 384 numbers: for each family 12 orders of 13 numbers (elco) and 12 of 3 (tesco). Unset ones are 0.
+#![tactic(auto)]
+
 ghost use Rattle.std.specs.Prelude.{◌≡◌, ◌≤◌, ◌<◌, get_or};
 ghost use Rattle.std.specs.Float.{nan};
 ghost use Rattle.coefficients.specs.Cfode.{cfode_of};

@@ -2,6 +2,8 @@
 // the start's, no step changes them), both passed by value, with the rules that touch the record alone: the limits in
 // force, first-call setup, reset. What names every field is made by tools/record.py, which has the recipe of a new one.
 // The comment behind a field is its line in docs/SESSION.md.
+#![tactic(auto)]
+
 ghost use Rattle.std.specs.Prelude.{◌≡◌, Bool, ◌+◌, ◌*◌, ◌≤◌, ◌<◌};
 ghost use Rattle.common.specs.Record.{is_bdf, with_meth};
 ghost use Rattle.common.specs.Limits.{max_states, mxordn_of, mxords_of, msbp_of, mxncf_of, maxord_of};
@@ -47,13 +49,13 @@ pub const SESSION_WORDS: usize = ATOL_AT + MAX_STATES;
 pub const SESSION_LENGTH: usize = 8 * SESSION_WORDS;
 // end of the words of a session
 
-#[derive(Drop)]
+#[derive(Clone, Copy)]
 pub enum MethodFamily {
     Adams,
     Bdf,
 }
 
-#[derive(Drop)]
+#[derive(Clone, Copy)]
 pub struct Settings {
     pub n: usize, // states, 1 to 64
     pub xend: f64, // end of the interval
@@ -70,7 +72,7 @@ pub struct Settings {
     pub natol: usize, // length of the absolute tolerance list, 1 or n
 }
 
-#[derive(Drop)]
+#[derive(Clone, Copy)]
 pub struct Common {
     pub hmin: f64, // smallest step, 0 if none is given
     pub hmxi: f64, // 1 / largest step, 0 if there is none

@@ -1,5 +1,7 @@
 // One corrector iteration of each family: what becomes of the correction and of y, and the size of the correction; and
 // the verdict on it: converged, a further derivative, a retry with a new Jacobian, no convergence.
+#![tactic(auto)]
+
 ghost use Rattle.std.specs.Prelude.{◌≡◌, ℕ, ◌≤◌, ◌<◌, length, get_or, replicate};
 ghost use Rattle.numbers.specs.Float.{zero_f};
 ghost use Rattle.common.specs.Layout.{matrix_at, work_length};
@@ -12,7 +14,7 @@ ghost use Rattle.corrector.specs.Verdict.{judged_converged, judged_tested, judge
 use common::{Common, Settings};
 
 // One iteration: whether the linear system was solved, and the size of the correction.
-#[derive(Drop)]
+#[derive(Clone, Copy)]
 pub struct Correction {
     pub solved: bool,
     pub del: f64,
@@ -135,7 +137,7 @@ pub fn correct(s: Settings, c: Common, work: &mut [f64], ipiv: &[usize]) -> Corr
 // ---- the verdict
 
 // How a corrector pass stands after an iteration.
-#[derive(Drop)]
+#[derive(Clone, Copy)]
 pub enum Pass {
     Converged,
     Retry,
@@ -143,7 +145,7 @@ pub enum Pass {
     Further,
 }
 
-#[derive(Drop)]
+#[derive(Clone, Copy)]
 pub struct Verdict {
     pub pass: Pass,
     pub common: Common,

@@ -1,6 +1,8 @@
 // Factoring and solving with a dense matrix of n columns, the entry in row i of column j at i + j·n.
 // The factoring exchanges whole rows, multipliers included; the solve mixes exchanges with elimination.
 // The solve works on one slice that has the right side at b and the matrix at a.
+#![tactic(auto)]
+
 ghost use Rattle.std.specs.Prelude.{◌≡◌, true, ℕ, ◌+◌, ◌*◌, ◌<◌, ◌≤◌, length, get_or};
 ghost use Rattle.dense.specs.Factor.{pivot_of, swap_at, swap_of, scale_of, column_of, eliminate_of, exchange_of};
 ghost use Rattle.dense.specs.Factor.{Factors, step_of, factor_of};
@@ -8,13 +10,13 @@ ghost use Rattle.dense.specs.Solve.{swap_entries_of, less_of, forward_all_of};
 ghost use Rattle.dense.specs.Solve.{Solution, backward_step_of, solve_of, outcome_of};
 
 // What factoring and solving answer: done, or stopped at a zero.
-#[derive(Drop)]
+#[derive(Clone, Copy)]
 pub enum Outcome {
     Done,
     Singular,
 }
 
-#[derive(Drop)]
+#[derive(Clone, Copy)]
 pub struct Pivot {
     pub row: usize,
     pub value: f64,

@@ -1,5 +1,7 @@
 // The history's columns: predict, retract, rescale, the correction added, and copies between parts of the work slice.
 // Column j is the n numbers at j·n. Snapshot and interpolation are in crate interpolation.
+#![tactic(auto)]
+
 ghost use Rattle.std.specs.Prelude.{◌≡◌, ◌+◌, ◌*◌, ◌≤◌, length, replicate};
 ghost use Rattle.common.specs.Layout.{matrix_at};
 ghost use Rattle.history.specs.Columns.{add_range, sub_range, predict_columns_of, retract_columns_of, times_of};

@@ -1,4 +1,6 @@
 // The snapshot of a step and its dense output: snapshot_step, and interpolate split into header, sizes and evaluation.
+#![tactic(auto)]
+
 ghost use Rattle.std.specs.Prelude.{◌≡◌, ◌+◌, ◌*◌, ◌≤◌, ◌<◌, length};
 ghost use Rattle.common.specs.Limits.{max_states};
 ghost use Rattle.common.specs.Layout.{ewt_at, header_length, question_length};
@@ -10,14 +12,14 @@ ghost use Rattle.interpolation.specs.Evaluate.{interpolate_sized_of, interpolate
 use common::{Common, Settings};
 
 // A whole number found in a float, or none.
-#[derive(Drop)]
+#[derive(Clone, Copy)]
 pub enum Count {
     Is(usize),
     NotWhole,
 }
 
 // The numbers of a snapshot that are read: states, order, time and step size.
-#[derive(Drop)]
+#[derive(Clone, Copy)]
 pub struct Sizes {
     pub n: usize,
     pub nq: usize,
@@ -26,7 +28,7 @@ pub struct Sizes {
 }
 
 // A snapshot's header: its sizes, or refused (15).
-#[derive(Drop)]
+#[derive(Clone, Copy)]
 pub enum Header {
     Read(Sizes),
     Refused,

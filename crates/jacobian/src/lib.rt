@@ -1,4 +1,6 @@
 // The Jacobian of the corrector, `prja` in its parts: the matrix by differences or from the host, its norm and factors.
+#![tactic(auto)]
+
 ghost use Rattle.std.specs.Prelude.{◌≡◌, ◌+◌, ◌*◌, ◌^◌, ◌≤◌, ◌<◌, length};
 ghost use Rattle.common.specs.Limits.{max_states};
 ghost use Rattle.common.specs.Layout.{matrix_at, work_length};
@@ -8,7 +10,7 @@ ghost use Rattle.jacobian.specs.Jacobian.{finish_jacobian_of};
 
 use common::{Common, Settings};
 
-#[derive(Drop)]
+#[derive(Clone, Copy)]
 pub struct Factoring {
     pub done: bool,
     pub common: Common,

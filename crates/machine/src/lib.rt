@@ -1,5 +1,7 @@
 // The run as a machine that asks: from a record, a phase and a reply to the next question.
 // `resume` hands each reply to the function of its phase.
+#![tactic(auto)]
+
 ghost use Rattle.std.specs.Prelude.{◌≡◌, ◌≤◌};
 ghost use Rattle.common.specs.Limits.{max_states};
 ghost use Rattle.common.specs.State.{given, state};

@@ -1,5 +1,7 @@
 // Sign, order and bit pattern of a 64-bit float, each for every float: NaN, infinities and both zeros included.
 // Names and behaviour are those of Rust's f64 methods.
+#![tactic(auto)]
+
 ghost use Rattle.std.specs.Prelude.{◌≡◌, Bool};
 ghost use Rattle.std.specs.Float.Ieee as Ieee;
 ghost use Rattle.std.specs.Float.{nan, binary64};

@@ -1,6 +1,8 @@
 // For comparisons with the reference alone, by C's rules: the functions that a host cannot reach otherwise.
 // Nothing is asked of the host: where a callee's requires is not met, a NaN or the number 2 is answered, and what was
 // lent stays as it was. The functions on the history and the record are in steps.rt.
+#![tactic(auto)]
+
 ghost use Rattle.std.specs.Prelude.{◌≡◌, true, ℕ, ◌≤◌, ◌<◌, length, get_or};
 ghost use Rattle.std.specs.Float.Ieee as Ieee;
 ghost use Rattle.std.specs.Float.{binary64};

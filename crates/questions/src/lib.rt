@@ -1,4 +1,6 @@
 // What a run asks, what it then waits for and keeps until the reply; and the way from one step to the next.
+#![tactic(auto)]
+
 ghost use Rattle.std.specs.Prelude.{List, ◌≡◌, ℕ, ◌^◌, ◌≤◌, ◌<◌, length};
 ghost use Rattle.common.specs.Layout.{matrix_at};
 ghost use Rattle.common.specs.State.{state};
@@ -10,7 +12,7 @@ use between_steps::Status;
 use common::{Common, Settings};
 
 // What the run waits for.
-#[derive(Drop)]
+#[derive(Clone, Copy)]
 pub enum Phase {
     FirstDerivative,
     FirstReport,
@@ -25,7 +27,7 @@ pub enum Phase {
     Finished,
 }
 
-#[derive(Drop)]
+#[derive(Clone, Copy)]
 pub struct Session {
     pub settings: Settings,
     pub common: Common,
@@ -33,13 +35,13 @@ pub struct Session {
 }
 
 // A question about the state at a time.
-#[derive(Drop)]
+#[derive(Clone, Copy)]
 pub struct At {
     pub time: f64,
 }
 
 // A report after a step: previous time, time, derivatives requested in the step, and the order of its snapshot.
-#[derive(Drop)]
+#[derive(Clone, Copy)]
 pub struct Step {
     pub previous: f64,
     pub time: f64,
@@ -47,7 +49,7 @@ pub struct Step {
     pub order: usize,
 }
 
-#[derive(Drop)]
+#[derive(Clone, Copy)]
 pub struct End {
     pub h: f64,
     pub status: Status,
@@ -60,7 +62,7 @@ pub struct End {
 }
 
 // What a call answers.
-#[derive(Drop)]
+#[derive(Clone, Copy)]
 pub enum Question {
     Derivative(At),
     Jacobian(At),
@@ -73,7 +75,7 @@ pub enum Question {
 }
 
 // The next question, the phase that waits for its reply, and the record then.
-#[derive(Drop)]
+#[derive(Clone, Copy)]
 pub struct Turn {
     pub question: Question,
     pub phase: Phase,

@@ -1,5 +1,7 @@
 // What a start is refused for, in one order, and the settings of an accepted one.
 // The order and the numbers are those of the scope's table: 1 to 8, then 9 and 10 index by index, then 11.
+#![tactic(auto)]
+
 ghost use Rattle.std.specs.Prelude.{◌≡◌, Bool, ℕ, ◌≤◌, ◌<◌, length};
 ghost use Rattle.common.specs.Limits.{max_states};
 ghost use Rattle.refusals.specs.Start.{is_list, length_refusal, size_refusal, large_refusal, limit_refusal};
@@ -12,7 +14,7 @@ use common::Settings;
 
 // What the host chooses, beside the problem. The names are those of the Rust's `LSODA`.
 #[repr(C)]
-#[derive(Drop)]
+#[derive(Clone, Copy)]
 pub struct Options {
     pub max_steps: usize, // largest number of accepted steps
     pub mxordn: usize, // largest Adams order; above 12 acts as 12
@@ -31,7 +33,7 @@ pub struct Options {
 }
 
 // The lengths of what a start is given: states, tolerance lists, lent slices.
-#[derive(Drop)]
+#[derive(Clone, Copy)]
 pub struct Lengths {
     pub n: usize,
     pub rtol: usize,
@@ -43,7 +45,7 @@ pub struct Lengths {
 }
 
 // A refusal: its number, 0 where there is none, with the index of 9, 10 and 12 and the value of 11.
-#[derive(Drop)]
+#[derive(Clone, Copy)]
 pub struct Refusal {
     pub number: usize,
     pub index: usize,

@@ -157,7 +157,7 @@ fn word(list: &[u64], i: usize) -> u64
     0
 }
 
-#[derive(Drop)]
+#[derive(Clone, Copy)]
 struct Call {
     kind: u64,
     p: usize,

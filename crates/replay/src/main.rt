@@ -1,5 +1,7 @@
 // Compares our numbers and leaves with a stored sample of the reference's, and writes how many were compared and how
 // many differ: of the leaves, how many answer or leave something else.
+#![tactic(auto)]
+
 ghost use Rattle.std.specs.Prelude.{◌≤◌, length};
 
 mod leaf;

@@ -1,5 +1,7 @@
 // Replays the stored runs of the reference through the calls: every answer of ours is compared with the stored one, and
 // every reply is the stored one. Writes how many answers were compared and how many differ, and then the scope's sums.
+#![tactic(auto)]
+
 ghost use Rattle.std.specs.Prelude.{◌+◌, ◌*◌, ◌≤◌, ◌<◌, false, ◌≡◌, length};
 ghost use Rattle.common.specs.Layout.{question_length};
 ghost use Rattle.common.specs.Limits.{max_states};
@@ -20,7 +22,7 @@ const WORK_LENGTH: usize = common::MAX_STATES * common::MAX_STATES
 const QUESTION_LENGTH: usize = common::QUESTION * common::MAX_STATES + common::HEADER;
 
 // Where the next word stands, whether the run under way goes on there, and what was found so far.
-#[derive(Drop)]
+#[derive(Clone, Copy)]
 struct Found {
     at: usize,
     on: bool,
@@ -30,7 +32,7 @@ struct Found {
 }
 
 // A run's head: where it stands, n, and the lengths of rtol and atol.
-#[derive(Drop)]
+#[derive(Clone, Copy)]
 struct Head {
     at: usize,
     n: usize,

@@ -3,7 +3,7 @@
 use raimsklo::Reply;
 use refusals::Options;
 
-#[derive(Drop)]
+#[derive(Clone, Copy)]
 struct Sum {
     xend: f64,
     y0: f64,
@@ -14,7 +14,7 @@ struct Sum {
 }
 
 // A run's end, and the pose of its last report.
-#[derive(Drop)]
+#[derive(Clone, Copy)]
 struct Outcome {
     end: Reply,
     pose: f64,

@@ -1,4 +1,6 @@
 // A reply: what it is refused for, and what an accepted one leaves. Nothing is written before the last refusal is past.
+#![tactic(auto)]
+
 ghost use Rattle.std.specs.Prelude.{◌≡◌, Bool, true, ℕ, ◌+◌, ◌*◌, ◌≤◌, ◌<◌, length};
 ghost use Rattle.common.specs.Layout.{matrix_at, question_length};
 ghost use Rattle.common.specs.Limits.{max_states};

@@ -1,4 +1,6 @@
 // The start and the reports: the first step, and what the host's answers and a state that it has modified lead to.
+#![tactic(auto)]
+
 ghost use Rattle.std.specs.Prelude.{List, ◌≡◌, ℕ, ◌-◌, ◌≤◌, length};
 ghost use Rattle.vectors.specs.Tolerance.{List1OrN};
 ghost use Rattle.common.specs.Layout.{matrix_at};

@@ -2,6 +2,8 @@
 // differences, once with the rig's own. The state of a run is 5312 floats of this program, lent to each call.
 // Prints the pose at each quarter of a second, what the run cost beside what was seen of it, and the last pose bit by
 // bit.
+#![tactic(auto)]
+
 ghost use Rattle.std.specs.Prelude.{◌≡◌, ◌*◌, ◌≤◌, length};
 ghost use Rattle.common.specs.Layout.{question_length};
 ghost use Rattle.common.specs.Limits.{max_states};
@@ -26,7 +28,7 @@ const FAMILY_AT: usize = 8 * 12;
 // end of the family's place
 
 // The last answer, at the end the one that ended the run, and what was seen up to it.
-#[derive(Drop)]
+#[derive(Clone, Copy)]
 struct Outcome {
     end: Reply,
     watch: Watch,

@@ -1,10 +1,12 @@
 // The root of order k: bits 62 down to 0 of its pattern, each kept if the k-fold product is at most x.
 // So it is the largest float whose product is at most x. Each of the 63 candidates costs k - 1 multiplications.
+#![tactic(auto)]
+
 ghost use Rattle.std.specs.Prelude.{◌≡◌, ◌+◌, ◌≤◌, T};
 ghost use Rattle.std.specs.Float.Ieee.Positive.{positive};
 ghost use Rattle.root.specs.Root.{power_of, keep_of, root_bits, root_of};
 
-#[derive(Drop)]
+#[derive(Clone, Copy)]
 pub struct Answer {
     pub value: f64,
 }

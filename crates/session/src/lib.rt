@@ -1,6 +1,8 @@
 // A session's bytes: its record and its tolerances written and read, and the ranges of 13. docs/SESSION.md has the
 // layout; fields.rt, which names every field, is made by tools/record.py.
 // What a reply needs of a stored session stands here in the order in which it is tested.
+#![tactic(auto)]
+
 ghost use Rattle.std.specs.Prelude.{◌≡◌, Bool, ◌≤◌, length};
 ghost use Rattle.common.specs.Limits.{max_states};
 ghost use Rattle.common.specs.SessionWords.{session_length};

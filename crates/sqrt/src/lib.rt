@@ -1,16 +1,18 @@
 // The square root, correctly rounded, by integer digits.
+#![tactic(auto)]
+
 ghost use Rattle.std.specs.Prelude.{◌≡◌, ◌+◌, ◌*◌, ◌^◌, ◌≤◌, ◌<◌};
 ghost use Rattle.sqrt.specs.Sqrt.{normal_of, even_of, digit_of, digits_of, sqrt_bits, sqrt_of};
 
 // A number above 0 as digits · 2^(exponent - 1127), the leading one of its 53 digits in place 52.
-#[derive(Drop)]
+#[derive(Clone, Copy)]
 pub struct Normal {
     pub digits: u64,
     pub exponent: u64,
 }
 
 // What is left of the number's digits, the remainder so far and the root so far.
-#[derive(Drop)]
+#[derive(Clone, Copy)]
 pub struct Digits {
     pub rest: u64,
     pub remainder: u64,

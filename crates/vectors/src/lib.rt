@@ -1,4 +1,6 @@
 // Norms and weights: vmnorm, fnorm_dense, ewset, invert_weights, initial_step_size.
+#![tactic(auto)]
+
 ghost use Rattle.std.specs.Prelude.{◌≡◌, false, ◌+◌, ◌-◌, ◌*◌, ◌≤◌, ◌<◌, length};
 ghost use Rattle.std.specs.Float.Ieee as Ieee;
 ghost use Rattle.numbers.specs.Order.{max_of};
@@ -9,13 +11,13 @@ ghost use Rattle.vectors.specs.Weights.{ewset_of, ewset_like_of, invert_of, weig
 ghost use Rattle.vectors.specs.FirstStep.{largest_rtol_of, relative_at, relative_of, tolerance_used_of, initial_step_of};
 
 // What a norm answers.
-#[derive(Drop)]
+#[derive(Clone, Copy)]
 pub struct Norm {
     pub value: f64,
 }
 
 // What the inversion of the weights answers: all are inverted, or the weight at this index is at most 0.
-#[derive(Drop)]
+#[derive(Clone, Copy)]
 pub enum Weights {
     Inverted,
     Refused(usize),
@@ -53,7 +55,7 @@ fn entry(v: &[f64], w: &[f64], i: usize) -> f64
 }
 
 // Four maxima or sums at once, each of its own entries: one chain through all entries would wait for each in turn.
-#[derive(Drop)]
+#[derive(Clone, Copy)]
 pub struct Four {
     pub a: f64,
     pub b: f64,

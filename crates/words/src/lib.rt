@@ -1,5 +1,7 @@
 // Words of eight bytes, little-endian, in a slice of bytes: one by one at any byte, and rows of counts and of floats.
 // Word k of a slice stands at byte 8·k; a row elsewhere is a row of a part of the slice.
+#![tactic(auto)]
+
 ghost use Rattle.std.specs.Prelude.{◌≡◌, ◌+◌, ◌*◌, ◌%◌, ◌≤◌, ◌<◌, length};
 ghost use Rattle.words.specs.Words.{word_at, put_word, word, counts_over, put_counts_of};
 ghost use Rattle.words.specs.Words.{float, floats_over, slot_of, put_floats_of};

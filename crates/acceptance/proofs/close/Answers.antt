@@ -1,0 +1,28 @@
+-- `close` meets its contract: acor scaled, then the weights of the new state written and inverted in their part.
+-- Assumes nothing.
+use Prim.Native.Nat.{◌-◌}
+use mathlib.Core.Path.{◌≡◌}
+use native.Mathlib.Omega.{arith}
+use borrow.Author.Rules.{rules}
+use Rattle.common.specs.Layout.{ewt_at, savf_at, acor_at, y_at}
+use Rattle.history.specs.Columns.{scale_part_of}
+use Rattle.acceptance.specs.Accept.{closed_of}
+use Rattle.acceptance.proofs.close.Goals as goal
+
+pub ewset-requires : goal.ewset-requires
+ewset-requires c =
+    let a = c in
+    (a.requires.list1or_n.0, (a.requires.list1or_n.1.0, (omega arith, omega arith)))
+
+pub returns : goal.returns
+unfolding closed_of scale_part_of
+returns c =
+    let i = c in
+    let e = i in
+    let a = e in
+    let t = a in
+    let n = t.args.s.n in
+    let p : savf_at n - ewt_at n ≡ n = omega arith in
+    let q : y_at n - acor_at n ≡ n = omega arith in
+    let inverted = i.invert_weights.ensures in
+    rw (inverted.0, inverted.1, p, e.ewset.ensures, a.scale.ensures, q, t.tesco-r.ensures)

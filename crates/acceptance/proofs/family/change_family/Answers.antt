@@ -1,0 +1,21 @@
+-- `change_family` meets its contract: field by field, then by that of `stoda_adjust_step_size`.
+-- Assumes nothing.
+use mathlib.Core.Path.{refl}
+use borrow.Author.Rules.{rules}
+use Rattle.acceptance.specs.Family.{changed_of}
+use Rattle.history.proofs.Laws.{lower-range}
+use Rattle.acceptance.proofs.family.change_family.Goals as goal
+
+pub stoda_adjust_step_size-requires : goal.stoda_adjust_step_size-requires
+stoda_adjust_step_size-requires c =
+    let a = c in
+    let t = a.requires.le_order in
+    rw c.with_family-d.ensures
+    (lower-range _ a.args.to.order refl refl refl refl t.0 t.1 a.requires.step_in_range, t.2)
+
+pub returns : goal.returns
+unfolding changed_of
+returns c =
+    let scaled = c.stoda_adjust_step_size.ensures in
+    let d = c in
+    rw (scaled.0, scaled.1, d.with_family-d.ensures, d.other.ensures)

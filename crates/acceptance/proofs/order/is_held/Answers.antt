@@ -1,0 +1,13 @@
+-- `is_held` meets its contract: the BDF family holds nothing.
+-- Assumes nothing.
+use mathlib.Core.Path.{sym, ◌∙◌}
+use borrow.Author.Rules.{rules}
+use Rattle.acceptance.proofs.order.is_held.Goals as goal
+
+pub returns-then-is_bdf : goal.returns-then-is_bdf
+returns-then-is_bdf c = rw (sym c.is_bdf.ensures ∙ c.if-is_bdf.true)
+
+pub returns : goal.returns
+returns c =
+    let t = c in
+    rw (c.sm1.ensures, c.pdh.ensures, sym t.is_bdf.ensures ∙ t.if-is_bdf.false)

@@ -1,0 +1,7 @@
+-- `end` meets its contract. Assumes nothing.
+use Prim.Native.Nat.{◌-◌}
+use borrow.Author.Rules.{rules}
+use Rattle.answers.proofs.end.Goals as goal
+
+pub returns : goal.returns
+returns c = rw c.status.ensures

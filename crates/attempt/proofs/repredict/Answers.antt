@@ -1,0 +1,19 @@
+-- `repredict` meets its contract: the rescale keeps the ranges, and the two callees compose. Assumes nothing.
+use borrow.Author.Rules.{rules}
+use Rattle.history.proofs.Laws.{in-range-adjust}
+use Rattle.attempt.specs.Attempt.{repredict_of}
+use Rattle.attempt.proofs.repredict.Goals as goal
+
+pub stoda_get_predicted_values-requires : goal.stoda_get_predicted_values-requires
+stoda_get_predicted_values-requires c =
+    let x = c in
+    let a = x in
+    let e = x.stoda_adjust_step_size-d.ensures in
+    (rw e.0 (in-range-adjust a.args.s a.args.c a.args.rh a.requires.step_in_range), search rules)
+
+pub returns : goal.returns
+unfolding repredict_of
+returns c =
+    let p = c.stoda_get_predicted_values.ensures in
+    let e = c.stoda_adjust_step_size-d.ensures in
+    rw (← e.0, ← e.1, p.0, p.1)

@@ -1,0 +1,25 @@
+-- `first_prediction` meets its contract: prepared, predicted, the prediction's norm.
+-- Assumes nothing.
+use mathlib.Core.Path.{refl}
+use native.Mathlib.Omega.{arith}
+use borrow.Author.Rules.{rules}
+use Rattle.history.proofs.Laws.{same-range}
+use Rattle.between_steps.specs.Begin.{first_prediction_of, predicted_at}
+use Rattle.between_steps.proofs.Inside.{prepared-range}
+use Rattle.between_steps.proofs.first_prediction.Goals as goal
+
+pub stoda_get_predicted_values-e-requires : goal.stoda_get_predicted_values-e-requires
+stoda_get_predicted_values-e-requires c =
+    let r = c in
+    let a = r in
+    let x = a.args in
+    let q = rw (← r.prepare-d.ensures) at (prepared-range a.requires.inside x.work.now) in
+    (same-range _ refl refl refl refl q, omega arith)
+
+pub returns : goal.returns
+unfolding first_prediction_of predicted_at
+returns c =
+    let e = c in
+    let r = e in
+    let d = e.stoda_get_predicted_values-e.ensures in
+    rw (← r.prepare-d.ensures, ← d.1, ← d.0, ← c.norm_at.ensures)

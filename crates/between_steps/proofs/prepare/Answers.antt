@@ -1,0 +1,33 @@
+-- `prepare` meets its contract: each way returns what `prepared_of` picks under the tests that led there.
+-- Assumes nothing.
+use borrow.Author.Rules.{rules}
+use Rattle.between_steps.specs.Begin.{prepared_of, prepared_at}
+use Rattle.between_steps.proofs.prepare.Goals as goal
+
+pub cut-requires : goal.cut-requires
+cut-requires c = c.requires
+
+pub returns-then-abs : goal.returns-then-abs
+unfolding prepared_of prepared_at
+returns-then-abs c =
+    let i = c in
+    rw (← i.abs-2.ensures, ← i.abs.ensures, i.if-abs.true)
+    c.cut.ensures
+
+pub returns-then-due : goal.returns-then-due
+unfolding prepared_of prepared_at
+returns-then-due c =
+    let i = c in
+    rw (
+      c.setup.ensures,
+      ← i.abs-2.ensures,
+      ← i.abs.ensures,
+      i.if-abs.false,
+      c.if-due.true,
+    )
+
+pub returns : goal.returns
+unfolding prepared_of prepared_at
+returns c =
+    let i = c in
+    rw (← i.abs-2.ensures, ← i.abs.ensures, i.if-abs.false, c.if-due.false)

@@ -1,0 +1,20 @@
+-- `elco` meets its contract: table 0 gives 0, and in table t + 1 the place that `coefficient` reads is `elco_of`'s.
+-- Assumes nothing.
+use Prim.Native.Nat.{suc, ◌-◌}
+use mathlib.Core.Path.{◌≡◌}
+use native.Mathlib.Omega.{arith}
+use borrow.Author.Rules.{rules}
+use Rattle.coefficients.specs.Table.{elco_of}
+use Rattle.coefficients.proofs.elco.Goals as goal
+
+pub returns-then-table-eq0 : goal.returns-then-table-eq0
+unfolding elco_of
+returns-then-table-eq0 c =
+    let q : c.args.table ≡ 0 = omega arith in
+    rw q
+
+pub returns : goal.returns
+unfolding elco_of
+returns c =
+    let q : c.args.table ≡ suc (c.args.table - 1) = omega arith in
+    rw q c.coefficient.ensures

@@ -1,0 +1,16 @@
+-- `el` meets its contract: the order in force is from 1 to 12, since nqnyh is from n to 12·n.
+-- Assumes nothing.
+use borrow.Author.Rules.{rules}
+use Rattle.common.proofs.Laws.{order_from, order-to}
+use Rattle.common.proofs.el.Goals as goal
+
+pub elco-requires : goal.elco-requires
+elco-requires c =
+    let a = c in
+    let n = a.args.s.n in
+    let k = a.args.c.nqnyh in
+    rw c.order_in_force.ensures
+    (a.requires.1, order_from n k a.requires.0 a.requires.2, order-to n k a.requires.0 a.requires.3, a.requires.4)
+
+pub returns : goal.returns
+returns c = rw (← c.order_in_force.ensures) c.elco.ensures

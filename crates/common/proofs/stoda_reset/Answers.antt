@@ -1,0 +1,16 @@
+-- `stoda_reset` meets its contract: field by field.
+-- Assumes nothing.
+use native.Mathlib.Omega.{arith}
+use borrow.Author.Rules.{rules}
+use Rattle.common.proofs.Laws.{small_product}
+use Rattle.common.specs.Rules.{reset_of}
+use Rattle.common.proofs.stoda_reset.Goals as goal
+
+pub overflow_mul-d : goal.overflow_mul-d
+overflow_mul-d c =
+    let a = c in
+    omega (arith, small_product a.args.c.nq a.args.s.n a.requires.3 a.requires.0)
+
+pub returns : goal.returns
+unfolding reset_of
+returns c = rw c.elco-el0.ensures

@@ -1,0 +1,17 @@
+-- `correct` meets its contract: the family decides between its two callees. Assumes nothing.
+use mathlib.Core.Path.{sym, ◌∙◌}
+use borrow.Author.Rules.{rules}
+use Rattle.corrector.proofs.Shared.{in-first, in-second}
+use Rattle.corrector.proofs.correct.Goals as goal
+
+pub returns-then-is_bdf : goal.returns-then-is_bdf
+returns-then-is_bdf c =
+    let i = c in
+    let family = sym i.is_bdf.ensures ∙ i.if-is_bdf.true in
+    c.correct_bdf.ensures ∙ sym (in-second _ _ _ _ family)
+
+pub returns : goal.returns
+returns c =
+    let i = c in
+    let family = sym i.is_bdf.ensures ∙ i.if-is_bdf.false in
+    c.correct_adams.ensures ∙ sym (in-first _ _ _ _ family)

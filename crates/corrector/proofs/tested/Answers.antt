@@ -1,0 +1,16 @@
+-- `tested` meets its contract: the test decides between its two callees. Assumes nothing.
+use borrow.Author.Rules.{rules}
+use Rattle.corrector.specs.Verdict.{judged_tested}
+use Rattle.corrector.proofs.tested.Goals as goal
+
+pub returns-then-dcon : goal.returns-then-dcon
+unfolding judged_tested
+returns-then-dcon c =
+    let t = c in
+    rw (← t.dcon.ensures, t.if-dcon.true, ← c.estimated.ensures) c.converged.ensures
+
+pub returns : goal.returns
+unfolding judged_tested
+returns c =
+    let t = c in
+    rw (← t.dcon.ensures, t.if-dcon.false) c.further.ensures

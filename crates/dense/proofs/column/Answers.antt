@@ -1,0 +1,20 @@
+use Prim.Native.Nat.{◌-◌}
+use mathlib.Core.Path.{◌≡◌, refl}
+use native.Mathlib.Omega.{arith}
+use lib.ListN.{length, length-set}
+use Rattle.loops.specs.For.{for}
+use Rattle.loops.proofs.For.{again, ended}
+use Rattle.dense.specs.Factor.{column_at, column_of}
+use Rattle.dense.proofs.column.Goals as goal
+
+pub loop-i-init : goal.loop-i-init
+unfolding column_of
+loop-i-init c = (refl, refl)
+
+pub loop-i-preserved : goal.loop-i-preserved
+loop-i-preserved c =
+    let l = c in
+    (simp length-set (omega arith), again _ _ _ _ _ (omega arith) l.loop-i.invariant.1)
+
+pub returns : goal.returns
+returns c = ended _ _ _ _ _ (omega arith) c.loop-i.invariant.1

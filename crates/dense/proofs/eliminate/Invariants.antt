@@ -1,0 +1,13 @@
+-- `eliminate` meets its contract. The invariant: the columns that are left give the whole elimination.
+-- Assumes nothing.
+use Prim.Native.Nat.{◌-◌}
+use mathlib.Core.Path.{◌≡◌, refl, ◌∙◌}
+use native.Mathlib.Omega.{arith}
+use lib.ListN.{length}
+use Rattle.loops.specs.For.{for}
+use Rattle.loops.proofs.For.{again, ended, within}
+use Rattle.dense.specs.Factor.{column_of, eliminate_of}
+use Rattle.dense.proofs.eliminate.Given as goal
+
+abbrev pub invariant-loop-j : goal.invariant-loop-j
+invariant-loop-j l = (length l.a ≡ length l.initial.a) × (for l.j l.n (column_of l.n l.k) l.a ≡ eliminate_of l.n l.k l.initial.a)

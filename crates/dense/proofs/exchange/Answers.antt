@@ -1,0 +1,10 @@
+-- `exchange` meets its contract: its test is that of `exchange_of`. Assumes nothing.
+use borrow.Author.Rules.{rules}
+use borrow.Author.Tests.{ne_eqb, eq-eqb}
+use Rattle.dense.proofs.exchange.Goals as goal
+
+pub returns-then-p-k : goal.returns-then-p-k
+returns-then-p-k c = rw (ne_eqb _ _ c.if-p-k.true) c.swap_rows.ensures
+
+pub returns-else-p-k : goal.returns-else-p-k
+returns-else-p-k c = rw (eq-eqb _ _ c.if-p-k.false)

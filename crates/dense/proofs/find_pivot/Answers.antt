@@ -1,0 +1,34 @@
+use Prim.Native.Nat.{◌-◌, ◌<◌}
+use mathlib.Core.Path.{◌≡◌}
+use mathlib.Core.Logic.{⊎_elim}
+use native.Mathlib.Omega.{arith}
+use borrow.Author.Rules.{rules}
+use Rattle.loops.specs.For.{for}
+use Rattle.loops.proofs.For.{onward, ended}
+use Rattle.dense.specs.Factor.{pick_row, pivot_of}
+use Rattle.dense.proofs.find_pivot.Goals as goal
+
+pub loop-i-init : goal.loop-i-init
+unfolding pivot_of
+loop-i-init c = (omega arith, rw c.abs-value.ensures)
+
+pub abs-x-requires : goal.abs-x-requires
+abs-x-requires c = tt
+
+pub loop-i-preserved : goal.loop-i-preserved
+loop-i-preserved c =
+    let l = c in
+    let x = c.abs-x.ensures in
+    ⊎_elim
+    (λ w. (
+      omega (arith, w.1),
+      onward _ _ _ _ _ _ (omega arith) (rw (w.1, w.2, ← x, w.0.taken)) l.loop-i.invariant.1,
+    ))
+    (λ w. (
+      omega (arith, w.1),
+      onward _ _ _ _ _ _ (omega arith) (rw (w.1, w.2, ← x, w.0.left)) l.loop-i.invariant.1,
+    ))
+    c.if-x-value.branch
+
+pub returns : goal.returns
+returns c = (ended _ _ _ _ _ (omega arith) c.loop-i.invariant.1, omega arith)

@@ -1,0 +1,30 @@
+-- `step` meets its contract: the calls of each way leave what `step_of` says under the test on the pivot.
+-- Assumes nothing.
+use native.Mathlib.Omega.{arith}
+use borrow.Author.Rules.{rules}
+use Rattle.loops.proofs.For.{within}
+use Rattle.dense.specs.Factor.{step_of}
+use Rattle.dense.proofs.step.Goals as goal
+
+pub find_pivot-p-requires : goal.find_pivot-p-requires
+find_pivot-p-requires c =
+    let a = c.args in
+    omega (arith, within a.n a.n a.k (omega arith))
+
+pub returns-then-value : goal.returns-then-value
+unfolding step_of
+returns-then-value c = rw (← c.find_pivot-p.ensures.0, c.if-value.true)
+
+pub scale-requires : goal.scale-requires
+scale-requires c =
+    let a = c.args in
+    omega (arith, within a.n a.n a.k (omega arith))
+
+pub returns : goal.returns
+unfolding step_of
+returns c =
+    let e = c in
+    let eliminated = c.eliminate.ensures in
+    let s = c in
+    let exchanged = s.exchange.ensures in
+    rw (eliminated, s.scale.ensures, exchanged, ← e.find_pivot-p.ensures.0, e.if-value.false)

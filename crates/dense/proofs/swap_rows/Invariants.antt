@@ -1,0 +1,12 @@
+-- `swap_rows` meets its contract. The invariant: the columns that are left give the whole exchange. Assumes nothing.
+use Prim.Native.Nat.{◌-◌}
+use mathlib.Core.Path.{◌≡◌, refl, ◌∙◌}
+use native.Mathlib.Omega.{arith}
+use lib.ListN.{length}
+use Rattle.loops.specs.For.{for}
+use Rattle.loops.proofs.For.{again, ended, within}
+use Rattle.dense.specs.Factor.{swap_at, swap_of}
+use Rattle.dense.proofs.swap_rows.Given as goal
+
+abbrev pub invariant-loop-j : goal.invariant-loop-j
+invariant-loop-j l = (length l.a ≡ length l.initial.a) × (for l.j l.n (swap_at l.n l.k l.p) l.a ≡ swap_of l.n l.k l.p l.initial.a)

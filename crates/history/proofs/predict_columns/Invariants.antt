@@ -1,0 +1,14 @@
+-- `predict_columns` meets its contract. The invariant: the passes that are left give the whole.
+-- Pass k begins k + 1 columns before nqnyh, and there are nq of them. Assumes nothing.
+use Prim.Native.Nat.{◌-◌}
+use mathlib.Core.Path.{◌≡◌, refl, ◌∙◌}
+use native.Mathlib.Omega.{arith}
+use lib.ListN.{length}
+use Rattle.loops.specs.For.{for}
+use Rattle.loops.proofs.For.{again, ended, within}
+use Rattle.history.specs.Columns.{predict_pass, predict_columns_of}
+use Rattle.history.proofs.predict_columns.Given as goal
+
+abbrev pub invariant-loop-k : goal.invariant-loop-k
+invariant-loop-k l =
+    (length l.yh ≡ length l.initial.yh) × (for l.k l.nq (predict_pass l.n l.nqnyh) l.yh ≡ predict_columns_of l.n l.nq l.nqnyh l.initial.yh)

@@ -1,0 +1,18 @@
+-- `rescale_columns` meets its contract. The invariant: from the power so far the rest gives the whole.
+-- Assumes nothing.
+use Prim.Native.Nat.{◌+◌, ◌-◌, ◌*◌}
+use mathlib.Core.Path.{◌≡◌, refl, ap, ◌∙◌}
+use native.Mathlib.Omega.{arith}
+use lib.ListN.{length}
+use borrow.Author.Rules.{rules}
+use Rattle.loops.specs.For.{for}
+use Rattle.loops.proofs.For.{again, ended, within}
+use Rattle.numbers.specs.Float.{◌⊗◌, one_f}
+use Rattle.history.specs.Columns.{scale_part_of, Rescaled, rescale_at, rescale_columns_of}
+use Rattle.history.proofs.Laws.{length-scale-part}
+use Rattle.history.proofs.rescale_columns.Given as goal
+
+abbrev pub invariant-loop-j : goal.invariant-loop-j
+invariant-loop-j l =
+    let begun : Rescaled = record { l.r = one_f; l.yh = l.initial.yh } in
+    (length l.yh ≡ length l.initial.yh) × (for l.j l.l (rescale_at l.n l.rh) (record { l.r = l.r; l.yh = l.yh }) ≡ for 1 l.l (rescale_at l.n l.rh) begun)

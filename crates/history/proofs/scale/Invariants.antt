@@ -1,0 +1,13 @@
+-- `scale` meets its contract. The invariant: the numbers that are left give the whole.
+-- Assumes nothing.
+use Prim.Native.Nat.{◌-◌}
+use mathlib.Core.Path.{◌≡◌, refl}
+use native.Mathlib.Omega.{arith}
+use lib.ListN.{length, length-set}
+use Rattle.loops.specs.For.{for}
+use Rattle.loops.proofs.For.{again, ended}
+use Rattle.history.specs.Columns.{times_at, times_of}
+use Rattle.history.proofs.scale.Given as goal
+
+abbrev pub invariant-loop-i : goal.invariant-loop-i
+invariant-loop-i l = (length l.v ≡ length l.initial.v) × (for l.i (length l.initial.v) (times_at l.r) l.v ≡ times_of l.r l.initial.v)

@@ -1,0 +1,13 @@
+-- `stoda_adjust_step_size` meets its contract: field by field, with the factor that `limited` gives.
+-- Assumes nothing.
+use mathlib.Core.Path.{◌∙◌}
+use borrow.Author.Rules.{rules}
+use Rattle.history.specs.Steps.{adjust_of}
+use Rattle.history.proofs.stoda_adjust_step_size.Goals as goal
+
+pub returns : goal.returns
+unfolding adjust_of
+returns c =
+    let scaled = c in
+    let r = scaled.limited-r.ensures in
+    (rw (← r), scaled.rescale_columns.ensures ∙ rw r)

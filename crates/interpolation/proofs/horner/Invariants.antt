@@ -1,0 +1,14 @@
+-- `horner` meets its contract. The invariant: the numbers that are left give the whole column. Assumes nothing.
+use Prim.Native.Nat.{◌-◌}
+use mathlib.Core.Path.{◌≡◌, refl}
+use native.Mathlib.Omega.{arith}
+use lib.ListN.{length, length-set}
+use Rattle.loops.specs.For.{for}
+use Rattle.loops.proofs.For.{again, ended}
+use Rattle.interpolation.specs.Evaluate.{horner_at, horner_of}
+use Rattle.interpolation.proofs.horner.Given as goal
+
+abbrev pub invariant-loop-i : goal.invariant-loop-i
+invariant-loop-i l =
+    (l.i-end ≡ length l.initial.yi) × (length l.yi ≡ length l.initial.yi)
+    × (for l.i (length l.initial.yi) (horner_at l.column l.s) l.yi ≡ horner_of l.column l.s l.initial.yi)

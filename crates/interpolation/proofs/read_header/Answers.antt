@@ -1,0 +1,37 @@
+-- `read_header` meets its contract: each arm answers what `read_header_of` gives for the counts found. Assumes nothing.
+use native.Mathlib.Omega.{arith}
+use lib.ListN.{length}
+use borrow.Author.Rules.{rules}
+use borrow.Author.Tests.{lt-ltb, le-ltb}
+use Rattle.interpolation.specs.Header.{read_header_of}
+use Rattle.interpolation.proofs.read_header.Goals as goal
+
+pub returns-then-cont-lt6 : goal.returns-then-cont-lt6
+unfolding read_header_of
+returns-then-cont-lt6 c = rw (lt-ltb (length c.args.cont.now) 6 (omega arith))
+
+pub returns-in-NotWhole : goal.returns-in-NotWhole
+unfolding read_header_of
+returns-in-NotWhole c =
+    let cont = c.args.cont.now in
+    let long = le-ltb (length cont) 6 (omega arith) in
+    rw (long, ← c.whole_count.ensures, c.enum_told-1.given.1)
+
+pub returns-in-NotWhole-whole_count : goal.returns-in-NotWhole-whole_count
+unfolding read_header_of
+returns-in-NotWhole-whole_count c =
+    let d = c in
+    let cont = d.args.cont.now in
+    let long = le-ltb (length cont) 6 (omega arith) in
+    let order = c.whole_count-in-Is.ensures in
+    rw (long, ← d.whole_count.ensures, d.n-1.given.1, ← order, c.enum_told-in-NotWhole-whole_count-1.given.1)
+
+pub returns-in-Is-whole_count : goal.returns-in-Is-whole_count
+unfolding read_header_of
+returns-in-Is-whole_count c =
+    let e = c in
+    let d = e in
+    let cont = d.args.cont.now in
+    let long = le-ltb (length cont) 6 (omega arith) in
+    let order = e.whole_count-in-Is.ensures in
+    rw (long, ← d.whole_count.ensures, d.n-1.given.1, ← order, e.nq-1.given.1)

@@ -1,0 +1,34 @@
+use Prim.Native.Nat.{◌+◌, ◌-◌, ◌≤◌}
+use mathlib.Core.Path.{◌≡◌, refl}
+use native.Mathlib.Nat.{mul-le-mul, mul-le-mul_right}
+use native.Mathlib.Omega.{arith}
+use lib.ListN.{length, length-set}
+use borrow.Author.Rules.{rules}
+use Rattle.loops.specs.For.{for}
+use Rattle.loops.proofs.For.{again, ended}
+use Rattle.interpolation.specs.Snapshot.{snapshot_at, snapshot_of}
+use Rattle.interpolation.proofs.snapshot_step.Goals as goal
+
+pub overflow_mul-i-end : goal.overflow_mul-i-end
+overflow_mul-i-end c =
+    let a = c in
+    let k : a.args.c.nq + 1 ≤ 13 = omega (arith, a.requires.2) in
+    omega (arith, mul-le-mul k a.requires.1)
+
+pub loop-i-init : goal.loop-i-init
+loop-i-init c =
+    let a = c in
+    let k : a.args.c.nq + 1 ≤ 13 = omega (arith, a.requires.2) in
+    let q = mul-le-mul_right a.args.s.n k in
+    (omega (arith, q, a.requires.3), omega (arith, q, a.requires.4), refl, refl)
+
+pub loop-i-preserved : goal.loop-i-preserved
+loop-i-preserved c =
+    let l = c in
+    (omega arith, omega arith, simp length-set (omega arith), again _ _ _ _ _ (omega arith) l.loop-i.invariant.3)
+
+pub returns : goal.returns
+unfolding snapshot_of
+returns c =
+    let l = c in
+    rw (← l.put_header.ensures) (ended _ _ _ _ _ (omega arith) l.loop-i.invariant.3)

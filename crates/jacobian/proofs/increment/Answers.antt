@@ -1,0 +1,10 @@
+-- `increment` meets its contract: the sum with what its callees give. Assumes nothing.
+use borrow.Author.Rules.{rules}
+use Rattle.jacobian.specs.Jacobian.{increment_of}
+use Rattle.jacobian.proofs.increment.Goals as goal
+
+pub returns : goal.returns
+unfolding increment_of
+returns c =
+    let a = c in
+    rw (← a.r0-r.ensures, ← a.abs.ensures) c.max.ensures

@@ -1,0 +1,16 @@
+-- `r0` meets its contract: on each way the test picks. Assumes nothing.
+use borrow.Author.Rules.{rules}
+use Rattle.jacobian.specs.Jacobian.{r0_of}
+use Rattle.jacobian.proofs.r0.Goals as goal
+
+pub returns-then-r : goal.returns-then-r
+unfolding r0_of
+returns-then-r c =
+    let x = c in
+    rw (← x.norm_at-fac.ensures, ← x.abs.ensures, c.if-r.true)
+
+pub returns : goal.returns
+unfolding r0_of
+returns c =
+    let x = c in
+    rw (← x.norm_at-fac.ensures, ← x.abs.ensures, c.if-r.false)

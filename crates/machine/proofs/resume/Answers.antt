@@ -1,0 +1,281 @@
+-- `resume` meets its contract: a reply that was not asked for changes nothing, and each phase has its own way.
+-- Assumes nothing.
+use mathlib.Core.Path.{sym, ap, ◌∙◌}
+use native.Mathlib.Omega.{arith}
+use borrow.Author.Rules.{rules}
+use borrow.Author.Tests.{not-true, not-false}
+use Rattle.common.specs.State.{given, state}
+use Rattle.between_steps.specs.declared.Kind.{Kind}
+use Rattle.between_steps.proofs.Inside.{inside-ranges}
+use Rattle.questions.specs.declared.Phase.{Phase}
+use Rattle.questions.specs.declared.Phase.TheVariants as Phase
+use Rattle.machine.specs.Resume.{unasked, first_answered_of, answered_of, resume_at}
+use Rattle.machine.proofs.Replies.{derivative-length, jacobian-length, answer-length, held, asked_in}
+use Rattle.machine.proofs.Replies.{resume-asked, resume-unasked, first-unasked, report-unasked}
+use Rattle.machine.proofs.resume.Goals as goal
+
+pub returns-then-not-is_asked : goal.returns-then-not-is_asked
+returns-then-not-is_asked c =
+    let i = c in
+    let x = i.args in
+    sym (resume-unasked _ _ _ _ _ _ (sym i.is_asked.ensures ∙ not-true _ c.if-not-is_asked.taken))
+
+pub enum_told-1 : goal.enum_told-1
+enum_told-1 c = search rules
+
+pub first_derivative-requires : goal.first_derivative-requires
+first_derivative-requires c =
+    let e = c in
+    let t = e.enum_told-1.given.1 in
+    let a = e in
+    let x = a.args in
+    let i = e in
+    let yes = sym i.is_asked.ensures ∙ not-false _ i.if-not-is_asked.left in
+    let r = held Phase.FirstDerivative _ t a.pre.1 in
+    let l = derivative-length _ _ x.kind (asked_in Phase.FirstDerivative x.kind _ _ t yes) in
+    (r.ranges.settings.n.0, (r.relative, (r.absolute, (l, omega (arith, r.lent.sized)))))
+
+pub after_first_report-requires : goal.after_first_report-requires
+after_first_report-requires c =
+    let e = c in
+    let t = e.enum_told-in-FirstReport-1.given.1 in
+    let a = e in
+    let x = a.args in
+    let i = e in
+    let yes = sym i.is_asked.ensures ∙ not-false _ i.if-not-is_asked.left in
+    let r = held Phase.FirstReport _ t a.pre.1 in
+    let l = answer-length _ _ x.kind (asked_in Phase.FirstReport x.kind _ _ t yes) in
+    (inside-ranges r.ranges, (l, omega (arith, r.lent.sized)))
+
+pub first_modified-requires : goal.first_modified-requires
+first_modified-requires c =
+    let e = c in
+    let t = e.enum_told-in-FirstModified-1.given.1 in
+    let a = e in
+    let x = a.args in
+    let i = e in
+    let yes = sym i.is_asked.ensures ∙ not-false _ i.if-not-is_asked.left in
+    let r = held Phase.FirstModified _ t a.pre.1 in
+    let l = derivative-length _ _ x.kind (asked_in Phase.FirstModified x.kind _ _ t yes) in
+    (inside-ranges r.ranges, (l, omega (arith, r.lent.sized)))
+
+pub opened_reply-requires : goal.opened_reply-requires
+opened_reply-requires c =
+    let e = c in
+    let t = e.enum_told-in-Opened-1.given.1 in
+    let a = e in
+    let x = a.args in
+    let i = e in
+    let yes = sym i.is_asked.ensures ∙ not-false _ i.if-not-is_asked.left in
+    let r = held Phase.Opened _ t a.pre.1 in
+    let l = derivative-length _ _ x.kind (asked_in Phase.Opened x.kind _ _ t yes) in
+    (inside-ranges r.ranges, (omega (arith, r.ranges.counts.nje), (r.relative, (r.absolute, (l, r.lent)))))
+
+pub jacobian_reply-requires : goal.jacobian_reply-requires
+jacobian_reply-requires c =
+    let e = c in
+    let t = e.enum_told-in-JacobianAsked-1.given.1 in
+    let a = e in
+    let x = a.args in
+    let i = e in
+    let yes = sym i.is_asked.ensures ∙ not-false _ i.if-not-is_asked.left in
+    let r = held Phase.JacobianAsked _ t a.pre.1 in
+    let l = jacobian-length _ _ x.kind (asked_in Phase.JacobianAsked x.kind _ _ t yes) in
+    (inside-ranges r.ranges, (omega (arith, r.ranges.counts.nlu), (r.relative, (r.absolute, (l, r.lent)))))
+
+pub column_reply-requires : goal.column_reply-requires
+column_reply-requires c =
+    let e = c in
+    let t = e.enum_told-in-DifferenceColumn-1.given.1 in
+    let a = e in
+    let x = a.args in
+    let i = e in
+    let yes = sym i.is_asked.ensures ∙ not-false _ i.if-not-is_asked.left in
+    let r = held Phase.DifferenceColumn _ t a.pre.1 in
+    let l = derivative-length _ _ x.kind (asked_in Phase.DifferenceColumn x.kind _ _ t yes) in
+    (inside-ranges r.ranges, (omega (arith, r.ranges.counts.nlu), (r.relative, (r.absolute, (l, r.lent)))))
+
+pub further_reply-requires : goal.further_reply-requires
+further_reply-requires c =
+    let e = c in
+    let t = e.enum_told-in-FurtherDerivative-1.given.1 in
+    let a = e in
+    let x = a.args in
+    let i = e in
+    let yes = sym i.is_asked.ensures ∙ not-false _ i.if-not-is_asked.left in
+    let r = held Phase.FurtherDerivative _ t a.pre.1 in
+    let l = derivative-length _ _ x.kind (asked_in Phase.FurtherDerivative x.kind _ _ t yes) in
+    (inside-ranges r.ranges, (r.relative, (r.absolute, (l, r.lent))))
+
+pub restep_reply-requires : goal.restep_reply-requires
+restep_reply-requires c =
+    let e = c in
+    let t = e.enum_told-in-Restep-1.given.1 in
+    let a = e in
+    let x = a.args in
+    let i = e in
+    let yes = sym i.is_asked.ensures ∙ not-false _ i.if-not-is_asked.left in
+    let r = held Phase.Restep _ t a.pre.1 in
+    let l = derivative-length _ _ x.kind (asked_in Phase.Restep x.kind _ _ t yes) in
+    (inside-ranges r.ranges, (l, omega (arith, r.lent.sized)))
+
+pub after_report-requires : goal.after_report-requires
+after_report-requires c =
+    let e = c in
+    let t = e.enum_told-in-Report-1.given.1 in
+    let a = e in
+    let x = a.args in
+    let i = e in
+    let yes = sym i.is_asked.ensures ∙ not-false _ i.if-not-is_asked.left in
+    let r = held Phase.Report _ t a.pre.1 in
+    let l = answer-length _ _ x.kind (asked_in Phase.Report x.kind _ _ t yes) in
+    (inside-ranges r.ranges, (l, omega (arith, r.lent.sized)))
+
+pub modified-requires : goal.modified-requires
+modified-requires c =
+    let e = c in
+    let t = e.enum_told-in-Modified-1.given.1 in
+    let a = e in
+    let x = a.args in
+    let i = e in
+    let yes = sym i.is_asked.ensures ∙ not-false _ i.if-not-is_asked.left in
+    let r = held Phase.Modified _ t a.pre.1 in
+    let l = derivative-length _ _ x.kind (asked_in Phase.Modified x.kind _ _ t yes) in
+    (inside-ranges r.ranges, (l, omega (arith, r.lent.sized)))
+
+pub returns-in-FirstDerivative : goal.returns-in-FirstDerivative
+unfolding resume_at
+returns-in-FirstDerivative c =
+    let e = c in
+    let i = e in
+    let yes = sym i.is_asked.ensures ∙ not-false _ i.if-not-is_asked.left in
+    c.first_derivative.ensures _
+    ∙ sym (resume-asked _ _ _ _ _ _ Phase.FirstDerivative e.enum_told-1.given.1 yes)
+
+pub returns-in-Report-kind : goal.returns-in-Report-kind
+unfolding resume_at
+returns-in-Report-kind c =
+    let e = c in
+    let i = e in
+    let x = e.args in
+    let yes = sym i.is_asked.ensures ∙ not-false _ i.if-not-is_asked.left in
+    let g = given x.x.settings x.rtol.now x.atol.now in
+    let st = state x.x.common x.work.now x.ipiv.now in
+    c.after_first_report.ensures _
+    ∙ sym (ap (λ (k : Kind). first_answered_of g st k x.reply.now x.time)
+    c.kind-1.given.1)
+    ∙ sym (resume-asked _ _ _ _ _ _ Phase.FirstReport e.enum_told-in-FirstReport-1.given.1 yes)
+
+pub returns-in-Derivative : goal.returns-in-Derivative
+unfolding resume_at
+returns-in-Derivative c =
+    let e = c in
+    let i = e in
+    let x = e.args in
+    let yes = sym i.is_asked.ensures ∙ not-false _ i.if-not-is_asked.left in
+    let g = given x.x.settings x.rtol.now x.atol.now in
+    let st = state x.x.common x.work.now x.ipiv.now in
+    ap (λ (p : Phase). unasked p st) e.enum_told-in-FirstReport-1.given.1
+    ∙ sym (first-unasked g st x.reply.now x.time x.kind c.in-Derivative.keys2)
+    ∙ sym (resume-asked _ _ _ _ _ _ Phase.FirstReport e.enum_told-in-FirstReport-1.given.1 yes)
+
+pub returns-in-FirstModified : goal.returns-in-FirstModified
+unfolding resume_at
+returns-in-FirstModified c =
+    let e = c in
+    let i = e in
+    let yes = sym i.is_asked.ensures ∙ not-false _ i.if-not-is_asked.left in
+    c.first_modified_run.ensures _
+    ∙ sym (resume-asked _ _ _ _ _ _ Phase.FirstModified e.enum_told-in-FirstModified-1.given.1 yes)
+
+pub returns-in-Opened : goal.returns-in-Opened
+unfolding resume_at
+returns-in-Opened c =
+    let e = c in
+    let i = e in
+    let yes = sym i.is_asked.ensures ∙ not-false _ i.if-not-is_asked.left in
+    c.opened_reply.ensures
+    ∙ sym (resume-asked _ _ _ _ _ _ Phase.Opened e.enum_told-in-Opened-1.given.1 yes)
+
+pub returns-in-JacobianAsked : goal.returns-in-JacobianAsked
+unfolding resume_at
+returns-in-JacobianAsked c =
+    let e = c in
+    let i = e in
+    let yes = sym i.is_asked.ensures ∙ not-false _ i.if-not-is_asked.left in
+    c.jacobian_reply.ensures
+    ∙ sym (resume-asked _ _ _ _ _ _ Phase.JacobianAsked e.enum_told-in-JacobianAsked-1.given.1 yes)
+
+pub returns-in-DifferenceColumn : goal.returns-in-DifferenceColumn
+unfolding resume_at
+returns-in-DifferenceColumn c =
+    let e = c in
+    let i = e in
+    let yes = sym i.is_asked.ensures ∙ not-false _ i.if-not-is_asked.left in
+    c.column_reply.ensures
+    ∙ sym (resume-asked _ _ _ _ _ _ Phase.DifferenceColumn e.enum_told-in-DifferenceColumn-1.given.1 yes)
+
+pub returns-in-FurtherDerivative : goal.returns-in-FurtherDerivative
+unfolding resume_at
+returns-in-FurtherDerivative c =
+    let e = c in
+    let i = e in
+    let yes = sym i.is_asked.ensures ∙ not-false _ i.if-not-is_asked.left in
+    c.further_reply.ensures
+    ∙ sym (resume-asked _ _ _ _ _ _ Phase.FurtherDerivative e.enum_told-in-FurtherDerivative-1.given.1 yes)
+
+pub returns-in-Restep : goal.returns-in-Restep
+unfolding resume_at
+returns-in-Restep c =
+    let e = c in
+    let i = e in
+    let yes = sym i.is_asked.ensures ∙ not-false _ i.if-not-is_asked.left in
+    c.restep_reply.ensures _
+    ∙ sym (resume-asked _ _ _ _ _ _ Phase.Restep e.enum_told-in-Restep-1.given.1 yes)
+
+pub returns-in-Report-kind-2 : goal.returns-in-Report-kind-2
+unfolding resume_at
+returns-in-Report-kind-2 c =
+    let e = c in
+    let i = e in
+    let x = e.args in
+    let yes = sym i.is_asked.ensures ∙ not-false _ i.if-not-is_asked.left in
+    let g = given x.x.settings x.rtol.now x.atol.now in
+    let st = state x.x.common x.work.now x.ipiv.now in
+    c.after_report.ensures _
+    ∙ sym (ap (λ (k : Kind). answered_of g st k x.reply.now x.time)
+    c.kind-in-Report-1.given.1)
+    ∙ sym (resume-asked _ _ _ _ _ _ Phase.Report e.enum_told-in-Report-1.given.1 yes)
+
+pub returns-in-Derivative-kind : goal.returns-in-Derivative-kind
+unfolding resume_at
+returns-in-Derivative-kind c =
+    let e = c in
+    let i = e in
+    let x = e.args in
+    let yes = sym i.is_asked.ensures ∙ not-false _ i.if-not-is_asked.left in
+    let g = given x.x.settings x.rtol.now x.atol.now in
+    let st = state x.x.common x.work.now x.ipiv.now in
+    ap (λ (p : Phase). unasked p st) e.enum_told-in-Report-1.given.1
+    ∙ sym (report-unasked g st x.reply.now x.time x.kind c.in-Derivative-kind.keys2)
+    ∙ sym (resume-asked _ _ _ _ _ _ Phase.Report e.enum_told-in-Report-1.given.1 yes)
+
+pub returns-in-Modified : goal.returns-in-Modified
+unfolding resume_at
+returns-in-Modified c =
+    let e = c in
+    let i = e in
+    let yes = sym i.is_asked.ensures ∙ not-false _ i.if-not-is_asked.left in
+    c.modified.ensures _
+    ∙ sym (resume-asked _ _ _ _ _ _ Phase.Modified e.enum_told-in-Modified-1.given.1 yes)
+
+pub returns-in-Finished : goal.returns-in-Finished
+unfolding resume_at
+returns-in-Finished c =
+    let e = c in
+    let i = e in
+    let x = e.args in
+    let yes = sym i.is_asked.ensures ∙ not-false _ i.if-not-is_asked.left in
+    let st = state x.x.common x.work.now x.ipiv.now in
+    ap (λ (p : Phase). unasked p st) e.enum_told-in-Finished-1.given.1
+    ∙ sym (resume-asked _ _ _ _ _ _ Phase.Finished e.enum_told-in-Finished-1.given.1 yes)

@@ -1,0 +1,56 @@
+-- `column_reply` meets its contract: the column is stored, and the next is asked for or the matrix is factored.
+-- Assumes nothing.
+use native.Mathlib.Omega.{arith}
+use borrow.Author.Rules.{rules}
+use borrow.Author.Tests.{lt-ltb, le-ltb}
+use Rattle.between_steps.proofs.Inside.{inside-column, lent_length}
+use Rattle.passes.specs.Pass.{column_reply_of, column_reply_at}
+use Rattle.passes.proofs.column_reply.Goals as goal
+
+pub store_column-requires : goal.store_column-requires
+store_column-requires c =
+    let p = c.requires in
+    (p.0.settings.n.1, omega (arith, p.1.1.1.1.1.sized), p.0.counters.column)
+
+pub overflow_add-j : goal.overflow_add-j
+overflow_add-j c =
+    let p = c.requires.inside in
+    omega (arith, p.settings.n, p.counters.column)
+
+pub overflow_add-j-then-j-s : goal.overflow_add-j-then-j-s
+overflow_add-j-then-j-s c =
+    let p = c.requires.inside in
+    omega (arith, p.settings.n, p.counters.column)
+
+pub ask_column-requires : goal.ask_column-requires
+ask_column-requires c =
+    let p = c.requires in
+    let l = p.1.1.1.1.1.sized in
+    ((p.0.settings.n.1, c.if-j-s.true), ((p.0.counts.0, p.0.counts.1), omega arith))
+
+pub returns-then-j-s : goal.returns-then-j-s
+unfolding column_reply_of column_reply_at
+returns-then-j-s c =
+    rw (
+      lt-ltb _ _ c.if-j-s.true,
+      ← c.store.ensures,
+      ← c.store_column.ensures,
+    )
+    (c.ask_column.ensures _)
+
+pub matrix_done-requires : goal.matrix_done-requires
+matrix_done-requires c =
+    let p = c.requires in
+    let first = inside-column p.0 0 p.0.settings.n.0 in
+    (first, (p.1.0, (p.1.1.0, (p.1.1.1.0, lent_length _ (omega arith) p.1.1.1.1.1))))
+
+pub returns : goal.returns
+unfolding column_reply_of column_reply_at
+returns c =
+    let k = c in
+    rw (
+      le-ltb _ _ c.if-j-s.false,
+      ← k.store.ensures,
+      ← k.store_column.ensures,
+    )
+    c.matrix_done.ensures

@@ -1,0 +1,16 @@
+-- `further_reply` meets its contract: savf is the reply, then an iteration. Assumes nothing.
+use native.Mathlib.Omega.{arith}
+use borrow.Author.Rules.{rules}
+use Rattle.between_steps.proofs.Inside.{lent_length}
+use Rattle.passes.specs.Pass.{further_reply_of}
+use Rattle.passes.proofs.further_reply.Goals as goal
+
+pub iterate-requires : goal.iterate-requires
+iterate-requires c =
+    let p = c.requires in
+    (p.0, (p.1.0, (p.1.1.0, lent_length _ (omega arith) p.1.1.1.1)))
+
+pub returns : goal.returns
+unfolding further_reply_of
+returns c =
+    rw (← c.store.ensures) c.iterate.ensures

@@ -1,0 +1,110 @@
+-- `iterate` meets its contract: one iteration, the verdict on it, and one way for each verdict.
+-- Assumes nothing.
+use mathlib.Core.Path.{ap, ◌∙◌}
+use native.Mathlib.Omega.{arith}
+use lib.ListN.{length}
+use borrow.Author.Rules.{rules}
+use Rattle.corrector.specs.Iterate.{Corrected}
+use Rattle.corrector.proofs.Iterated.{length-iteration}
+use Rattle.common.specs.Ranges.{Inside}
+use Rattle.between_steps.proofs.Inside.{in-range}
+use Rattle.passes.proofs.PassInside.{inside-judged}
+use Rattle.passes.specs.Pass.{iterate_of, concluded_at}
+use Rattle.passes.proofs.iterate.Goals as goal
+
+pub correct-x-requires : goal.correct-x-requires
+correct-x-requires c =
+    let a = c in
+    let l = a.requires.list1or_n.1.1 in
+    (in-range a.requires.inside, ((omega (arith, l.sized), omega (arith, l.pivots)), l.below))
+
+pub enum_told-1 : goal.enum_told-1
+enum_told-1 c = search rules
+
+pub error_test-requires : goal.error_test-requires
+error_test-requires c =
+    let j = c in
+    let x = j in
+    let a = x in
+    let p : Inside a.args.s j.judge-verdict.result.common = rw j.judge-verdict.ensures (inside-judged a.requires.inside _ _) in
+    let l = a.requires.list1or_n.1.1.sized in
+    let w = ap (λ (k : Corrected). length k.work) x.correct-x.ensures ∙ length-iteration a.args.s
+    a.args.c _ _ in
+    (p, (a.requires.list1or_n.0, (a.requires.list1or_n.1.0, omega (arith, l, w))))
+
+pub open_pass-requires : goal.open_pass-requires
+open_pass-requires c =
+    let j = c in
+    let x = j in
+    let a = x in
+    let p : Inside a.args.s j.judge-verdict.result.common = rw j.judge-verdict.ensures (inside-judged a.requires.inside _ _) in
+    let l = a.requires.list1or_n.1.1.sized in
+    let w = ap (λ (k : Corrected). length k.work) x.correct-x.ensures ∙ length-iteration a.args.s
+    a.args.c _ _ in
+    (p.counts.0, p.counts.1, omega (arith, l, w))
+
+pub pass_failed-requires : goal.pass_failed-requires
+pass_failed-requires c =
+    let j = c in
+    let x = j in
+    let a = x in
+    let p : Inside a.args.s j.judge-verdict.result.common = rw j.judge-verdict.ensures (inside-judged a.requires.inside _ _) in
+    let l = a.requires.list1or_n.1.1.sized in
+    let w = ap (λ (k : Corrected). length k.work) x.correct-x.ensures ∙ length-iteration a.args.s
+    a.args.c _ _ in
+    (p, omega (arith, l, w))
+
+pub ask_in_step-requires : goal.ask_in_step-requires
+ask_in_step-requires c =
+    let j = c in
+    let a = j in
+    let p : Inside a.args.s j.judge-verdict.result.common = rw j.judge-verdict.ensures (inside-judged a.requires.inside _ _) in
+    (p.counts.0, p.counts.1)
+
+pub returns-in-Converged : goal.returns-in-Converged
+unfolding iterate_of concluded_at
+returns-in-Converged c =
+    let j = c in
+    rw (
+      ← j.correct-x.ensures,
+      ← j.norm_at-pnorm.ensures,
+      ← j.judge-verdict.ensures,
+      c.enum_told-1.given.1,
+    )
+    (c.error_test.ensures _)
+
+pub returns-in-Retry : goal.returns-in-Retry
+unfolding iterate_of concluded_at
+returns-in-Retry c =
+    let j = c in
+    rw (
+      ← j.correct-x.ensures,
+      ← j.norm_at-pnorm.ensures,
+      ← j.judge-verdict.ensures,
+      c.enum_told-in-Retry-1.given.1,
+    )
+    (c.open_pass.ensures _)
+
+pub returns-in-NoConvergence : goal.returns-in-NoConvergence
+unfolding iterate_of concluded_at
+returns-in-NoConvergence c =
+    let j = c in
+    rw (
+      ← j.correct-x.ensures,
+      ← j.norm_at-pnorm.ensures,
+      ← j.judge-verdict.ensures,
+      c.enum_told-in-NoConvergence-1.given.1,
+    )
+    (c.pass_failed.ensures _)
+
+pub returns-in-Further : goal.returns-in-Further
+unfolding iterate_of concluded_at
+returns-in-Further c =
+    let j = c in
+    rw (
+      ← j.correct-x.ensures,
+      ← j.norm_at-pnorm.ensures,
+      ← j.judge-verdict.ensures,
+      c.enum_told-in-Further-1.given.1,
+      c.ask_in_step.ensures,
+    )

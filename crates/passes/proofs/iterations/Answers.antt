@@ -1,0 +1,33 @@
+-- `iterations` meets its contract: the record and the work as the iterations open, then the first.
+-- Assumes nothing.
+use native.Mathlib.Omega.{arith}
+use mathlib.Core.Path.{◌≡◌}
+use Prim.Native.Nat.{◌-◌}
+use Rattle.loops.proofs.Part.{length_part}
+use borrow.Author.Rules.{rules}
+use Rattle.common.specs.Layout.{acor_at, y_at}
+use Rattle.history.specs.Columns.{fill_of}
+use Rattle.between_steps.proofs.Inside.{lent_length}
+use Rattle.passes.proofs.PassInside.{inside-open}
+use Rattle.passes.specs.Pass.{iterations_of}
+use Rattle.passes.proofs.iterations.Goals as goal
+
+pub iterate-requires : goal.iterate-requires
+iterate-requires c =
+    let o = c in
+    let a = o in
+    let p = a.requires in (
+      rw o.open_iterations-d.ensures.0 (inside-open p.0),
+      (p.1.0, (p.1.1.0, lent_length _ (omega arith) p.1.1.1)),
+    )
+
+pub returns : goal.returns
+unfolding iterations_of fill_of
+returns c =
+    let o = c in
+    let a = o in
+    let n = a.args.s.n in
+    let size : y_at n - acor_at n ≡ n = omega arith in
+    let long = length_part (acor_at n) n a.args.work.now (omega (arith, a.requires.list1or_n.1.1.sized)) in
+    let opened = o.open_iterations-d.ensures in
+    rw (opened.0, opened.1, size, long) at c.iterate.ensures

@@ -1,0 +1,45 @@
+-- `matrix_done` meets its contract: the factoring, then the iterations or no convergence.
+-- Assumes nothing.
+use native.Mathlib.Omega.{arith}
+use borrow.Author.Rules.{rules}
+use Rattle.passes.proofs.PassInside.{inside-factored, lent-factored}
+use Rattle.passes.specs.Pass.{matrix_done_of, matrix_done_at}
+use Rattle.passes.proofs.matrix_done.Goals as goal
+
+pub iterations-requires : goal.iterations-requires
+iterations-requires c =
+    let f = c in
+    let a = f in
+    let p = a.requires in
+    let x = a.args in
+    let l = p.1.1.1.1 in
+    let inside = rw (← f.finish_jacobian-f.ensures) at
+    (inside-factored p.0 x.work.now x.ipiv.now) in
+    let lent = rw (← f.finish_jacobian-f.ensures) at (lent-factored x.s x.c x.work.now x.ipiv.now l) in
+    (inside, (p.1.1.0, (p.1.1.1.0, lent)))
+
+pub returns-then-done : goal.returns-then-done
+unfolding matrix_done_of matrix_done_at
+returns-then-done c =
+    let f = c.finish_jacobian-f in
+    rw (← f.ensures, c.if-done.true)
+    c.iterations.ensures
+
+pub pass_failed-requires : goal.pass_failed-requires
+pass_failed-requires c =
+    let f = c in
+    let a = f in
+    let p = a.requires in
+    let x = a.args in
+    let inside = rw (← f.finish_jacobian-f.ensures) at
+    (inside-factored p.0 x.work.now x.ipiv.now) in
+    let lent = rw (← f.finish_jacobian-f.ensures) at
+    (lent-factored x.s x.c x.work.now x.ipiv.now p.1.1.1.1) in
+    (inside, omega (arith, lent.sized))
+
+pub returns : goal.returns
+unfolding matrix_done_of matrix_done_at
+returns c =
+    let f = c.finish_jacobian-f in
+    rw (← f.ensures, c.if-done.false)
+    (c.pass_failed.ensures _)

@@ -1,0 +1,21 @@
+-- `pass_failed` meets its contract: the attempt's failure, then what it leads to. Assumes nothing.
+use native.Mathlib.Omega.{arith}
+use borrow.Author.Rules.{rules}
+use Rattle.attempt.proofs.Laws.{unconverged}
+use Rattle.passes.specs.Pass.{pass_failed_of}
+use Rattle.passes.proofs.pass_failed.Goals as goal
+
+pub attempted-requires : goal.attempted-requires
+attempted-requires c =
+    let e = c in
+    let a = e in
+    let p = a.requires.inside in
+    let x = a.args in
+    let q = rw (← e.no_convergence.ensures) at (unconverged x.s x.c x.work.now) in
+    (omega (arith, q.kept.nfe, p.counts), omega (arith, q.kept.count, p.counts), omega arith)
+
+pub returns : goal.returns
+unfolding pass_failed_of
+returns c p =
+    rw (← c.no_convergence.ensures)
+    (c.attempted.ensures p)

@@ -1,0 +1,47 @@
+-- `probe_dense_lu_factor` meets its contract: each way returns what `factor_left` says under the tests that led there.
+-- Assumes nothing.
+use mathlib.Core.Path.{sym, ◌∙◌}
+use borrow.Author.Rules.{rules}
+use borrow.Author.Tests.{not-true, not-false}
+use Rattle.probe.specs.Leaves.{factor_left}
+use Rattle.probe.proofs.Sizes.{matrix-fits}
+use Rattle.probe.proofs.probe_dense_lu_factor.Goals as goal
+
+pub returns-then-not-is_matrix : goal.returns-then-not-is_matrix
+unfolding factor_left
+returns-then-not-is_matrix c = rw (← c.is_matrix.ensures, not-true c.is_matrix.result c.if-not-is_matrix.true)
+
+pub dense_lu_factor-requires : goal.dense_lu_factor-requires
+dense_lu_factor-requires c =
+    let m = c in
+    matrix-fits _ _ _ (sym m.is_matrix.ensures ∙ not-false m.is_matrix.result c.if-not-is_matrix.false)
+
+pub returns-in-Done : goal.returns-in-Done
+unfolding factor_left
+returns-in-Done c =
+    let f = c in
+    let m = f in
+    let e = f.dense_lu_factor.ensures in
+    rw (
+      ← m.is_matrix.ensures,
+      not-false m.is_matrix.result f.if-not-is_matrix.false,
+      ← e.2,
+      c.enum_told-1.given.1,
+      e.0,
+      e.1,
+    )
+
+pub returns-in-Singular : goal.returns-in-Singular
+unfolding factor_left
+returns-in-Singular c =
+    let f = c in
+    let m = f in
+    let e = f.dense_lu_factor.ensures in
+    rw (
+      ← m.is_matrix.ensures,
+      not-false m.is_matrix.result f.if-not-is_matrix.false,
+      ← e.2,
+      c.enum_told-in-Singular-1.given.1,
+      e.0,
+      e.1,
+    )

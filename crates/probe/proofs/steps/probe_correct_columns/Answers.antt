@@ -1,0 +1,37 @@
+-- `probe_correct_columns` meets its contract: each way returns what `correct_left` says under the tests that led there.
+-- Assumes nothing.
+use borrow.Author.Rules.{rules}
+use Rattle.probe.specs.Left.{correct_left}
+use Rattle.probe.proofs.Usable.{usable-by}
+use Rattle.probe.proofs.steps.probe_correct_columns.Goals as goal
+
+pub settings-requires : goal.settings-requires
+settings-requires c = (usable-by c.is_usable.ensures c.if-is_usable.true).lists
+
+pub common-requires : goal.common-requires
+common-requires c = (usable-by c.is_usable.ensures c.if-is_usable.true).lists
+
+pub correct_columns-requires : goal.correct_columns-requires
+correct_columns-requires c =
+    let b = c in
+    let a = b in
+    let t = usable-by a.is_usable.ensures a.if-is_usable.true in
+    rw (b.common.ensures, a.settings.ensures) (t.range, t.long)
+
+pub returns-then-is_usable : goal.returns-then-is_usable
+unfolding correct_left
+returns-then-is_usable c =
+    let d = c in
+    let b = d in
+    let a = b in
+    rw (
+      ← a.is_usable.ensures,
+      a.if-is_usable.true,
+      d.correct_columns.ensures,
+      b.common.ensures,
+      a.settings.ensures,
+    )
+
+pub returns : goal.returns
+unfolding correct_left
+returns c = rw (← c.is_usable.ensures, c.if-is_usable.false)

@@ -1,0 +1,51 @@
+-- `raimsklo_reply` meets its contract. Assumes nothing.
+use mathlib.Core.Path.{sym, ap, ◌∙◌}
+use borrow.Author.Tests.{eq-eqb, ne_eqb}
+use borrow.Author.Rules.{rules}
+use Rattle.replies.proofs.Taken.{taken}
+use Rattle.session.proofs.Back.{stored-n}
+use Rattle.refusals.specs.declared.Refusal.{Refusal}
+use Rattle.replies.specs.Replies.{reply_refusal_of}
+use Rattle.raimsklo.specs.Calls.{reply_of, reply_at}
+use Rattle.raimsklo.proofs.raimsklo_reply.Goals as goal
+
+pub returns-then-session-ne-SESSION_LENGTH : goal.returns-then-session-ne-SESSION_LENGTH
+unfolding reply_of reply_at reply_refusal_of
+returns-then-session-ne-SESSION_LENGTH c = rw (ne_eqb _ _ c.if-session-ne-SESSION_LENGTH.true, c.refused.ensures, c.plain.ensures)
+
+pub decode-x-requires : goal.decode-x-requires
+decode-x-requires c = (search rules, c.counts-u.ensures)
+
+pub refusal-r-requires : goal.refusal-r-requires
+refusal-r-requires c =
+    let d = c in
+    let u = d in
+    (u.if-session-ne-SESSION_LENGTH.false, (u.counts-u.ensures, d.decode-x.ensures))
+
+pub returns-then-r-ne0 : goal.returns-then-r-ne0
+unfolding reply_of reply_at
+returns-then-r-ne0 c =
+    rw (← c.refusal-r.ensures, ne_eqb _ _ c.if-r-ne0.true, c.refused-then-r-ne0.ensures)
+
+pub accept-requires : goal.accept-requires
+accept-requires c =
+    let z = c in
+    let r = z in
+    let d = r in
+    let a = d.args in
+    let b = a.session.now in
+    let t = taken _ _ _ _ _ (ap (λ (r : Refusal). r.number) (sym r.refusal-r.ensures) ∙ z.if-r-ne0.false) in (
+      t.bytes,
+      (
+        (t.ranges, d.decode-x.ensures),
+        rw (stored-n b) (record { states = t.n; sized = t.work; pivoted = t.pivots; asked = t.question }),
+      ),
+    )
+
+pub returns : goal.returns
+unfolding reply_of reply_at
+returns c =
+    let g = c in
+    let k = g in
+    rw (← k.refusal-r.ensures, eq-eqb _ _ k.if-r-ne0.false, ← k.kind.ensures)
+    g.accept.ensures

@@ -1,0 +1,13 @@
+-- `clear` meets its contract. Assumes nothing.
+use Prim.Native.Nat.{◌-◌}
+use mathlib.Core.Path.{◌≡◌, refl}
+use native.Mathlib.Omega.{arith}
+use lib.ListN.{length, length-set}
+use Rattle.loops.specs.For.{for}
+use Rattle.loops.proofs.For.{again, ended}
+use Rattle.raimsklo.specs.Starts.{clear_at, cleared_of}
+use Rattle.raimsklo.proofs.starts.clear.Given as goal
+
+abbrev pub invariant-loop-i : goal.invariant-loop-i
+invariant-loop-i l =
+    (length l.pivots ≡ length l.initial.pivots) × (l.i-end ≡ length l.initial.pivots) × (for l.i l.i-end clear_at l.pivots ≡ cleared_of l.initial.pivots)

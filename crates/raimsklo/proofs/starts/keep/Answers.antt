@@ -1,0 +1,17 @@
+-- `keep` meets its contract. Assumes nothing.
+use Prim.Native.Nat.{◌-◌}
+use borrow.Author.Rules.{rules}
+use Rattle.session.specs.Session.{encode_of}
+use Rattle.raimsklo.specs.Starts.{kept_of}
+use Rattle.raimsklo.proofs.starts.keep.Goals as goal
+
+pub returns : goal.returns
+unfolding kept_of encode_of
+returns c =
+    let p = c in
+    let f = p in
+    rw (
+      p.put_tolerances.ensures,
+      f.encode_floats.ensures,
+      f.encode_counts.ensures,
+    )

@@ -1,0 +1,18 @@
+-- `large` meets its contract. Assumes nothing.
+use Prim.Native.Nat.{◌-◌}
+use borrow.Author.Rules.{rules}
+use Rattle.refusals.specs.Refusal.{in_order}
+use Rattle.refusals.specs.Start.{large_refusal}
+use Rattle.refusals.proofs.large.Goals as goal
+
+pub returns : goal.returns
+unfolding large_refusal in_order
+returns c = rw (
+  c.also.ensures,
+  c.also-e.ensures,
+  c.also-d.ensures,
+  c.also-c.ensures,
+  c.also-b.ensures,
+  c.also-a.ensures,
+  c.none.ensures,
+)

@@ -1,0 +1,14 @@
+-- `smallest` meets its contract. Assumes nothing.
+use Prim.Native.Nat.{◌-◌}
+use borrow.Author.Tests.{eq-eqb, ne_eqb}
+use borrow.Author.Rules.{rules}
+use Rattle.refusals.specs.Start.{smallest_of}
+use Rattle.refusals.proofs.smallest.Goals as goal
+
+pub returns-then-o-eq0 : goal.returns-then-o-eq0
+unfolding smallest_of
+returns-then-o-eq0 c = rw (eq-eqb _ _ c.if-o-eq0.true)
+
+pub returns : goal.returns
+unfolding smallest_of
+returns c = rw (ne_eqb _ _ c.if-o-eq0.false) c.abs.ensures

@@ -1,0 +1,22 @@
+use Prim.Native.Nat.{◌-◌, ◌≤◌, ◌/◌}
+use mathlib.Core.Path.{◌≡◌, refl, sym}
+use native.Mathlib.Omega.{arith}
+use lib.ListN.{length}
+use Rattle.loops.specs.For.{for}
+use Rattle.loops.proofs.For.{onward, ended}
+use Rattle.loops.specs.Count.{counted_at, differing}
+use Rattle.replay.specs.Leaf.{is_same, calls_differ}
+use Rattle.replay.proofs.leaf.differ.Goals as goal
+
+pub loop-i-init : goal.loop-i-init
+unfolding differing
+loop-i-init c = (omega arith, refl)
+
+pub loop-i-preserved : goal.loop-i-preserved
+loop-i-preserved c = (
+  omega arith,
+  onward _ _ _ _ _ _ (omega arith) (sym c.counted-found.ensures.0) c.loop-i.invariant.1,
+)
+
+pub returns : goal.returns
+returns c = ended _ _ _ _ _ (omega arith) c.loop-i.invariant.1

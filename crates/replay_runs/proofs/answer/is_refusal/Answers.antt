@@ -1,0 +1,21 @@
+-- `is_refusal` meets its contract: each way returns what `is_stored_refusal` says under the tests that led there.
+-- Assumes nothing.
+use native.Mathlib.Omega.{arith}
+use borrow.Author.Rules.{rules}
+use borrow.Author.Tests.{not-true, not-false}
+use Rattle.replay_runs.specs.Answer.{is_stored_refusal}
+use Rattle.replay_runs.proofs.answer.is_refusal.Goals as goal
+
+pub returns-then-not-is_count : goal.returns-then-not-is_count
+unfolding is_stored_refusal
+returns-then-not-is_count c = rw (← c.is_count.ensures, not-true c.is_count.result c.if-not-is_count.true)
+
+pub returns : goal.returns
+unfolding is_stored_refusal
+returns c =
+    let k1 = c in
+    rw (
+      ← k1.is_count.ensures,
+      not-false k1.is_count.result k1.if-not-is_count.false,
+    )
+    c.is_float.ensures

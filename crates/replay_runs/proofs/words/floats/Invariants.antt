@@ -1,0 +1,11 @@
+-- `floats` is safe and ends: each turn keeps the length. Assumes nothing.
+use Prim.Native.Nat.{◌-◌, ◌≤◌}
+use mathlib.Core.Path.{◌≡◌}
+use native.Mathlib.Omega.{arith}
+use borrow.Author.Rules.{rules}
+use lib.ListN.{length, length-set}
+use Rattle.replay_runs.specs.Words.{most_numbers}
+use Rattle.replay_runs.proofs.words.floats.Given as goal
+
+abbrev pub invariant-loop-i : goal.invariant-loop-i
+invariant-loop-i l = (l.i ≤ most_numbers) × (length l.out ≡ most_numbers)

@@ -1,0 +1,8 @@
+-- `is_count` meets its contract. Assumes nothing.
+use borrow.Author.Rules.{rules}
+use Rattle.replay_runs.specs.Words.{is_stored_count}
+use Rattle.replay_runs.proofs.words.is_count.Goals as goal
+
+pub returns : goal.returns
+unfolding is_stored_count
+returns c = rw (← c.word.ensures)

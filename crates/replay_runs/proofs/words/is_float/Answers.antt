@@ -1,0 +1,8 @@
+-- `is_float` meets its contract. Assumes nothing.
+use borrow.Author.Rules.{rules}
+use Rattle.replay_runs.specs.Words.{is_stored_float}
+use Rattle.replay_runs.proofs.words.is_float.Goals as goal
+
+pub returns : goal.returns
+unfolding is_stored_float
+returns c = rw (← c.word.ensures, ← c.to_bits.ensures)

@@ -1,0 +1,26 @@
+-- `write_turn` meets its contract. Assumes nothing.
+use mathlib.Core.Path.{sym, ◌∙◌}
+use Prim.Native.Nat.{◌-◌}
+use borrow.Author.Rules.{rules}
+use Rattle.session.specs.Session.{encode_of}
+use Rattle.replies.specs.Replies.{turn_written_of}
+use Rattle.replies.proofs.write_turn.Goals as goal
+
+pub returns-then-is_unasked : goal.returns-then-is_unasked
+unfolding turn_written_of
+returns-then-is_unasked c = rw (sym c.is_unasked.ensures ∙ c.if-is_unasked.true, c.answer.ensures)
+
+pub returns : goal.returns
+unfolding turn_written_of encode_of
+returns c =
+    let w = c in
+    let f = w in
+    let e = f in
+    let i = e in
+    rw (
+      sym i.is_unasked.ensures ∙ i.if-is_unasked.false,
+      c.answer-2.ensures,
+      w.write_question.ensures,
+      f.encode_floats.ensures,
+      e.encode_counts.ensures,
+    )

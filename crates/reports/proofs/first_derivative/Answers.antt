@@ -1,0 +1,51 @@
+-- `first_derivative` meets its contract: the derivative, column 0 and the weights, then 12 or the first step.
+-- Assumes nothing.
+use mathlib.Core.Path.{◌≡◌}
+use Prim.Native.Nat.{◌-◌}
+use native.Mathlib.Omega.{arith}
+use borrow.Author.Rules.{rules}
+use Rattle.common.specs.Layout.{ewt_at, savf_at}
+use Rattle.reports.specs.Reports.{weighted_at, first_derivative_of}
+use Rattle.reports.proofs.first_derivative.Goals as goal
+
+pub ewset-requires : goal.ewset-requires
+ewset-requires c =
+    let p = c.requires in
+    (p.1.0, (p.1.1.0, (omega arith, omega arith)))
+
+pub enum_told-1 : goal.enum_told-1
+enum_told-1 c = search rules
+
+pub weighted-requires : goal.weighted-requires
+weighted-requires c =
+    let p = c.requires in
+    (p.0, (p.1.0, (p.1.1.0, omega arith)))
+
+pub returns-in-Refused : goal.returns-in-Refused
+unfolding first_derivative_of weighted_at
+returns-in-Refused c p =
+    let i = c in
+    let e = i in
+    let k = e in
+    let n = k.args.s.n in
+    let weights : savf_at n - ewt_at n ≡ n = omega arith in
+    let w = rw weights at i.invert_weights.ensures in
+    rw (weights, ← k.take_first.ensures, ← e.ewset.ensures, ← w.0, ← w.1, c.k-1.given.1)
+
+pub returns-in-Inverted : goal.returns-in-Inverted
+unfolding first_derivative_of weighted_at
+returns-in-Inverted c p =
+    let i = c in
+    let e = i in
+    let k = e in
+    let n = k.args.s.n in
+    let weights : savf_at n - ewt_at n ≡ n = omega arith in
+    let w = rw weights at i.invert_weights.ensures in
+    let g = rw weights at (c.weighted.ensures p) in
+    rw (
+      ← k.take_first.ensures,
+      ← e.ewset.ensures,
+      ← w.0,
+      ← w.1,
+      c.enum_told-1.given.1,
+    ) g

@@ -1,0 +1,30 @@
+-- `modified` meets its contract: savf and column 1 from the reply, weights from the state, order 1; the loop goes on.
+-- Assumes nothing.
+use native.Mathlib.Omega.{arith}
+use borrow.Author.Rules.{rules}
+use Rattle.between_steps.proofs.Inside.{inside-restart}
+use Rattle.reports.specs.Reports.{modified_of}
+use Rattle.reports.proofs.modified.Goals as goal
+
+pub go_on-requires : goal.go_on-requires
+go_on-requires c =
+    let a = c in (
+      rw c.restart.ensures (inside-restart a.pre.0),
+      omega (
+        arith,
+        a.pre.1.1,
+        c.work-1.given,
+      ),
+    )
+
+pub returns : goal.returns
+unfolding modified_of
+returns c p =
+    let w = c in
+    rw (
+      ← w.store.ensures,
+      ← w.set_slope.ensures,
+      ← w.state_weights.ensures,
+      ← c.restart.ensures,
+    )
+    (c.go_on.ensures p)

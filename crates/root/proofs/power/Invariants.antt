@@ -1,0 +1,11 @@
+-- `power` meets its contract: the factors still to come, multiplied onto what is there, give the whole product.
+use Prim.Native.Nat.{◌-◌}
+use mathlib.Core.Path.{◌≡◌, refl}
+use native.Mathlib.Omega.{arith}
+use Rattle.loops.specs.For.{for}
+use Rattle.loops.proofs.For.{again, ended}
+use Rattle.root.specs.Root.{factor, power_of}
+use Rattle.root.proofs.power.Given as goal
+
+abbrev pub invariant-loop : goal.invariant-loop
+invariant-loop l = for l.counter l.k (factor l.y) l.p ≡ power_of l.k l.y

@@ -1,0 +1,16 @@
+-- `root_bits` meets its contract: the bits still to be tried, from the pattern so far, give the whole pattern.
+-- No candidate lies past infinity's pattern (proofs/Room.antt).
+use Prim.Native.Nat.{◌-◌}
+use mathlib.Core.Path.{◌≡◌, refl, ap}
+use native.Mathlib.Omega.{arith}
+use Rattle.loops.specs.For.{for}
+use Rattle.loops.proofs.For.{again, ended}
+use Rattle.root.specs.Root.{Candidate, bit_turn, root_bits}
+use Rattle.root.proofs.Room.{Room, first, candidate, next}
+use Rattle.root.proofs.root_bits.Given as goal
+
+abbrev pub invariant-loop : goal.invariant-loop
+invariant-loop l =
+    Room l.counter l.bits l.bit
+    × (for l.counter 63 (bit_turn l.x l.k) (record { l.bits = l.bits; l.bit = l.bit })
+    ≡ for 0 63 (bit_turn l.x l.k) (record { l.bits = 0; l.bit = 0x4000_0000_0000_0000 }))

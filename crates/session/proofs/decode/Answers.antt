@@ -1,0 +1,20 @@
+-- `decode` meets its contract: the record of the counts and floats that were read.
+-- Assumes nothing.
+use mathlib.Core.Path.{ap, ◌∙◌}
+use mathlib.Core.List.{List}
+use Prim.Native.Nat.{ℕ}
+use lib.Ieee.{Float}
+use borrow.Author.Rules.{rules}
+use Rattle.session.specs.Fields.{session_of}
+use Rattle.session.specs.Session.{stored_floats, decode_of}
+use Rattle.session.proofs.decode.Goals as goal
+
+pub returns : goal.returns
+unfolding decode_of
+returns c =
+    let f = c in
+    let a = f in
+    let b = a.args.bytes.now in
+    c.session.ensures
+    ∙ ap (λ (l : List Float). session_of a.args.u.now l) f.get_floats.ensures
+    ∙ ap (λ (l : List ℕ). session_of l (stored_floats b)) a.requires.1

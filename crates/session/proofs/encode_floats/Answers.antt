@@ -1,0 +1,9 @@
+-- `encode_floats` meets its contract. Assumes nothing.
+use mathlib.Core.Path.{◌∙◌}
+use borrow.Author.Rules.{rules}
+use Rattle.session.proofs.encode_floats.Goals as goal
+
+pub returns : goal.returns
+returns c =
+    let p = c in
+    p.put_floats.ensures ∙ rw p.floats-f.ensures

@@ -1,0 +1,23 @@
+-- `counters` meets its contract: each test is one of the definition's, in its order.
+-- Assumes nothing.
+use borrow.Author.Rules.{rules}
+use borrow.Author.Tests.{lt-ltb, le-ltb}
+use Rattle.session.specs.Session.{counters_in_range}
+use Rattle.session.proofs.ranges.counters.Goals as goal
+
+pub returns-then-c-mxncf : goal.returns-then-c-mxncf
+unfolding counters_in_range
+returns-then-c-mxncf c = rw (le-ltb _ _ (rw c.mxncf.ensures at c.if-c-mxncf.taken))
+
+pub returns-then-c-s : goal.returns-then-c-s
+unfolding counters_in_range
+returns-then-c-s c =
+    let t1 = c in
+    rw (lt-ltb _ _ (rw t1.mxncf.ensures at t1.if-c-mxncf.left), le-ltb _ _ c.if-c-s.taken)
+
+pub returns : goal.returns
+unfolding counters_in_range
+returns c =
+    let t2 = c in
+    let t1 = t2 in
+    rw (lt-ltb _ _ (rw t1.mxncf.ensures at t1.if-c-mxncf.left), lt-ltb _ _ t2.if-c-s.left)

@@ -1,0 +1,25 @@
+-- `four_below` meets its contract: each test is one of the four, in their order.
+-- Assumes nothing.
+use native.Mathlib.Omega.{arith}
+use borrow.Author.Tests.{lt-ltb, le-ltb}
+use Rattle.session.proofs.Every.{run-of-four}
+use Rattle.session.proofs.ranges.four_below.Goals as goal
+
+pub returns-then-ipiv-i : goal.returns-then-ipiv-i
+returns-then-ipiv-i c = rw (run-of-four, le-ltb _ _ c.if-ipiv-i.taken)
+
+pub returns-then-ipiv-i-2 : goal.returns-then-ipiv-i-2
+returns-then-ipiv-i-2 c = rw (run-of-four, lt-ltb _ _ c.if-ipiv-i.left, le-ltb _ _ c.if-ipiv-i-2.taken)
+
+pub returns-then-ipiv-i-3 : goal.returns-then-ipiv-i-3
+returns-then-ipiv-i-3 c =
+    let t2 = c in
+    let t1 = t2 in
+    rw (run-of-four, lt-ltb _ _ t1.if-ipiv-i.left, lt-ltb _ _ t2.if-ipiv-i-2.left, le-ltb _ _ c.if-ipiv-i-3.taken)
+
+pub returns : goal.returns
+returns c =
+    let t3 = c in
+    let t2 = t3 in
+    let t1 = t2 in
+    rw (run-of-four, lt-ltb _ _ t1.if-ipiv-i.left, lt-ltb _ _ t2.if-ipiv-i-2.left, lt-ltb _ _ t3.if-ipiv-i-3.left)

@@ -1,0 +1,41 @@
+-- `orders` meets its contract: each test is one of the definition's, in its order.
+-- Assumes nothing.
+use native.Mathlib.Omega.{arith}
+use borrow.Author.Rules.{rules}
+use borrow.Author.Tests.{eq-eqb, ne_eqb, lt-ltb, le-ltb, lt-leb, le-leb}
+use Rattle.common.proofs.Laws.{small_product}
+use Rattle.session.specs.Session.{orders_in_range}
+use Rattle.session.proofs.ranges.orders.Goals as goal
+
+pub returns-then-c : goal.returns-then-c
+unfolding orders_in_range
+returns-then-c c = rw (le-ltb _ _ c.if-c.taken)
+
+pub returns-then-c-s-ne0 : goal.returns-then-c-s-ne0
+unfolding orders_in_range
+returns-then-c-s-ne0 c = rw (lt-ltb _ _ c.if-c.left, ne_eqb _ _ c.if-c-s-ne0.taken)
+
+pub overflow_mul-c : goal.overflow_mul-c
+overflow_mul-c c =
+    let a = c in
+    omega (arith, small_product a.args.c.nq a.args.s.n a.pre.2 a.pre.1)
+
+pub returns-then-c-s : goal.returns-then-c-s
+unfolding orders_in_range
+returns-then-c-s c =
+    let t2 = c in
+    let t1 = t2 in
+    rw (lt-ltb _ _ t1.if-c.left, eq-eqb _ _ t2.if-c-s-ne0.left, lt-leb _ _ c.if-c-s.taken)
+
+pub overflow_mul-result : goal.overflow_mul-result
+overflow_mul-result c =
+    let a = c in
+    omega (arith, a.pre.1)
+
+pub returns : goal.returns
+unfolding orders_in_range
+returns c =
+    let t3 = c in
+    let t2 = t3 in
+    let t1 = t2 in
+    rw (lt-ltb _ _ t1.if-c.left, eq-eqb _ _ t2.if-c-s-ne0.left, le-leb _ _ t3.if-c-s.left)

@@ -1,0 +1,19 @@
+-- `pivots_below` meets its contract. The invariant of both loops: the pivots that are left give what all give.
+-- Assumes nothing.
+use mathlib.Core.Path.{◌≡◌, refl, sym, ◌∙◌}
+use mathlib.Core.Bool.{true}
+use Prim.Native.Nat.{◌+◌, ◌-◌, ◌*◌, ◌/◌, ◌≤◌}
+use native.Mathlib.Omega.{arith}
+use lib.ListN.{length}
+use borrow.Author.Tests.{lt-ltb, le-ltb, not-true, not-false}
+use Rattle.loops.specs.For.{for}
+use Rattle.session.specs.Session.{every, and_at, pivot_below, pivots_below}
+use Rattle.session.proofs.Every.{every-again, every-fails, every-ends, run-again, run-fails}
+use Rattle.session.proofs.ranges.pivots_below.Given as goal
+
+abbrev pub invariant-loop-k : goal.invariant-loop-k
+invariant-loop-k l =
+    (l.k ≤ l.k-end) × (for (4 * l.k) (length l.ipiv) (and_at (pivot_below l.ipiv l.n)) true ≡ pivots_below l.ipiv l.n)
+
+abbrev pub invariant-loop-i : goal.invariant-loop-i
+invariant-loop-i l = for l.i (length l.ipiv) (and_at (pivot_below l.ipiv l.n)) true ≡ pivots_below l.ipiv l.n

@@ -1,0 +1,42 @@
+-- `words` meets its contract: all counts in two runs.
+-- Assumes nothing.
+use mathlib.Core.Path.{◌≡◌, sym, ◌∙◌}
+use mathlib.Core.Bool.{true}
+use mathlib.Core.List.{List}
+use Prim.Native.Nat.{ℕ, ◌/◌}
+use native.Mathlib.Omega.{arith}
+use borrow.Author.Rules.{rules}
+use borrow.Author.Tests.{not-true, not-false}
+use Rattle.loops.specs.For.{for}
+use Rattle.common.specs.SessionWords.{count_words}
+use Rattle.session.specs.Session.{every, and_at, word_in_range}
+use Rattle.session.proofs.Every.{every-parts, lost-for}
+use Rattle.session.proofs.ranges.words.Goals as goal
+
+abbrev half : ℕ
+half = count_words / 2
+
+halves : (u : List ℕ) → every (word_in_range u) count_words
+    ≡ for half count_words (and_at (word_in_range u)) (for 0 half (and_at (word_in_range u)) true)
+halves u = every-parts (word_in_range u) half count_words (omega arith)
+
+pub run-requires : goal.run-requires
+run-requires c =
+    let h = c in
+    (h.lowest-low.ensures, h.highest-high.ensures, omega arith, omega arith)
+
+pub returns-then-not-run : goal.returns-then-not-run
+returns-then-not-run c =
+    let u = c.args.u.now in
+    rw (halves u, sym c.run.ensures ∙ not-true _ c.if-not-run.taken)
+    (sym (lost-for (word_in_range u) half count_words))
+
+pub run-requires-2 : goal.run-requires-2
+run-requires-2 c =
+    let h = c in
+    (h.lowest-low.ensures, h.highest-high.ensures, omega arith, omega arith)
+
+pub returns : goal.returns
+returns c =
+    let f = c in
+    rw (halves _, sym f.run.ensures ∙ not-false _ f.if-not-run.left) c.run-2.ensures

@@ -1,0 +1,32 @@
+use Prim.Native.Nat.{◌-◌, ◌≤◌, ◌^◌}
+use mathlib.Core.Path.{◌≡◌, refl, sym, ap}
+use native.Mathlib.Omega.{arith}
+use lib.Pow.{pow_mono}
+use Rattle.loops.specs.For.{for}
+use Rattle.loops.proofs.For.{onward, ended}
+use Rattle.sqrt.specs.Sqrt.{digit_turn, digits_of}
+use Rattle.sqrt.proofs.Turns.{Kept, starts, turned}
+use Rattle.sqrt.proofs.root_digits.Goals as goal
+
+pub loop-init : goal.loop-init
+loop-init c = (omega arith, starts c.args.n c.requires, refl)
+
+pub digit-s-requires : goal.digit-s-requires
+digit-s-requires c =
+    let k = c.loop.invariant.1 in
+    let h : c.loop.counter ≤ 54 = omega arith in
+    let p : 2 ^ c.loop.counter ≤ 2 ^ 54 = pow_mono h in
+    omega (arith, p, k.close, k.short, k.left)
+
+pub loop-preserved : goal.loop-preserved
+loop-preserved c =
+    let l = c.loop in
+    let e = c.digit-s.ensures in
+    let r = onward digit_turn l.counter 54 l.s c.digit-s.result _ (omega arith) (sym e) l.invariant.2 in
+    (omega arith, rw e (turned _ _ _ l.invariant.1), r)
+
+pub returns : goal.returns
+unfolding digits_of
+returns c =
+    let l = c.loop in
+    ap (λ s. s.root) (ended digit_turn l.counter 54 l.s _ (omega arith) l.invariant.2)

@@ -1,0 +1,23 @@
+use Prim.Native.Nat.{◌-◌}
+use mathlib.Core.Path.{◌≡◌, refl}
+use native.Mathlib.Omega.{arith}
+use borrow.Author.Rules.{rules}
+use lib.ListN.{length, length-set}
+use Rattle.loops.specs.For.{for}
+use Rattle.loops.proofs.For.{again, ended}
+use Rattle.vectors.specs.Weights.{ewset_like_at, ewset_like_of}
+use Rattle.vectors.proofs.ewset_scalar_like.Goals as goal
+
+pub loop-i-init : goal.loop-i-init
+unfolding ewset_like_of
+loop-i-init c = (refl, refl)
+
+pub loop-i-preserved : goal.loop-i-preserved
+loop-i-preserved c =
+    let l = c in (
+      simp length-set (omega arith),
+      rw (c.max.ensures, c.abs.ensures) (again _ _ _ _ _ (omega arith) l.loop-i.invariant.1),
+    )
+
+pub returns : goal.returns
+returns c = ended _ _ _ _ _ (omega arith) c.loop-i.invariant.1

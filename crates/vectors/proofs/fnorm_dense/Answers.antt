@@ -1,0 +1,45 @@
+use Prim.Native.Nat.{◌+◌, ◌-◌, ◌*◌, ◌/◌, ◌≤◌}
+use mathlib.Core.Path.{◌≡◌, refl, ap}
+use native.Mathlib.Omega.{arith}
+use borrow.Author.Rules.{rules}
+use lib.Ieee.{Float}
+use Rattle.loops.specs.For.{for}
+use Rattle.loops.proofs.For.{again, again-four, ended}
+use Rattle.vectors.specs.Norm.{fnorm_turn, fnorm_of}
+use Rattle.numbers.proofs.Order.{Number}
+use Rattle.vectors.proofs.Largest.{max-larger, zero_number}
+use Rattle.vectors.proofs.fnorm_dense.Goals as goal
+
+pub loop-k-init : goal.loop-k-init
+unfolding fnorm_of
+loop-k-init c = (refl, omega arith, zero_number, refl)
+
+pub loop-k-preserved : goal.loop-k-preserved
+loop-k-preserved c =
+    let s = c in
+    let l = c.loop-k in
+    let next : 4 * (l.k + 1) ≡ 4 * l.k + 4 = omega arith in (
+      l.invariant.0,
+      omega arith,
+      rw c.four_rows-an.ensures
+          ((max-larger _ _).number ((max-larger _ _).number ((max-larger _ _).number ((max-larger _ _).number l.invariant.2)))),
+      rw (next, c.four_rows-an.ensures) (again-four _ (4 * l.k) s.args.n _ _ (omega arith) l.invariant.3),
+    )
+
+pub loop-i-init : goal.loop-i-init
+loop-i-init c =
+    let l = c.loop-k in
+    let whole : 4 * l.k ≡ c.args.n / 4 * 4 = omega arith in
+    (l.invariant.2, rw (← whole) l.invariant.3)
+
+pub loop-i-preserved : goal.loop-i-preserved
+loop-i-preserved c =
+    let l = c.loop-i.invariant in (
+      rw c.larger-an.ensures ((max-larger _ _).number l.0),
+      rw (c.larger-an.ensures, c.row_sum.ensures) (again _ _ _ _ _ (omega arith) l.1),
+    )
+
+pub returns : goal.returns
+unfolding fnorm_of
+returns c =
+    ap (λ (x : Float). record { value = x }) (ended _ _ _ _ _ (omega arith) c.loop-i.invariant.1)

@@ -1,0 +1,23 @@
+-- `invert_weights` meets its contract. The invariant: the weights that are left give the whole inversion; after one
+-- that was refused, no later one changes anything. Assumes nothing.
+use Prim.Native.Nat.{ℕ, ◌+◌, ◌-◌}
+use mathlib.Core.Path.{◌≡◌, refl, sym, ap, ◌∙◌}
+use mathlib.Core.List.{List}
+use mathlib.Core.Bool.{true, false}
+use native.Mathlib.Omega.{arith}
+use lib.ListN.{length, get_or, set, length-set}
+use lib.Ieee as Ieee
+use lib.Ieee.{Float, nan}
+use Rattle.loops.specs.For.{for}
+use Rattle.loops.proofs.For.{onward, ended, stays}
+use Rattle.numbers.specs.Float.{◌⊘◌, zero_f, one_f}
+use Rattle.vectors.specs.Weights.{Inversion, invert_at, invert_of, weights_outcome}
+use Rattle.vectors.proofs.invert_weights.Given as goal
+
+abbrev going : List Float → Inversion
+going ewt = record { ewt = ewt; refused = false; index = 0 }
+
+abbrev pub invariant-loop-i : goal.invariant-loop-i
+invariant-loop-i l =
+    (l.i-end ≡ length l.initial.ewt) × (length l.ewt ≡ length l.initial.ewt) ×
+    (for l.i (length l.initial.ewt) invert_at (going l.ewt) ≡ invert_of l.initial.ewt)

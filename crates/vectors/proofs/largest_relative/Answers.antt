@@ -1,0 +1,26 @@
+use Prim.Native.Nat.{◌-◌}
+use mathlib.Core.Path.{◌≡◌, refl}
+use native.Mathlib.Omega.{arith}
+use lib.ListN.{length}
+use Rattle.loops.specs.For.{for}
+use Rattle.loops.proofs.For.{again, ended}
+use Rattle.vectors.specs.FirstStep.{relative_at, relative_of}
+use Rattle.vectors.proofs.Laws.{serves}
+use Rattle.vectors.proofs.largest_relative.Goals as goal
+
+pub loop-i-init : goal.loop-i-init
+unfolding relative_of
+loop-i-init c = (refl, refl)
+
+pub relative-tol-requires : goal.relative-tol-requires
+relative-tol-requires c =
+    let s = c in
+    (serves s.args.atol.now _ _ (omega arith) s.requires, omega arith)
+
+pub loop-i-preserved : goal.loop-i-preserved
+loop-i-preserved c =
+    let l = c in
+    (l.loop-i.invariant.0, rw c.relative-tol.ensures (again _ _ _ _ _ (omega arith) l.loop-i.invariant.1))
+
+pub returns : goal.returns
+returns c = ended _ _ _ _ _ (omega arith) c.loop-i.invariant.1

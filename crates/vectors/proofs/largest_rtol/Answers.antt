@@ -1,0 +1,26 @@
+use Prim.Native.Nat.{◌-◌}
+use mathlib.Core.Path.{◌≡◌, refl}
+use native.Mathlib.Omega.{arith}
+use borrow.Author.Rules.{rules}
+use Rattle.loops.specs.For.{for}
+use Rattle.loops.proofs.For.{again, ended}
+use Rattle.vectors.specs.FirstStep.{largest_rtol_at, largest_rtol_of}
+use Rattle.vectors.proofs.Laws.{serves}
+use Rattle.vectors.proofs.largest_rtol.Goals as goal
+
+pub loop-i-init : goal.loop-i-init
+unfolding largest_rtol_of
+loop-i-init c = refl
+
+pub tolerance-requires : goal.tolerance-requires
+tolerance-requires c =
+    let s = c in
+    serves s.args.rtol.now _ _ (omega arith) s.requires
+
+pub loop-i-preserved : goal.loop-i-preserved
+loop-i-preserved c =
+    let l = c in
+    rw (c.max-tol.ensures, c.tolerance.ensures) (again _ _ _ _ _ (omega arith) l.loop-i.invariant)
+
+pub returns : goal.returns
+returns c = ended _ _ _ _ _ (omega arith) c.loop-i.invariant

@@ -1,0 +1,12 @@
+-- `relative` meets its contract: each way returns what `relative_at` picks under the test that led there.
+-- Assumes nothing.
+use borrow.Author.Rules.{rules}
+use Rattle.vectors.proofs.relative.Goals as goal
+
+pub returns-then-y-i : goal.returns-then-y-i
+returns-then-y-i c =
+    let t = c in
+    rw (t.if-y-i.true, c.max.ensures, c.abs.ensures, t.tolerance.ensures)
+
+pub returns : goal.returns
+returns c = rw c.if-y-i.false

@@ -1,0 +1,23 @@
+use Prim.Native.Nat.{◌-◌}
+use mathlib.Core.Path.{◌≡◌, refl}
+use native.Mathlib.Omega.{arith}
+use Rattle.loops.specs.For.{for}
+use Rattle.loops.proofs.For.{again, ended, within}
+use Rattle.vectors.specs.Norm.{row_at, row_of}
+use Rattle.vectors.proofs.row_sum.Goals as goal
+
+pub loop-j-init : goal.loop-j-init
+unfolding row_of
+loop-j-init c = refl
+
+pub add_entry-sum-requires : goal.add_entry-sum-requires
+add_entry-sum-requires c =
+    let l = c in
+    let s = l in
+    (s.requires.0, omega (arith, within s.args.n s.args.n l.loop-j.j c.loop-j-test.true), omega arith)
+
+pub loop-j-preserved : goal.loop-j-preserved
+loop-j-preserved c = rw c.add_entry-sum.ensures (again _ _ _ _ _ (omega arith) c.loop-j.invariant)
+
+pub returns : goal.returns
+returns c = ended _ _ _ _ _ (omega arith) c.loop-j.invariant

@@ -1,0 +1,37 @@
+use Prim.Native.Nat.{◌+◌, ◌-◌}
+use mathlib.Core.Path.{◌≡◌, refl}
+use native.Mathlib.Omega.{arith}
+use Rattle.loops.specs.For.{for}
+use Rattle.loops.proofs.For.{again, ended, within}
+use Rattle.vectors.specs.Norm.{row_at, row_of}
+use Rattle.vectors.proofs.row_sums.Goals as goal
+
+pub loop-j-init : goal.loop-j-init
+unfolding row_of
+loop-j-init c = (refl, refl, refl, refl)
+
+pub add_entries-s-requires : goal.add_entries-s-requires
+add_entries-s-requires c =
+    let l = c in
+    let s = l in
+    (s.requires.0, omega (arith, within s.args.n s.args.n l.loop-j.j c.loop-j-test.true), omega arith)
+
+pub loop-j-preserved : goal.loop-j-preserved
+loop-j-preserved c =
+    let l = c.loop-j.invariant in
+    rw c.add_entries-s.ensures (
+      again _ _ _ _ _ (omega arith) l.0,
+      again _ _ _ _ _ (omega arith) l.1,
+      again _ _ _ _ _ (omega arith) l.2,
+      again _ _ _ _ _ (omega arith) l.3,
+    )
+
+pub returns : goal.returns
+returns c =
+    let l = c.loop-j.invariant in
+    rw (
+      ended _ _ _ _ _ (omega arith) l.0,
+      ended _ _ _ _ _ (omega arith) l.1,
+      ended _ _ _ _ _ (omega arith) l.2,
+      ended _ _ _ _ _ (omega arith) l.3,
+    )

@@ -1,0 +1,16 @@
+-- `tolerance_used` meets its contract: each way returns the clamp that the definition picks under the test that led
+-- there. Assumes nothing.
+use borrow.Author.Rules.{rules}
+use Rattle.vectors.specs.FirstStep.{tolerance_used_of}
+use Rattle.vectors.proofs.tolerance_used.Goals as goal
+
+pub returns-then-tol : goal.returns-then-tol
+unfolding tolerance_used_of
+returns-then-tol c =
+    let l = c in
+    rw (c.clamp.ensures, c.largest_relative.ensures, ← l.largest_rtol-tol.ensures, l.if-tol.true)
+
+pub returns : goal.returns
+unfolding tolerance_used_of
+returns c =
+    rw (c.clamp-2.ensures, ← c.largest_rtol-tol.ensures, c.if-tol.false)

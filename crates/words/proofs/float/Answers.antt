@@ -1,0 +1,8 @@
+-- `float` meets its contract.
+-- Assumes nothing.
+use mathlib.Core.Path.{◌∙◌}
+use borrow.Author.Rules.{rules}
+use Rattle.words.proofs.float.Goals as goal
+
+pub returns : goal.returns
+returns c = c.from_bits.ensures ∙ rw c.get.ensures

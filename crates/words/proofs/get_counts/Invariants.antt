@@ -1,0 +1,14 @@
+-- `get_counts` meets its contract. The invariant: the words that are left give the whole row.
+-- Assumes nothing.
+use mathlib.Core.Path.{◌≡◌, refl}
+use Prim.Native.Nat.{◌-◌}
+use native.Mathlib.Omega.{arith}
+use lib.ListN.{length, length-set}
+use Rattle.loops.specs.For.{for}
+use Rattle.loops.proofs.For.{onward, ended}
+use Rattle.words.specs.Words.{count_at, counts_over}
+use Rattle.words.proofs.get_counts.Given as goal
+
+abbrev pub invariant-loop-i : goal.invariant-loop-i
+invariant-loop-i l =
+    (length l.list ≡ length l.initial.list) × (for l.i l.k (count_at l.bytes l.at) l.list ≡ counts_over l.bytes l.at l.k l.initial.list)

@@ -1,0 +1,22 @@
+use mathlib.Core.Path.{◌≡◌, refl, sym, ap, ◌∙◌}
+use Prim.Native.Nat.{◌-◌}
+use native.Mathlib.Omega.{arith}
+use lib.ListN.{length}
+use Rattle.loops.specs.For.{for}
+use Rattle.loops.proofs.For.{onward, ended}
+use Rattle.words.specs.Words.{put_count_at, put_counts_of}
+use Rattle.words.proofs.Eight.{length-put}
+use Rattle.words.proofs.put_counts.Goals as goal
+
+pub loop-i-init : goal.loop-i-init
+unfolding put_counts_of
+loop-i-init c = (refl, refl, refl)
+
+pub loop-i-preserved : goal.loop-i-preserved
+loop-i-preserved c =
+    let l = c.loop-i in
+    let e = c.put.ensures in
+    (l.invariant.0, ap length e ∙ length-put _ _ _ ∙ l.invariant.1, onward _ _ _ _ _ _ (omega arith) (sym e) l.invariant.2)
+
+pub returns : goal.returns
+returns c = ended _ _ _ _ _ (omega arith) c.loop-i.invariant.2
