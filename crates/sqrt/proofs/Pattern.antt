@@ -99,6 +99,7 @@ pub record Evened (x y : Normal) : Type 0 where
 
 -- a factor 2 that the exponent lends to the digits
 lent : (d e : ℕ) → 1 ≤ e → 2 * d * 2 ^ (e - 1) ≡ d * 2 ^ e
+lent d zero h = elim h [ ]
 lent d (suc e) h =
     let q : suc e - 1 ≡ e = omega arith in
     rw (q, pow-suc 2 e) (omega arith)

@@ -69,22 +69,22 @@ pub change_family-requires : goal.change_family-requires
 unfolding order_within
 change_family-requires c =
     let j = c in
-    let q = rw (← change j, c.change-1.given.1) at (within j) in
-    (j.requires.step_in_range, (q.0, q.1, omega arith))
+    let q = rw (← change j, c.in-To.is) at (within j) in
+    record { step_in_range = j.requires.step_in_range; le_order = (q.0, q.1, omega arith) }
 
 pub returns-in-Stay : goal.returns-in-Stay
 unfolding tested_of
 returns-in-Stay c =
     let e = c in
-    rw (← tested e, e.enum_told-1.given.1) c.keep_family.ensures
+    rw (← tested e, e.in-Stay.is) c.keep_family.ensures
 
 pub returns-in-Gap : goal.returns-in-Gap
 unfolding tested_of
-returns-in-Gap c = rw (← tested c, c.enum_told-in-Gap-1.given.1)
+returns-in-Gap c = rw (← tested c, c.in-Gap.is)
 
 pub returns-in-To : goal.returns-in-To
 unfolding tested_of
 returns-in-To c =
     let e = c in
-    rw (← tested e, e.change-1.given.1)
+    rw (← tested e, e.in-To.is)
     (ap changed_family c.change_family.ensures)

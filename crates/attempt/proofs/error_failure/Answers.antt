@@ -10,7 +10,7 @@ unfolding overshot_of
 missed-requires c =
     let r = c in
     let a = r in
-    (rw r.retract-d.ensures.0 (in-range-overshot a.args.s a.args.c a.requires.step_in_range), search rules)
+    record { step_in_range = rw r.retract-d.ensures.0 (in-range-overshot a.args.s a.args.c a.requires.step_in_range); n_in_bounds = search rules }
 
 pub returns : goal.returns
 unfolding failed_of overshot_of

@@ -36,7 +36,7 @@ repredict-requires c =
     let r = t in
     let a = r in
     let p = in-range-unconverged a.args.s a.args.c a.requires.step_in_range in
-    (rw r.retract-d.ensures.0 (same-range _ refl refl refl refl p), search rules)
+    record { step_in_range = rw r.retract-d.ensures.0 (same-range _ refl refl refl refl p); n_in_bounds = search rules }
 
 pub returns : goal.returns
 unfolding no_convergence_of no_convergence_at unconverged_of quartered_of

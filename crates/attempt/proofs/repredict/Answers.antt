@@ -9,7 +9,7 @@ stoda_get_predicted_values-requires c =
     let x = c in
     let a = x in
     let e = x.stoda_adjust_step_size-d.ensures in
-    (rw e.0 (in-range-adjust a.args.s a.args.c a.args.rh a.requires.step_in_range), search rules)
+    record { step_in_range = rw e.0 (in-range-adjust a.args.s a.args.c a.args.rh a.requires.step_in_range); n_in_bounds = search rules }
 
 pub returns : goal.returns
 unfolding repredict_of

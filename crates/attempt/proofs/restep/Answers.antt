@@ -17,7 +17,7 @@ returns-then-c-eq1 c =
 pub stoda_get_predicted_values-requires-2 : goal.stoda_get_predicted_values-requires-2
 stoda_get_predicted_values-requires-2 c =
     let a = c in
-    (rw c.stoda_reset.ensures (in-range-lowered a.args.s a.args.c a.requires.step_in_range _), search rules)
+    record { step_in_range = rw c.stoda_reset.ensures (in-range-lowered a.args.s a.args.c a.requires.step_in_range _); n_in_bounds = search rules }
 
 pub returns : goal.returns
 unfolding restep_of

@@ -23,7 +23,7 @@ returns-in-Singular c =
     let a = r.args in
     let n = a.s.n in
     let sol = solve_of n (matrix_at n) a.ipiv.now (y_at n) r.bdf_residual.new.0 in
-    let no = ok-singular sol.ok (sym x.dense_lu_solve.ensures.1 ∙ c.enum_told-1.given.1) in
+    let no = ok-singular sol.ok (sym x.dense_lu_solve.ensures.1 ∙ c.in-Singular.is) in
     rw (← r.bdf_residual.ensures, no, x.dense_lu_solve.ensures.0)
 
 pub returns-in-Done : goal.returns-in-Done
@@ -38,7 +38,7 @@ returns-in-Done c =
     let a = r.args in
     let n = a.s.n in
     let sol = solve_of n (matrix_at n) a.ipiv.now (y_at n) r.bdf_residual.new.0 in
-    let yes = ok-done sol.ok (sym x.dense_lu_solve.ensures.1 ∙ t.enum_told-in-Done-1.given.1) in
+    let yes = ok-done sol.ok (sym x.dense_lu_solve.ensures.1 ∙ t.in-Done.is) in
     rw (
       ← r.bdf_residual.ensures,
       yes,

@@ -17,5 +17,5 @@ use Rattle.dense.proofs.dense_lu_solve.Given as goal
 abbrev pub invariant-loop-kb : goal.invariant-loop-kb
 invariant-loop-kb l =
     (length l.work ≡ length l.initial.work) ×
-    (for l.kb l.n (backward_step_of l.n l.a l.b) (record { l.work = l.work; ok = true })
-    ≡ for 0 l.n (backward_step_of l.n l.a l.b) (record { l.work = l.initial.work; ok = true }))
+    (for l.kb l.n (backward_step_of l.n l.a l.b) (record { work = l.work; ok = true })
+    ≡ for 0 l.n (backward_step_of l.n l.a l.b) (record { work = l.initial.work; ok = true }))

@@ -14,5 +14,5 @@ use Rattle.history.proofs.rescale_columns.Given as goal
 
 abbrev pub invariant-loop-j : goal.invariant-loop-j
 invariant-loop-j l =
-    let begun : Rescaled = record { l.r = one_f; l.yh = l.initial.yh } in
-    (length l.yh ≡ length l.initial.yh) × (for l.j l.l (rescale_at l.n l.rh) (record { l.r = l.r; l.yh = l.yh }) ≡ for 1 l.l (rescale_at l.n l.rh) begun)
+    let begun : Rescaled = record { r = one_f; yh = l.initial.yh } in
+    (length l.yh ≡ length l.initial.yh) × (for l.j l.l (rescale_at l.n l.rh) (record { r = l.r; yh = l.yh }) ≡ for 1 l.l (rescale_at l.n l.rh) begun)

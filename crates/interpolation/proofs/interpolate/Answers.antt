@@ -19,7 +19,7 @@ pub interpolate_sized-requires : goal.interpolate_sized-requires
 interpolate_sized-requires c =
     let d = c in
     let cont = d.args.cont.now in
-    let r = header-reads cont d.z-1.given.0.0 (sym d.read_header.ensures ∙ d.z-1.given.1) in
+    let r = header-reads cont d.in-Read.z (sym d.read_header.ensures ∙ d.in-Read.is) in
     (r.states.0, r.order.0, r.long)
 
 pub returns-in-Refused : goal.returns-in-Refused
@@ -27,7 +27,7 @@ unfolding interpolate_of
 returns-in-Refused c =
     let a = c.args in
     let other = ne_eqb (length a.cont.now) (length a.yi.now) (λ q. omega arith) in
-    rw (other, ← c.read_header.ensures, c.enum_told-1.given.1)
+    rw (other, ← c.read_header.ensures, c.in-Refused.is)
 
 pub returns-in-Read : goal.returns-in-Read
 unfolding interpolate_of
@@ -36,4 +36,4 @@ returns-in-Read c =
     let a = d.args in
     let other = ne_eqb (length a.cont.now) (length a.yi.now) (λ q. omega arith) in
     let answer = c.interpolate_sized.ensures in
-    rw (other, ← d.read_header.ensures, d.z-1.given.1) answer
+    rw (other, ← d.read_header.ensures, d.in-Read.is) answer

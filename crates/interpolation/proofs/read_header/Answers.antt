@@ -15,7 +15,7 @@ unfolding read_header_of
 returns-in-NotWhole c =
     let cont = c.args.cont.now in
     let long = le-ltb (length cont) 6 (omega arith) in
-    rw (long, ← c.whole_count.ensures, c.enum_told-1.given.1)
+    rw (long, ← c.whole_count.ensures, c.in-NotWhole.is)
 
 pub returns-in-NotWhole-whole_count : goal.returns-in-NotWhole-whole_count
 unfolding read_header_of
@@ -24,7 +24,7 @@ returns-in-NotWhole-whole_count c =
     let cont = d.args.cont.now in
     let long = le-ltb (length cont) 6 (omega arith) in
     let order = c.whole_count-in-Is.ensures in
-    rw (long, ← d.whole_count.ensures, d.n-1.given.1, ← order, c.enum_told-in-NotWhole-whole_count-1.given.1)
+    rw (long, ← d.whole_count.ensures, d.in-Is.is, ← order, c.in-NotWhole-whole_count.is)
 
 pub returns-in-Is-whole_count : goal.returns-in-Is-whole_count
 unfolding read_header_of
@@ -34,4 +34,4 @@ returns-in-Is-whole_count c =
     let cont = d.args.cont.now in
     let long = le-ltb (length cont) 6 (omega arith) in
     let order = e.whole_count-in-Is.ensures in
-    rw (long, ← d.whole_count.ensures, d.n-1.given.1, ← order, e.nq-1.given.1)
+    rw (long, ← d.whole_count.ensures, d.in-Is.is, ← order, e.in-Is-whole_count.is)

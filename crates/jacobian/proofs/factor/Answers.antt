@@ -12,7 +12,7 @@ returns-in-Done c =
     let x = i.args in
     let f = rw i.add_identity.ensures at d.dense_lu_factor.ensures in
     let factors = identity_factors_of x.n x.a.now x.ipiv.now in
-    let flag = ok-done factors.ok (sym f.2 ∙ c.enum_told-1.given.1) in
+    let flag = ok-done factors.ok (sym f.2 ∙ c.in-Done.is) in
     (f.0, f.1, sym flag)
 
 pub returns-in-Singular : goal.returns-in-Singular
@@ -22,5 +22,5 @@ returns-in-Singular c =
     let x = i.args in
     let f = rw i.add_identity.ensures at d.dense_lu_factor.ensures in
     let factors = identity_factors_of x.n x.a.now x.ipiv.now in
-    let flag = ok-singular factors.ok (sym f.2 ∙ c.enum_told-in-Singular-1.given.1) in
+    let flag = ok-singular factors.ok (sym f.2 ∙ c.in-Singular.is) in
     (f.0, f.1, sym flag)

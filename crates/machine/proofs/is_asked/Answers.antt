@@ -69,27 +69,24 @@ module _ (len n : ℕ) where
   derivatives Phase.Modified k h = refl
   derivatives Phase.Finished k h = absurd (miss (0 ∷ 2 ∷ 3 ∷ 5 ∷ 6 ∷ 7 ∷ 9 ∷ []) 10 tt h)
 
-pub enum_told-1 : goal.enum_told-1
-enum_told-1 c = search rules
-
 pub overflow_mul-result : goal.overflow_mul-result
 overflow_mul-result c = let a = c in omega (arith, mul-le-mul_right a.args.n a.requires)
 
 pub returns-in-Finished : goal.returns-in-Finished
-returns-in-Finished c = rw c.enum_told-1.given.1
+returns-in-Finished c = rw c.in-Finished.is
 
 pub returns-in-Jacobian : goal.returns-in-Jacobian
-returns-in-Jacobian c = rw (c.enum_told-in-JacobianAsked-1.given.1, c.enum_told-in-Jacobian-1.given.1)
+returns-in-Jacobian c = rw (c.in-JacobianAsked.is, c.in-Jacobian.is)
 
 pub returns-in-Derivative : goal.returns-in-Derivative
 returns-in-Derivative c =
     let a = c.args in
-    rw c.enum_told-in-JacobianAsked-1.given.1 (sym (no-jacobian a.len a.n a.kind c.in-Derivative.keys2))
+    rw c.in-JacobianAsked.is (sym (no-jacobian a.len a.n a.kind c.in-Derivative.keys2))
 
 pub returns-in-Report : goal.returns-in-Report
 returns-in-Report c =
     let a = c.args in
-    rw (answers a.len a.n a.phase a.kind c.in-FirstDerivative.keys3, c.enum_told-in-Report-1.given.1)
+    rw (answers a.len a.n a.phase a.kind c.in-FirstDerivative.keys3, c.in-Report.is)
 
 pub returns-in-Derivative-kind : goal.returns-in-Derivative-kind
 returns-in-Derivative-kind c =
@@ -100,7 +97,7 @@ returns-in-Derivative-kind c =
 pub returns-in-Derivative-kind-2 : goal.returns-in-Derivative-kind-2
 returns-in-Derivative-kind-2 c =
     let a = c.args in
-    rw (derivatives a.len a.n a.phase a.kind c.in-FirstDerivative.keys4, c.enum_told-in-Derivative-kind-2-1.given.1)
+    rw (derivatives a.len a.n a.phase a.kind c.in-FirstDerivative.keys4, c.in-Derivative-kind-2.is)
 
 pub returns-in-Jacobian-kind : goal.returns-in-Jacobian-kind
 returns-in-Jacobian-kind c =

@@ -20,13 +20,10 @@ returns-then-not-is_asked c =
     let x = i.args in
     sym (resume-unasked _ _ _ _ _ _ (sym i.is_asked.ensures ∙ not-true _ c.if-not-is_asked.taken))
 
-pub enum_told-1 : goal.enum_told-1
-enum_told-1 c = search rules
-
 pub first_derivative-requires : goal.first_derivative-requires
 first_derivative-requires c =
     let e = c in
-    let t = e.enum_told-1.given.1 in
+    let t = e.in-FirstDerivative.is in
     let a = e in
     let x = a.args in
     let i = e in
@@ -38,7 +35,7 @@ first_derivative-requires c =
 pub after_first_report-requires : goal.after_first_report-requires
 after_first_report-requires c =
     let e = c in
-    let t = e.enum_told-in-FirstReport-1.given.1 in
+    let t = e.in-FirstReport.is in
     let a = e in
     let x = a.args in
     let i = e in
@@ -50,7 +47,7 @@ after_first_report-requires c =
 pub first_modified-requires : goal.first_modified-requires
 first_modified-requires c =
     let e = c in
-    let t = e.enum_told-in-FirstModified-1.given.1 in
+    let t = e.in-FirstModified.is in
     let a = e in
     let x = a.args in
     let i = e in
@@ -62,7 +59,7 @@ first_modified-requires c =
 pub opened_reply-requires : goal.opened_reply-requires
 opened_reply-requires c =
     let e = c in
-    let t = e.enum_told-in-Opened-1.given.1 in
+    let t = e.in-Opened.is in
     let a = e in
     let x = a.args in
     let i = e in
@@ -74,7 +71,7 @@ opened_reply-requires c =
 pub jacobian_reply-requires : goal.jacobian_reply-requires
 jacobian_reply-requires c =
     let e = c in
-    let t = e.enum_told-in-JacobianAsked-1.given.1 in
+    let t = e.in-JacobianAsked.is in
     let a = e in
     let x = a.args in
     let i = e in
@@ -86,7 +83,7 @@ jacobian_reply-requires c =
 pub column_reply-requires : goal.column_reply-requires
 column_reply-requires c =
     let e = c in
-    let t = e.enum_told-in-DifferenceColumn-1.given.1 in
+    let t = e.in-DifferenceColumn.is in
     let a = e in
     let x = a.args in
     let i = e in
@@ -98,7 +95,7 @@ column_reply-requires c =
 pub further_reply-requires : goal.further_reply-requires
 further_reply-requires c =
     let e = c in
-    let t = e.enum_told-in-FurtherDerivative-1.given.1 in
+    let t = e.in-FurtherDerivative.is in
     let a = e in
     let x = a.args in
     let i = e in
@@ -110,7 +107,7 @@ further_reply-requires c =
 pub restep_reply-requires : goal.restep_reply-requires
 restep_reply-requires c =
     let e = c in
-    let t = e.enum_told-in-Restep-1.given.1 in
+    let t = e.in-Restep.is in
     let a = e in
     let x = a.args in
     let i = e in
@@ -122,7 +119,7 @@ restep_reply-requires c =
 pub after_report-requires : goal.after_report-requires
 after_report-requires c =
     let e = c in
-    let t = e.enum_told-in-Report-1.given.1 in
+    let t = e.in-Report.is in
     let a = e in
     let x = a.args in
     let i = e in
@@ -134,7 +131,7 @@ after_report-requires c =
 pub modified-requires : goal.modified-requires
 modified-requires c =
     let e = c in
-    let t = e.enum_told-in-Modified-1.given.1 in
+    let t = e.in-Modified.is in
     let a = e in
     let x = a.args in
     let i = e in
@@ -150,7 +147,7 @@ returns-in-FirstDerivative c =
     let i = e in
     let yes = sym i.is_asked.ensures ∙ not-false _ i.if-not-is_asked.left in
     c.first_derivative.ensures _
-    ∙ sym (resume-asked _ _ _ _ _ _ Phase.FirstDerivative e.enum_told-1.given.1 yes)
+    ∙ sym (resume-asked _ _ _ _ _ _ Phase.FirstDerivative e.in-FirstDerivative.is yes)
 
 pub returns-in-Report-kind : goal.returns-in-Report-kind
 unfolding resume_at
@@ -163,8 +160,8 @@ returns-in-Report-kind c =
     let st = state x.x.common x.work.now x.ipiv.now in
     c.after_first_report.ensures _
     ∙ sym (ap (λ (k : Kind). first_answered_of g st k x.reply.now x.time)
-    c.kind-1.given.1)
-    ∙ sym (resume-asked _ _ _ _ _ _ Phase.FirstReport e.enum_told-in-FirstReport-1.given.1 yes)
+    c.in-Report-kind.is)
+    ∙ sym (resume-asked _ _ _ _ _ _ Phase.FirstReport e.in-FirstReport.is yes)
 
 pub returns-in-Derivative : goal.returns-in-Derivative
 unfolding resume_at
@@ -175,9 +172,9 @@ returns-in-Derivative c =
     let yes = sym i.is_asked.ensures ∙ not-false _ i.if-not-is_asked.left in
     let g = given x.x.settings x.rtol.now x.atol.now in
     let st = state x.x.common x.work.now x.ipiv.now in
-    ap (λ (p : Phase). unasked p st) e.enum_told-in-FirstReport-1.given.1
+    ap (λ (p : Phase). unasked p st) e.in-FirstReport.is
     ∙ sym (first-unasked g st x.reply.now x.time x.kind c.in-Derivative.keys2)
-    ∙ sym (resume-asked _ _ _ _ _ _ Phase.FirstReport e.enum_told-in-FirstReport-1.given.1 yes)
+    ∙ sym (resume-asked _ _ _ _ _ _ Phase.FirstReport e.in-FirstReport.is yes)
 
 pub returns-in-FirstModified : goal.returns-in-FirstModified
 unfolding resume_at
@@ -186,7 +183,7 @@ returns-in-FirstModified c =
     let i = e in
     let yes = sym i.is_asked.ensures ∙ not-false _ i.if-not-is_asked.left in
     c.first_modified_run.ensures _
-    ∙ sym (resume-asked _ _ _ _ _ _ Phase.FirstModified e.enum_told-in-FirstModified-1.given.1 yes)
+    ∙ sym (resume-asked _ _ _ _ _ _ Phase.FirstModified e.in-FirstModified.is yes)
 
 pub returns-in-Opened : goal.returns-in-Opened
 unfolding resume_at
@@ -195,7 +192,7 @@ returns-in-Opened c =
     let i = e in
     let yes = sym i.is_asked.ensures ∙ not-false _ i.if-not-is_asked.left in
     c.opened_reply.ensures
-    ∙ sym (resume-asked _ _ _ _ _ _ Phase.Opened e.enum_told-in-Opened-1.given.1 yes)
+    ∙ sym (resume-asked _ _ _ _ _ _ Phase.Opened e.in-Opened.is yes)
 
 pub returns-in-JacobianAsked : goal.returns-in-JacobianAsked
 unfolding resume_at
@@ -204,7 +201,7 @@ returns-in-JacobianAsked c =
     let i = e in
     let yes = sym i.is_asked.ensures ∙ not-false _ i.if-not-is_asked.left in
     c.jacobian_reply.ensures
-    ∙ sym (resume-asked _ _ _ _ _ _ Phase.JacobianAsked e.enum_told-in-JacobianAsked-1.given.1 yes)
+    ∙ sym (resume-asked _ _ _ _ _ _ Phase.JacobianAsked e.in-JacobianAsked.is yes)
 
 pub returns-in-DifferenceColumn : goal.returns-in-DifferenceColumn
 unfolding resume_at
@@ -213,7 +210,7 @@ returns-in-DifferenceColumn c =
     let i = e in
     let yes = sym i.is_asked.ensures ∙ not-false _ i.if-not-is_asked.left in
     c.column_reply.ensures
-    ∙ sym (resume-asked _ _ _ _ _ _ Phase.DifferenceColumn e.enum_told-in-DifferenceColumn-1.given.1 yes)
+    ∙ sym (resume-asked _ _ _ _ _ _ Phase.DifferenceColumn e.in-DifferenceColumn.is yes)
 
 pub returns-in-FurtherDerivative : goal.returns-in-FurtherDerivative
 unfolding resume_at
@@ -222,7 +219,7 @@ returns-in-FurtherDerivative c =
     let i = e in
     let yes = sym i.is_asked.ensures ∙ not-false _ i.if-not-is_asked.left in
     c.further_reply.ensures
-    ∙ sym (resume-asked _ _ _ _ _ _ Phase.FurtherDerivative e.enum_told-in-FurtherDerivative-1.given.1 yes)
+    ∙ sym (resume-asked _ _ _ _ _ _ Phase.FurtherDerivative e.in-FurtherDerivative.is yes)
 
 pub returns-in-Restep : goal.returns-in-Restep
 unfolding resume_at
@@ -231,7 +228,7 @@ returns-in-Restep c =
     let i = e in
     let yes = sym i.is_asked.ensures ∙ not-false _ i.if-not-is_asked.left in
     c.restep_reply.ensures _
-    ∙ sym (resume-asked _ _ _ _ _ _ Phase.Restep e.enum_told-in-Restep-1.given.1 yes)
+    ∙ sym (resume-asked _ _ _ _ _ _ Phase.Restep e.in-Restep.is yes)
 
 pub returns-in-Report-kind-2 : goal.returns-in-Report-kind-2
 unfolding resume_at
@@ -244,8 +241,8 @@ returns-in-Report-kind-2 c =
     let st = state x.x.common x.work.now x.ipiv.now in
     c.after_report.ensures _
     ∙ sym (ap (λ (k : Kind). answered_of g st k x.reply.now x.time)
-    c.kind-in-Report-1.given.1)
-    ∙ sym (resume-asked _ _ _ _ _ _ Phase.Report e.enum_told-in-Report-1.given.1 yes)
+    c.in-Report-kind-2.is)
+    ∙ sym (resume-asked _ _ _ _ _ _ Phase.Report e.in-Report.is yes)
 
 pub returns-in-Derivative-kind : goal.returns-in-Derivative-kind
 unfolding resume_at
@@ -256,9 +253,9 @@ returns-in-Derivative-kind c =
     let yes = sym i.is_asked.ensures ∙ not-false _ i.if-not-is_asked.left in
     let g = given x.x.settings x.rtol.now x.atol.now in
     let st = state x.x.common x.work.now x.ipiv.now in
-    ap (λ (p : Phase). unasked p st) e.enum_told-in-Report-1.given.1
+    ap (λ (p : Phase). unasked p st) e.in-Report.is
     ∙ sym (report-unasked g st x.reply.now x.time x.kind c.in-Derivative-kind.keys2)
-    ∙ sym (resume-asked _ _ _ _ _ _ Phase.Report e.enum_told-in-Report-1.given.1 yes)
+    ∙ sym (resume-asked _ _ _ _ _ _ Phase.Report e.in-Report.is yes)
 
 pub returns-in-Modified : goal.returns-in-Modified
 unfolding resume_at
@@ -267,7 +264,7 @@ returns-in-Modified c =
     let i = e in
     let yes = sym i.is_asked.ensures ∙ not-false _ i.if-not-is_asked.left in
     c.modified.ensures _
-    ∙ sym (resume-asked _ _ _ _ _ _ Phase.Modified e.enum_told-in-Modified-1.given.1 yes)
+    ∙ sym (resume-asked _ _ _ _ _ _ Phase.Modified e.in-Modified.is yes)
 
 pub returns-in-Finished : goal.returns-in-Finished
 unfolding resume_at
@@ -277,5 +274,5 @@ returns-in-Finished c =
     let x = e.args in
     let yes = sym i.is_asked.ensures ∙ not-false _ i.if-not-is_asked.left in
     let st = state x.x.common x.work.now x.ipiv.now in
-    ap (λ (p : Phase). unasked p st) e.enum_told-in-Finished-1.given.1
-    ∙ sym (resume-asked _ _ _ _ _ _ Phase.Finished e.enum_told-in-Finished-1.given.1 yes)
+    ap (λ (p : Phase). unasked p st) e.in-Finished.is
+    ∙ sym (resume-asked _ _ _ _ _ _ Phase.Finished e.in-Finished.is yes)

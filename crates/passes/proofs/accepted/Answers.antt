@@ -30,9 +30,6 @@ closes g x order HeldBySm1 h = refl
 closes g x order FamilyChanged h = refl
 closes g x order CoefficientGap h = absurd (miss (0 ∷ 1 ∷ 2 ∷ 3 ∷ 4 ∷ 5 ∷ 6 ∷ []) 7 tt h)
 
-pub enum_told-1 : goal.enum_told-1
-enum_told-1 c = search rules
-
 pub end_step-requires : goal.end_step-requires
 end_step-requires c =
     let e = c in
@@ -56,7 +53,7 @@ unfolding accepted_of accepted_at
 returns-in-CoefficientGap c p =
     rw (
       ← c.accept-chosen.ensures,
-      c.enum_told-1.given.1,
+      c.in-CoefficientGap.is,
       c.finish.ensures,
     )
 

@@ -4,17 +4,14 @@ use borrow.Author.Rules.{rules}
 use Rattle.passes.specs.Pass.{end_step_of, closed_at}
 use Rattle.passes.proofs.end_step.Goals as goal
 
-pub enum_told-1 : goal.enum_told-1
-enum_told-1 c = search rules
-
 pub returns-in-Refused : goal.returns-in-Refused
 unfolding end_step_of closed_at
-returns-in-Refused c p = rw (← c.close.ensures, c.i-1.given.1)
+returns-in-Refused c p = rw (← c.close.ensures, c.in-Refused.is)
 
 pub returns-in-Inverted : goal.returns-in-Inverted
 unfolding end_step_of closed_at
 returns-in-Inverted c p =
     rw (
       ← c.close.ensures,
-      c.enum_told-1.given.1,
+      c.in-Inverted.is,
     ) (c.report.ensures p)

@@ -18,9 +18,6 @@ correct-x-requires c =
     let l = a.requires.list1or_n.1.1 in
     (in-range a.requires.inside, ((omega (arith, l.sized), omega (arith, l.pivots)), l.below))
 
-pub enum_told-1 : goal.enum_told-1
-enum_told-1 c = search rules
-
 pub error_test-requires : goal.error_test-requires
 error_test-requires c =
     let j = c in
@@ -52,7 +49,7 @@ pass_failed-requires c =
     let l = a.requires.list1or_n.1.1.sized in
     let w = ap (λ (k : Corrected). length k.work) x.correct-x.ensures ∙ length-iteration a.args.s
     a.args.c _ _ in
-    (p, omega (arith, l, w))
+    record { inside = p; n_in_bounds = omega (arith, l, w) }
 
 pub ask_in_step-requires : goal.ask_in_step-requires
 ask_in_step-requires c =
@@ -69,7 +66,7 @@ returns-in-Converged c =
       ← j.correct-x.ensures,
       ← j.norm_at-pnorm.ensures,
       ← j.judge-verdict.ensures,
-      c.enum_told-1.given.1,
+      c.in-Converged.is,
     )
     (c.error_test.ensures _)
 
@@ -81,7 +78,7 @@ returns-in-Retry c =
       ← j.correct-x.ensures,
       ← j.norm_at-pnorm.ensures,
       ← j.judge-verdict.ensures,
-      c.enum_told-in-Retry-1.given.1,
+      c.in-Retry.is,
     )
     (c.open_pass.ensures _)
 
@@ -93,7 +90,7 @@ returns-in-NoConvergence c =
       ← j.correct-x.ensures,
       ← j.norm_at-pnorm.ensures,
       ← j.judge-verdict.ensures,
-      c.enum_told-in-NoConvergence-1.given.1,
+      c.in-NoConvergence.is,
     )
     (c.pass_failed.ensures _)
 
@@ -105,6 +102,6 @@ returns-in-Further c =
       ← j.correct-x.ensures,
       ← j.norm_at-pnorm.ensures,
       ← j.judge-verdict.ensures,
-      c.enum_told-in-Further-1.given.1,
+      c.in-Further.is,
       c.ask_in_step.ensures,
     )

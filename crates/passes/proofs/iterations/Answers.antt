@@ -17,8 +17,8 @@ iterate-requires c =
     let o = c in
     let a = o in
     let p = a.requires in (
-      rw o.open_iterations-d.ensures.0 (inside-open p.0),
-      (p.1.0, (p.1.1.0, lent_length _ (omega arith) p.1.1.1)),
+      rw o.open_iterations-d.ensures.0 (inside-open p.inside),
+      (p.list1or_n.0, (p.list1or_n.1.0, lent_length _ (omega arith) p.list1or_n.1.1)),
     )
 
 pub returns : goal.returns

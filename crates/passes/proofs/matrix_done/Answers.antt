@@ -12,11 +12,11 @@ iterations-requires c =
     let a = f in
     let p = a.requires in
     let x = a.args in
-    let l = p.1.1.1.1 in
+    let l = p.nlu_bound.1.1.1 in
     let inside = rw (← f.finish_jacobian-f.ensures) at
-    (inside-factored p.0 x.work.now x.ipiv.now) in
+    (inside-factored p.inside x.work.now x.ipiv.now) in
     let lent = rw (← f.finish_jacobian-f.ensures) at (lent-factored x.s x.c x.work.now x.ipiv.now l) in
-    (inside, (p.1.1.0, (p.1.1.1.0, lent)))
+    (inside, (p.nlu_bound.1.0, (p.nlu_bound.1.1.0, lent)))
 
 pub returns-then-done : goal.returns-then-done
 unfolding matrix_done_of matrix_done_at
@@ -32,10 +32,10 @@ pass_failed-requires c =
     let p = a.requires in
     let x = a.args in
     let inside = rw (← f.finish_jacobian-f.ensures) at
-    (inside-factored p.0 x.work.now x.ipiv.now) in
+    (inside-factored p.inside x.work.now x.ipiv.now) in
     let lent = rw (← f.finish_jacobian-f.ensures) at
-    (lent-factored x.s x.c x.work.now x.ipiv.now p.1.1.1.1) in
-    (inside, omega (arith, lent.sized))
+    (lent-factored x.s x.c x.work.now x.ipiv.now p.nlu_bound.1.1.1) in
+    record { inside = inside; n_in_bounds = omega (arith, lent.sized) }
 
 pub returns : goal.returns
 unfolding matrix_done_of matrix_done_at

@@ -29,7 +29,7 @@ returns-then-due c =
 pub iterations-requires : goal.iterations-requires
 iterations-requires c =
     let p = c.requires in
-    (p.0, (p.1.1.0, (p.1.1.1.0, lent_length _ (omega arith) p.1.1.1.1.1)))
+    (p.inside, (p.nje_bound.1.0, (p.nje_bound.1.1.0, lent_length _ (omega arith) p.nje_bound.1.1.1.1)))
 
 pub returns : goal.returns
 unfolding opened_reply_at

@@ -26,7 +26,7 @@ returns-in-Done c =
       ← m.is_matrix.ensures,
       not-false m.is_matrix.result f.if-not-is_matrix.false,
       ← e.2,
-      c.enum_told-1.given.1,
+      c.in-Done.is,
       e.0,
       e.1,
     )
@@ -41,7 +41,7 @@ returns-in-Singular c =
       ← m.is_matrix.ensures,
       not-false m.is_matrix.result f.if-not-is_matrix.false,
       ← e.2,
-      c.enum_told-in-Singular-1.given.1,
+      c.in-Singular.is,
       e.0,
       e.1,
     )

@@ -49,14 +49,14 @@ dense_lu_solve-requires c =
     let p = c in
     let m = p in
     let fits = system-fits _ _ _ _ _ (sym m.is_system.ensures ∙ not-false _ p.if-not-is_system.false) in
-    (fits, p.are_pivots.ensures.1 (not-false _ c.if-not-are_pivots.false))
+    record { n_bound = fits; by_index = p.are_pivots.ensures.1 (not-false _ c.if-not-are_pivots.false) }
 
 pub returns-in-Done : goal.returns-in-Done
 returns-in-Done c =
     let s = c in
-    rw (solved s, c.enum_told-1.given.1, s.dense_lu_solve.ensures.0)
+    rw (solved s, c.in-Done.is, s.dense_lu_solve.ensures.0)
 
 pub returns-in-Singular : goal.returns-in-Singular
 returns-in-Singular c =
     let s = c in
-    rw (solved s, c.enum_told-in-Singular-1.given.1, s.dense_lu_solve.ensures.0)
+    rw (solved s, c.in-Singular.is, s.dense_lu_solve.ensures.0)

@@ -42,7 +42,7 @@ returns-then-r-ne0 c =
 pub stored-requires : goal.stored-requires
 stored-requires c =
     let a = c in
-    (search rules, a.requires.u_value)
+    record { session_length_in_bounds = search rules; u_value = a.requires.u_value }
 
 pub returns : goal.returns
 unfolding reply_refusal_of or_else

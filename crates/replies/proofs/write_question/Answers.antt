@@ -29,22 +29,19 @@ plainly s Phase.Report c work q h = absurd (miss (0 ∷ 1 ∷ 2 ∷ 3 ∷ 4 ∷ 
 plainly s Phase.Modified c work q h = refl
 plainly s Phase.Finished c work q h = absurd (miss (0 ∷ 1 ∷ 2 ∷ 3 ∷ 4 ∷ 6 ∷ 7 ∷ 9 ∷ []) 10 tt h)
 
-pub enum_told-1 : goal.enum_told-1
-enum_told-1 c = search rules
-
 pub returns-in-Finished : goal.returns-in-Finished
 unfolding question_of
-returns-in-Finished c = rw c.enum_told-1.given.1
+returns-in-Finished c = rw c.in-Finished.is
 
 pub returns-in-DifferenceColumn : goal.returns-in-DifferenceColumn
 unfolding question_of
-returns-in-DifferenceColumn c = rw c.enum_told-in-DifferenceColumn-1.given.1 c.show.ensures
+returns-in-DifferenceColumn c = rw c.in-DifferenceColumn.is c.show.ensures
 
 pub returns-in-Report : goal.returns-in-Report
 unfolding question_of
 returns-in-Report c =
     let h = c in
-    rw h.enum_told-in-Report-1.given.1
+    rw h.in-Report.is
     (rw h.show-in-Report.ensures at c.snapshot_step.ensures)
 
 pub returns-in-FirstDerivative : goal.returns-in-FirstDerivative

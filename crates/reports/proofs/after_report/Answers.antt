@@ -5,18 +5,15 @@ use Rattle.between_steps.proofs.Inside.{inside-tn}
 use Rattle.reports.specs.Reports.{after_report_of}
 use Rattle.reports.proofs.after_report.Goals as goal
 
-pub enum_told-1 : goal.enum_told-1
-enum_told-1 c = search rules
-
 pub go_on-requires : goal.go_on-requires
 go_on-requires c =
-    (inside-tn c.requires.inside _, omega arith)
+    record { inside = inside-tn c.requires.inside _; n_in_bounds = omega arith }
 
 pub returns-in-Continue : goal.returns-in-Continue
 unfolding after_report_of
 returns-in-Continue c p =
     rw (
-      c.enum_told-1.given.1,
+      c.in-Continue.is,
       ← c.take_state.ensures,
     )
     (c.go_on.ensures p)
@@ -25,7 +22,7 @@ pub returns-in-Interrupt : goal.returns-in-Interrupt
 unfolding after_report_of
 returns-in-Interrupt c p =
     rw (
-      c.enum_told-in-Interrupt-1.given.1,
+      c.in-Interrupt.is,
       c.finish.ensures,
       c.take_state.ensures,
     )
@@ -34,7 +31,7 @@ pub returns-in-Modified : goal.returns-in-Modified
 unfolding after_report_of
 returns-in-Modified c p =
     rw (
-      c.enum_told-in-Modified-1.given.1,
+      c.in-Modified.is,
       c.ask.ensures,
       c.take_state.ensures,
     )

@@ -11,15 +11,12 @@ use Rattle.reports.proofs.first_derivative.Goals as goal
 pub ewset-requires : goal.ewset-requires
 ewset-requires c =
     let p = c.requires in
-    (p.1.0, (p.1.1.0, (omega arith, omega arith)))
-
-pub enum_told-1 : goal.enum_told-1
-enum_told-1 c = search rules
+    (p.list1or_n.0, (p.list1or_n.1.0, (omega arith, omega arith)))
 
 pub weighted-requires : goal.weighted-requires
 weighted-requires c =
     let p = c.requires in
-    (p.0, (p.1.0, (p.1.1.0, omega arith)))
+    (p.le_n, (p.list1or_n.0, (p.list1or_n.1.0, omega arith)))
 
 pub returns-in-Refused : goal.returns-in-Refused
 unfolding first_derivative_of weighted_at
@@ -30,7 +27,7 @@ returns-in-Refused c p =
     let n = k.args.s.n in
     let weights : savf_at n - ewt_at n ≡ n = omega arith in
     let w = rw weights at i.invert_weights.ensures in
-    rw (weights, ← k.take_first.ensures, ← e.ewset.ensures, ← w.0, ← w.1, c.k-1.given.1)
+    rw (weights, ← k.take_first.ensures, ← e.ewset.ensures, ← w.0, ← w.1, c.in-Refused.is)
 
 pub returns-in-Inverted : goal.returns-in-Inverted
 unfolding first_derivative_of weighted_at
@@ -47,5 +44,5 @@ returns-in-Inverted c p =
       ← e.ewset.ensures,
       ← w.0,
       ← w.1,
-      c.enum_told-1.given.1,
+      c.in-Inverted.is,
     ) g

@@ -8,14 +8,14 @@ use Rattle.reports.proofs.modified.Goals as goal
 
 pub go_on-requires : goal.go_on-requires
 go_on-requires c =
-    let a = c in (
-      rw c.restart.ensures (inside-restart a.pre.0),
-      omega (
+    let a = c in record {
+      inside = rw c.restart.ensures (inside-restart a.pre.0);
+      n_in_bounds = omega (
         arith,
         a.pre.1.1,
         c.work-1.given,
-      ),
-    )
+      );
+    }
 
 pub returns : goal.returns
 unfolding modified_of

@@ -12,5 +12,5 @@ use Rattle.root.proofs.root_bits.Given as goal
 abbrev pub invariant-loop : goal.invariant-loop
 invariant-loop l =
     Room l.counter l.bits l.bit
-    × (for l.counter 63 (bit_turn l.x l.k) (record { l.bits = l.bits; l.bit = l.bit })
-    ≡ for 0 63 (bit_turn l.x l.k) (record { l.bits = 0; l.bit = 0x4000_0000_0000_0000 }))
+    × (for l.counter 63 (bit_turn l.x l.k) (record { bits = l.bits; bit = l.bit })
+    ≡ for 0 63 (bit_turn l.x l.k) (record { bits = 0; bit = 0x4000_0000_0000_0000 }))

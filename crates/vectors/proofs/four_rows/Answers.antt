@@ -13,7 +13,7 @@ larger-an2-requires c =
     let m = c in
     let l = m in
     let p = l.requires in
-    rw (m.larger-an1.ensures, l.larger-an0.ensures) ((max-larger _ _).number ((max-larger _ _).number p.1))
+    rw (m.larger-an1.ensures, l.larger-an0.ensures) ((max-larger _ _).number ((max-larger _ _).number p.an_value))
 
 pub larger-requires : goal.larger-requires
 larger-requires c =
@@ -22,7 +22,7 @@ larger-requires c =
     let l = m in
     let p = l.requires in
     rw (o.larger-an2.ensures, m.larger-an1.ensures, l.larger-an0.ensures)
-    ((max-larger _ _).number ((max-larger _ _).number ((max-larger _ _).number p.1)))
+    ((max-larger _ _).number ((max-larger _ _).number ((max-larger _ _).number p.an_value)))
 
 pub returns : goal.returns
 returns c =

@@ -12,11 +12,11 @@ unfolding change_of
 returns-in-Adams c =
     let a = c.args in
     let test : MethodFamily → Change = λ m. change_in m a.s a.c a.dsm a.work.now in
-    c.to_bdf.ensures ∙ ap test (sym c.enum_told-1.given.1)
+    c.to_bdf.ensures ∙ ap test (sym c.in-Adams.is)
 
 pub returns-in-Bdf : goal.returns-in-Bdf
 unfolding change_of
 returns-in-Bdf c =
     let a = c.args in
     let test : MethodFamily → Change = λ m. change_in m a.s a.c a.dsm a.work.now in
-    c.to_adams.ensures ∙ ap test (sym c.enum_told-in-Bdf-1.given.1)
+    c.to_adams.ensures ∙ ap test (sym c.in-Bdf.is)

@@ -13,7 +13,7 @@ pub store-requires : goal.store-requires
 store-requires c =
     let l = c in
     let p = l.requires in
-    omega (arith, p.1.0.0, p.1.1.1)
+    omega (arith, p.y0_len.0.0, p.y0_len.1.1)
 
 pub returns : goal.returns
 unfolding accepted_start_of
