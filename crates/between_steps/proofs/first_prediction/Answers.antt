@@ -14,7 +14,7 @@ stoda_get_predicted_values-e-requires c =
     let a = r in
     let x = a.args in
     let q = rw (← r.prepare-d.ensures) at (prepared-range a.requires.inside x.work.now) in
-    (same-range _ refl refl refl refl q, omega arith)
+    record { step_in_range = same-range _ refl refl refl refl q; n_in_bounds = omega arith }
 
 pub returns : goal.returns
 unfolding first_prediction_of predicted_at

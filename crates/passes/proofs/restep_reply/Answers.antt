@@ -10,7 +10,7 @@ use Rattle.passes.proofs.restep_reply.Goals as goal
 
 pub restep-d-requires : goal.restep-d-requires
 restep-d-requires c =
-    (in-range c.requires.inside, omega arith)
+    record { step_in_range = in-range c.requires.inside; n_in_bounds = omega arith }
 
 pub open_pass-requires : goal.open_pass-requires
 open_pass-requires c =

@@ -20,7 +20,7 @@ pub refusal-r-requires : goal.refusal-r-requires
 refusal-r-requires c =
     let d = c in
     let u = d in
-    (u.if-session-ne-SESSION_LENGTH.false, (u.counts-u.ensures, d.decode-x.ensures))
+    record { bytes_len = u.if-session-ne-SESSION_LENGTH.false; u_value = (u.counts-u.ensures, d.decode-x.ensures) }
 
 pub returns-then-r-ne0 : goal.returns-then-r-ne0
 unfolding reply_of reply_at

@@ -15,7 +15,7 @@ loop-i-init c = (refl, refl)
 pub relative-tol-requires : goal.relative-tol-requires
 relative-tol-requires c =
     let s = c in
-    (serves s.args.atol.now _ _ (omega arith) s.requires, omega arith)
+    record { list1or_n = serves s.args.atol.now _ _ (omega arith) s.requires; i_in_bounds = omega arith }
 
 pub loop-i-preserved : goal.loop-i-preserved
 loop-i-preserved c =
