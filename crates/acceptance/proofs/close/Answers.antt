@@ -12,7 +12,7 @@ use Rattle.acceptance.proofs.close.Goals as goal
 pub ewset-requires : goal.ewset-requires
 ewset-requires c =
     let a = c in
-    (a.requires.list1or_n.0, (a.requires.list1or_n.1.0, (omega arith, omega arith)))
+    record { list1or_n = a.requires.list1or_n; list1or_n_2 = a.requires.list1or_n_2; n_le_at = (omega arith, omega arith) }
 
 pub returns : goal.returns
 unfolding closed_of scale_part_of

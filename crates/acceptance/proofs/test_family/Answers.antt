@@ -43,7 +43,7 @@ within : (j : goal.Joined-c-lt1000000) → order_within j.args.c.nq (said j)
 unfolding said
 within j =
     let a = j in
-    let m = a.requires.le_mxordn.0 in
+    let m = a.requires.le_mxordn in
     let x = a.args in
     or-stay x.c.nq (ltb x.c.icount 1000000) _
     (change-within x.s x.c x.dsm x.work.now a.requires.step_in_range.order.0 m.0 m.1)

@@ -30,7 +30,7 @@ first_derivative-requires c =
     let yes = sym i.is_asked.ensures ∙ not-false _ i.if-not-is_asked.left in
     let r = held Phase.FirstDerivative _ t a.pre.1 in
     let l = derivative-length _ _ x.kind (asked_in Phase.FirstDerivative x.kind _ _ t yes) in
-    (r.ranges.settings.n.0, (r.relative, (r.absolute, (l, omega (arith, r.lent.sized)))))
+    record { le_n = r.ranges.settings.n.0; list1or_n = r.relative; list1or_n_2 = r.absolute; f_len = l; n_in_bounds = omega (arith, r.lent.sized) }
 
 pub after_first_report-requires : goal.after_first_report-requires
 after_first_report-requires c =
@@ -42,7 +42,7 @@ after_first_report-requires c =
     let yes = sym i.is_asked.ensures ∙ not-false _ i.if-not-is_asked.left in
     let r = held Phase.FirstReport _ t a.pre.1 in
     let l = answer-length _ _ x.kind (asked_in Phase.FirstReport x.kind _ _ t yes) in
-    (inside-ranges r.ranges, (l, omega (arith, r.lent.sized)))
+    record { inside = inside-ranges r.ranges; y_len = l; n_in_bounds = omega (arith, r.lent.sized) }
 
 pub first_modified-requires : goal.first_modified-requires
 first_modified-requires c =
@@ -54,7 +54,7 @@ first_modified-requires c =
     let yes = sym i.is_asked.ensures ∙ not-false _ i.if-not-is_asked.left in
     let r = held Phase.FirstModified _ t a.pre.1 in
     let l = derivative-length _ _ x.kind (asked_in Phase.FirstModified x.kind _ _ t yes) in
-    (inside-ranges r.ranges, (l, omega (arith, r.lent.sized)))
+    record { inside = inside-ranges r.ranges; f_len = l; n_in_bounds = omega (arith, r.lent.sized) }
 
 pub opened_reply-requires : goal.opened_reply-requires
 opened_reply-requires c =
@@ -66,7 +66,7 @@ opened_reply-requires c =
     let yes = sym i.is_asked.ensures ∙ not-false _ i.if-not-is_asked.left in
     let r = held Phase.Opened _ t a.pre.1 in
     let l = derivative-length _ _ x.kind (asked_in Phase.Opened x.kind _ _ t yes) in
-    (inside-ranges r.ranges, (omega (arith, r.ranges.counts.nje), (r.relative, (r.absolute, (l, r.lent)))))
+    record { inside = inside-ranges r.ranges; nje_bound = omega (arith, r.ranges.counts.nje); list1or_n = r.relative; list1or_n_2 = r.absolute; f_len = l; lent = r.lent }
 
 pub jacobian_reply-requires : goal.jacobian_reply-requires
 jacobian_reply-requires c =
@@ -78,7 +78,7 @@ jacobian_reply-requires c =
     let yes = sym i.is_asked.ensures ∙ not-false _ i.if-not-is_asked.left in
     let r = held Phase.JacobianAsked _ t a.pre.1 in
     let l = jacobian-length _ _ x.kind (asked_in Phase.JacobianAsked x.kind _ _ t yes) in
-    (inside-ranges r.ranges, (omega (arith, r.ranges.counts.nlu), (r.relative, (r.absolute, (l, r.lent)))))
+    record { inside = inside-ranges r.ranges; nlu_bound = omega (arith, r.ranges.counts.nlu); list1or_n = r.relative; list1or_n_2 = r.absolute; f_len = l; lent = r.lent }
 
 pub column_reply-requires : goal.column_reply-requires
 column_reply-requires c =
@@ -90,7 +90,7 @@ column_reply-requires c =
     let yes = sym i.is_asked.ensures ∙ not-false _ i.if-not-is_asked.left in
     let r = held Phase.DifferenceColumn _ t a.pre.1 in
     let l = derivative-length _ _ x.kind (asked_in Phase.DifferenceColumn x.kind _ _ t yes) in
-    (inside-ranges r.ranges, (omega (arith, r.ranges.counts.nlu), (r.relative, (r.absolute, (l, r.lent)))))
+    record { inside = inside-ranges r.ranges; nlu_bound = omega (arith, r.ranges.counts.nlu); list1or_n = r.relative; list1or_n_2 = r.absolute; f_len = l; lent = r.lent }
 
 pub further_reply-requires : goal.further_reply-requires
 further_reply-requires c =
@@ -102,7 +102,7 @@ further_reply-requires c =
     let yes = sym i.is_asked.ensures ∙ not-false _ i.if-not-is_asked.left in
     let r = held Phase.FurtherDerivative _ t a.pre.1 in
     let l = derivative-length _ _ x.kind (asked_in Phase.FurtherDerivative x.kind _ _ t yes) in
-    (inside-ranges r.ranges, (r.relative, (r.absolute, (l, r.lent))))
+    record { inside = inside-ranges r.ranges; list1or_n = r.relative; list1or_n_2 = r.absolute; f_len = l; lent = r.lent }
 
 pub restep_reply-requires : goal.restep_reply-requires
 restep_reply-requires c =
@@ -114,7 +114,7 @@ restep_reply-requires c =
     let yes = sym i.is_asked.ensures ∙ not-false _ i.if-not-is_asked.left in
     let r = held Phase.Restep _ t a.pre.1 in
     let l = derivative-length _ _ x.kind (asked_in Phase.Restep x.kind _ _ t yes) in
-    (inside-ranges r.ranges, (l, omega (arith, r.lent.sized)))
+    record { inside = inside-ranges r.ranges; f_len = l; n_in_bounds = omega (arith, r.lent.sized) }
 
 pub after_report-requires : goal.after_report-requires
 after_report-requires c =
@@ -126,7 +126,7 @@ after_report-requires c =
     let yes = sym i.is_asked.ensures ∙ not-false _ i.if-not-is_asked.left in
     let r = held Phase.Report _ t a.pre.1 in
     let l = answer-length _ _ x.kind (asked_in Phase.Report x.kind _ _ t yes) in
-    (inside-ranges r.ranges, (l, omega (arith, r.lent.sized)))
+    record { inside = inside-ranges r.ranges; y_len = l; n_in_bounds = omega (arith, r.lent.sized) }
 
 pub modified-requires : goal.modified-requires
 modified-requires c =
@@ -138,7 +138,7 @@ modified-requires c =
     let yes = sym i.is_asked.ensures ∙ not-false _ i.if-not-is_asked.left in
     let r = held Phase.Modified _ t a.pre.1 in
     let l = derivative-length _ _ x.kind (asked_in Phase.Modified x.kind _ _ t yes) in
-    (inside-ranges r.ranges, (l, omega (arith, r.lent.sized)))
+    record { inside = inside-ranges r.ranges; f_len = l; n_in_bounds = omega (arith, r.lent.sized) }
 
 pub returns-in-FirstDerivative : goal.returns-in-FirstDerivative
 unfolding resume_at

@@ -36,17 +36,15 @@ end_step-requires c =
     let a = e in
     let p = a.requires.inside in
     let x = a.args in
-    let k = rw (← e.accept-chosen.ensures) at (accept-keeps x.s x.c x.dsm x.work.now) in (
-      step-in-range _ p.settings (k.orders 1 (p.settings.mxordn.0, p.settings.mxords.0) p.orders)
-          (omega (arith, k.nslp, p.steps)),
-      (
-        p.orders.nq,
-        (
-          (omega (arith, k.nst, p.steps), omega (arith, k.rejected, p.counts)),
-          (a.requires.list1or_n.0, (a.requires.list1or_n.1.0, omega arith)),
-        ),
-      ),
-    )
+    let k = rw (← e.accept-chosen.ensures) at (accept-keeps x.s x.c x.dsm x.work.now) in record {
+      step_in_range = step-in-range _ p.settings (k.orders 1 (p.settings.mxordn.0, p.settings.mxords.0) p.orders)
+          (omega (arith, k.nslp, p.steps));
+      le_order = p.orders.nq;
+      nst_bound = (omega (arith, k.nst, p.steps), omega (arith, k.rejected, p.counts));
+      list1or_n = a.requires.list1or_n;
+      list1or_n_2 = a.requires.list1or_n_2;
+      n_in_bounds = omega arith;
+    }
 
 pub returns-in-CoefficientGap : goal.returns-in-CoefficientGap
 unfolding accepted_of accepted_at

@@ -10,7 +10,7 @@ use Rattle.passes.proofs.column_reply.Goals as goal
 pub store_column-requires : goal.store_column-requires
 store_column-requires c =
     let p = c.requires in
-    (p.inside.settings.n.1, omega (arith, p.nlu_bound.1.1.1.1.sized), p.inside.counters.column)
+    (p.inside.settings.n.1, omega (arith, p.lent.sized), p.inside.counters.column)
 
 pub overflow_add-j : goal.overflow_add-j
 overflow_add-j c =
@@ -25,8 +25,8 @@ overflow_add-j-then-j-s c =
 pub ask_column-requires : goal.ask_column-requires
 ask_column-requires c =
     let p = c.requires in
-    let l = p.nlu_bound.1.1.1.1.sized in
-    ((p.inside.settings.n.1, c.if-j-s.true), ((p.inside.counts.0, p.inside.counts.1), omega arith))
+    let l = p.lent.sized in
+    record { n_le_max_states = (p.inside.settings.n.1, c.if-j-s.true); nfe_bound = (p.inside.counts.0, p.inside.counts.1); n_in_bounds = omega arith }
 
 pub returns-then-j-s : goal.returns-then-j-s
 unfolding column_reply_of column_reply_at
@@ -42,7 +42,7 @@ pub matrix_done-requires : goal.matrix_done-requires
 matrix_done-requires c =
     let p = c.requires in
     let first = inside-column p.inside 0 p.inside.settings.n.0 in
-    (first, (p.nlu_bound.0, (p.nlu_bound.1.0, (p.nlu_bound.1.1.0, lent_length _ (omega arith) p.nlu_bound.1.1.1.1))))
+    record { inside = first; nlu_bound = p.nlu_bound; list1or_n = p.list1or_n; list1or_n_2 = p.list1or_n_2; lent = lent_length _ (omega arith) p.lent }
 
 pub returns : goal.returns
 unfolding column_reply_of column_reply_at

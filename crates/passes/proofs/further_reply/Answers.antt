@@ -8,7 +8,7 @@ use Rattle.passes.proofs.further_reply.Goals as goal
 pub iterate-requires : goal.iterate-requires
 iterate-requires c =
     let p = c.requires in
-    (p.inside, (p.list1or_n.0, (p.list1or_n.1.0, lent_length _ (omega arith) p.list1or_n.1.1.1)))
+    record { inside = p.inside; list1or_n = p.list1or_n; list1or_n_2 = p.list1or_n_2; lent = lent_length _ (omega arith) p.lent }
 
 pub returns : goal.returns
 unfolding further_reply_of

@@ -15,8 +15,8 @@ use Rattle.passes.proofs.iterate.Goals as goal
 pub correct-x-requires : goal.correct-x-requires
 correct-x-requires c =
     let a = c in
-    let l = a.requires.list1or_n.1.1 in
-    (in-range a.requires.inside, ((omega (arith, l.sized), omega (arith, l.pivots)), l.below))
+    let l = a.requires.lent in
+    record { step_in_range = in-range a.requires.inside; n_in_bounds = (omega (arith, l.sized), omega (arith, l.pivots)); by_index = l.below }
 
 pub error_test-requires : goal.error_test-requires
 error_test-requires c =
@@ -24,10 +24,10 @@ error_test-requires c =
     let x = j in
     let a = x in
     let p : Inside a.args.s j.judge-verdict.result.common = rw j.judge-verdict.ensures (inside-judged a.requires.inside _ _) in
-    let l = a.requires.list1or_n.1.1.sized in
+    let l = a.requires.lent.sized in
     let w = ap (λ (k : Corrected). length k.work) x.correct-x.ensures ∙ length-iteration a.args.s
     a.args.c _ _ in
-    (p, (a.requires.list1or_n.0, (a.requires.list1or_n.1.0, omega (arith, l, w))))
+    record { inside = p; list1or_n = a.requires.list1or_n; list1or_n_2 = a.requires.list1or_n_2; n_in_bounds = omega (arith, l, w) }
 
 pub open_pass-requires : goal.open_pass-requires
 open_pass-requires c =
@@ -35,7 +35,7 @@ open_pass-requires c =
     let x = j in
     let a = x in
     let p : Inside a.args.s j.judge-verdict.result.common = rw j.judge-verdict.ensures (inside-judged a.requires.inside _ _) in
-    let l = a.requires.list1or_n.1.1.sized in
+    let l = a.requires.lent.sized in
     let w = ap (λ (k : Corrected). length k.work) x.correct-x.ensures ∙ length-iteration a.args.s
     a.args.c _ _ in
     (p.counts.0, p.counts.1, omega (arith, l, w))
@@ -46,7 +46,7 @@ pass_failed-requires c =
     let x = j in
     let a = x in
     let p : Inside a.args.s j.judge-verdict.result.common = rw j.judge-verdict.ensures (inside-judged a.requires.inside _ _) in
-    let l = a.requires.list1or_n.1.1.sized in
+    let l = a.requires.lent.sized in
     let w = ap (λ (k : Corrected). length k.work) x.correct-x.ensures ∙ length-iteration a.args.s
     a.args.c _ _ in
     record { inside = p; n_in_bounds = omega (arith, l, w) }

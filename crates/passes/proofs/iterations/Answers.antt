@@ -16,10 +16,7 @@ pub iterate-requires : goal.iterate-requires
 iterate-requires c =
     let o = c in
     let a = o in
-    let p = a.requires in (
-      rw o.open_iterations-d.ensures.0 (inside-open p.inside),
-      (p.list1or_n.0, (p.list1or_n.1.0, lent_length _ (omega arith) p.list1or_n.1.1)),
-    )
+    let p = a.requires in record { inside = rw o.open_iterations-d.ensures.0 (inside-open p.inside); list1or_n = p.list1or_n; list1or_n_2 = p.list1or_n_2; lent = lent_length _ (omega arith) p.lent }
 
 pub returns : goal.returns
 unfolding iterations_of fill_of
@@ -28,6 +25,6 @@ returns c =
     let a = o in
     let n = a.args.s.n in
     let size : y_at n - acor_at n ≡ n = omega arith in
-    let long = length_part (acor_at n) n a.args.work.now (omega (arith, a.requires.list1or_n.1.1.sized)) in
+    let long = length_part (acor_at n) n a.args.work.now (omega (arith, a.requires.lent.sized)) in
     let opened = o.open_iterations-d.ensures in
     rw (opened.0, opened.1, size, long) at c.iterate.ensures

@@ -12,37 +12,37 @@ use Rattle.passes.proofs.jacobian_reply.Goals as goal
 pub overflow_mul-a : goal.overflow_mul-a
 overflow_mul-a c =
     let p = c.requires in
-    omega (arith, p.nlu_bound.1.1.1.0, p.nlu_bound.1.1.1.1.sized)
+    omega (arith, p.f_len, p.lent.sized)
 
 pub overflow_add-e : goal.overflow_add-e
 overflow_add-e c =
     let p = c.requires in
-    omega (arith, p.nlu_bound.1.1.1.0, p.nlu_bound.1.1.1.1.sized)
+    omega (arith, p.f_len, p.lent.sized)
 
 pub offset_bounds-work-a : goal.offset_bounds-work-a
 offset_bounds-work-a c =
     let p = c.requires in
-    omega (arith, p.nlu_bound.1.1.1.0, p.nlu_bound.1.1.1.1.sized)
+    omega (arith, p.f_len, p.lent.sized)
 
 pub slice_bounds-store_jacobian-count : goal.slice_bounds-store_jacobian-count
 slice_bounds-store_jacobian-count c =
     let p = c.requires in
-    omega (arith, p.nlu_bound.1.1.1.0, p.nlu_bound.1.1.1.1.sized)
+    omega (arith, p.f_len, p.lent.sized)
 
 pub slice_bounds-store_jacobian-start : goal.slice_bounds-store_jacobian-start
 slice_bounds-store_jacobian-start c =
     let p = c.requires in
-    omega (arith, p.nlu_bound.1.1.1.0, p.nlu_bound.1.1.1.1.sized)
+    omega (arith, p.f_len, p.lent.sized)
 
 pub slice_bounds-store_jacobian-end : goal.slice_bounds-store_jacobian-end
 slice_bounds-store_jacobian-end c =
     let p = c.requires in
-    omega (arith, p.nlu_bound.1.1.1.0, p.nlu_bound.1.1.1.1.sized)
+    omega (arith, p.f_len, p.lent.sized)
 
 pub matrix_done-requires : goal.matrix_done-requires
 matrix_done-requires c =
     let p = c.requires in
-    (p.inside, (p.nlu_bound.0, (p.nlu_bound.1.0, (p.nlu_bound.1.1.0, lent_length _ (omega arith) p.nlu_bound.1.1.1.1))))
+    record { inside = p.inside; nlu_bound = p.nlu_bound; list1or_n = p.list1or_n; list1or_n_2 = p.list1or_n_2; lent = lent_length _ (omega arith) p.lent }
 
 pub returns : goal.returns
 unfolding jacobian_reply_of

@@ -12,11 +12,11 @@ iterations-requires c =
     let a = f in
     let p = a.requires in
     let x = a.args in
-    let l = p.nlu_bound.1.1.1 in
+    let l = p.lent in
     let inside = rw (← f.finish_jacobian-f.ensures) at
     (inside-factored p.inside x.work.now x.ipiv.now) in
     let lent = rw (← f.finish_jacobian-f.ensures) at (lent-factored x.s x.c x.work.now x.ipiv.now l) in
-    (inside, (p.nlu_bound.1.0, (p.nlu_bound.1.1.0, lent)))
+    record { inside = inside; list1or_n = p.list1or_n; list1or_n_2 = p.list1or_n_2; lent = lent }
 
 pub returns-then-done : goal.returns-then-done
 unfolding matrix_done_of matrix_done_at
@@ -34,7 +34,7 @@ pass_failed-requires c =
     let inside = rw (← f.finish_jacobian-f.ensures) at
     (inside-factored p.inside x.work.now x.ipiv.now) in
     let lent = rw (← f.finish_jacobian-f.ensures) at
-    (lent-factored x.s x.c x.work.now x.ipiv.now p.nlu_bound.1.1.1) in
+    (lent-factored x.s x.c x.work.now x.ipiv.now p.lent) in
     record { inside = inside; n_in_bounds = omega (arith, lent.sized) }
 
 pub returns : goal.returns

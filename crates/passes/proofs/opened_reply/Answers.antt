@@ -29,7 +29,7 @@ returns-then-due c =
 pub iterations-requires : goal.iterations-requires
 iterations-requires c =
     let p = c.requires in
-    (p.inside, (p.nje_bound.1.0, (p.nje_bound.1.1.0, lent_length _ (omega arith) p.nje_bound.1.1.1.1)))
+    record { inside = p.inside; list1or_n = p.list1or_n; list1or_n_2 = p.list1or_n_2; lent = lent_length _ (omega arith) p.lent }
 
 pub returns : goal.returns
 unfolding opened_reply_at

@@ -10,7 +10,7 @@ pub ewset-requires : goal.ewset-requires
 ewset-requires c =
     let a = c.args in
     let p = weighed-fits _ _ _ _ _ (sym c.is_weighed.ensures ∙ c.if-is_weighed.true) in
-    (list-serves a.n a.rtol.now p.0, (list-serves a.n a.atol.now p.1, behind-fits _ _ _ p.2))
+    record { list1or_n = list-serves a.n a.rtol.now p.0; list1or_n_2 = list-serves a.n a.atol.now p.1; n_le_at = behind-fits _ _ _ p.2 }
 
 pub returns-then-is_weighed : goal.returns-then-is_weighed
 unfolding ewset_left

@@ -28,7 +28,7 @@ initial_step_size-requires c =
     let listed = sym l.is_list.ensures ∙ not-false l.is_list.result m.if-not-is_list.false in
     let rtol = list-serves (length a.y.now) a.rtol.now listed in
     let atol = list-serves (length a.y.now) a.atol.now (sym m.is_list-2.ensures ∙ c.if-is_list.true) in
-    (rtol, (atol, l.if-w-f0.false))
+    record { list1or_n = rtol; list1or_n_2 = atol; f0_in_bounds = l.if-w-f0.false }
 
 pub returns-then-is_list : goal.returns-then-is_list
 unfolding initial_step_or_nan

@@ -34,13 +34,7 @@ accept-requires c =
     let d = r in
     let a = d.args in
     let b = a.session.now in
-    let t = taken _ _ _ _ _ (ap (λ (r : Refusal). r.number) (sym r.refusal-r.ensures) ∙ z.if-r-ne0.false) in (
-      t.bytes,
-      (
-        (t.ranges, d.decode-x.ensures),
-        rw (stored-n b) (record { states = t.n; sized = t.work; pivoted = t.pivots; asked = t.question }),
-      ),
-    )
+    let t = taken _ _ _ _ _ (ap (λ (r : Refusal). r.number) (sym r.refusal-r.ensures) ∙ z.if-r-ne0.false) in record { bytes_len = t.bytes; pivots_value = (t.ranges, d.decode-x.ensures); sized = rw (stored-n b) (record { states = t.n; sized = t.work; pivoted = t.pivots; asked = t.question }) }
 
 pub returns : goal.returns
 unfolding reply_of reply_at

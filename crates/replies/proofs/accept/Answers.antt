@@ -57,13 +57,13 @@ module _ (b p : List ℕ) (x : Session) (q : in_range_of b p ≡ true) (e : x �
 pub rtol-requires : goal.rtol-requires
 rtol-requires c =
     let a = c in
-    let l = few a.args.bytes.now a.args.pivots.now a.args.x a.requires.pivots_value.0.0 a.requires.pivots_value.0.1 in
+    let l = few a.args.bytes.now a.args.pivots.now a.args.x a.requires.pivots_value.0 a.requires.pivots_value.1 in
     (search rules, l.0, l.0)
 
 pub atol-requires : goal.atol-requires
 atol-requires c =
     let a = c in
-    let l = few a.args.bytes.now a.args.pivots.now a.args.x a.requires.pivots_value.0.0 a.requires.pivots_value.0.1 in
+    let l = few a.args.bytes.now a.args.pivots.now a.args.x a.requires.pivots_value.0 a.requires.pivots_value.1 in
     (search rules, l.1, l.1)
 
 pub slice_bounds-resume-end : goal.slice_bounds-resume-end
@@ -72,7 +72,7 @@ slice_bounds-resume-end c =
     let a = r in
     let x = a.args in
     let b = x.bytes.now in
-    let l = few b x.pivots.now x.x a.requires.pivots_value.0.0 a.requires.pivots_value.0.1 in
+    let l = few b x.pivots.now x.x a.requires.pivots_value.0 a.requires.pivots_value.1 in
     let e = r.rtol.ensures in
     omega (arith, ap length e ∙ length_over b rtol_at x.x.settings.nrtol empty l.0)
 
@@ -82,7 +82,7 @@ slice_bounds-resume-end-2 c =
     let a = r in
     let x = a.args in
     let b = x.bytes.now in
-    let l = few b x.pivots.now x.x a.requires.pivots_value.0.0 a.requires.pivots_value.0.1 in
+    let l = few b x.pivots.now x.x a.requires.pivots_value.0 a.requires.pivots_value.1 in
     let e = r.atol.ensures in
     omega (arith, ap length e ∙ length_over b atol_at x.x.settings.natol empty l.1)
 
@@ -92,8 +92,8 @@ resume-turn-requires c =
     let a = t in
     let x = a.args in
     let b = x.bytes.now in
-    let q = a.requires.pivots_value.0 in
-    let z = a.requires.pivots_value.1 in
+    let q = a.requires.pivots_value in
+    let z = a.requires.sized in
     let rtol = relative b x.pivots.now x.x q.0 q.1 t.rtol.ensures in
     let atol = absolute b x.pivots.now x.x q.0 q.1 t.atol.ensures in
     let r = resumes b x.pivots.now q.0 x.work.now z.sized z.pivoted in
@@ -107,8 +107,8 @@ write_turn-requires c =
     let x = a.args in
     let b = x.bytes.now in
     let s = (decode_of b).settings in
-    let q = a.requires.pivots_value.0 in
-    let z = a.requires.pivots_value.1 in
+    let q = a.requires.pivots_value in
+    let z = a.requires.sized in
     let r = resumes b x.pivots.now q.0 x.work.now z.sized z.pivoted in
     let rtol = relative b x.pivots.now x.x q.0 q.1 t.rtol.ensures in
     let atol = absolute b x.pivots.now x.x q.0 q.1 t.atol.ensures in
@@ -134,7 +134,7 @@ returns c =
     let x = a.args in
     let b = x.bytes.now in
     let s = (decode_of b).settings in
-    let q = a.requires.pivots_value.0 in
+    let q = a.requires.pivots_value in
     let rtol = relative b x.pivots.now x.x q.0 q.1 t.rtol.ensures in
     let atol = absolute b x.pivots.now x.x q.0 q.1 t.atol.ensures in
     let turned = rw (rtol, atol, q.1) at m.resume-turn.ensures in

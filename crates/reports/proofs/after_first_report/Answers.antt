@@ -5,7 +5,7 @@ use Rattle.reports.specs.Reports.{after_first_report_of}
 use Rattle.reports.proofs.after_first_report.Goals as goal
 
 pub go_on-requires : goal.go_on-requires
-go_on-requires c = let p = c.requires in record { inside = inside-tn p.inside _; n_in_bounds = p.y_len.1 }
+go_on-requires c = let p = c.requires in record { inside = inside-tn p.inside _; n_in_bounds = p.n_in_bounds }
 
 pub returns-in-Continue : goal.returns-in-Continue
 unfolding after_first_report_of

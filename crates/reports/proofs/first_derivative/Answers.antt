@@ -11,12 +11,12 @@ use Rattle.reports.proofs.first_derivative.Goals as goal
 pub ewset-requires : goal.ewset-requires
 ewset-requires c =
     let p = c.requires in
-    (p.list1or_n.0, (p.list1or_n.1.0, (omega arith, omega arith)))
+    record { list1or_n = p.list1or_n; list1or_n_2 = p.list1or_n_2; n_le_at = (omega arith, omega arith) }
 
 pub weighted-requires : goal.weighted-requires
 weighted-requires c =
     let p = c.requires in
-    (p.le_n, (p.list1or_n.0, (p.list1or_n.1.0, omega arith)))
+    record { le_n = p.le_n; list1or_n = p.list1or_n; list1or_n_2 = p.list1or_n_2; n_in_bounds = omega arith }
 
 pub returns-in-Refused : goal.returns-in-Refused
 unfolding first_derivative_of weighted_at

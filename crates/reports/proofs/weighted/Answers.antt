@@ -45,7 +45,7 @@ initial_step_size-h-requires c =
     let size : n - 0 ≡ n = omega arith in
     let slope : ftem_at n - savf_at n ≡ n = omega arith in
     let weights : savf_at n - ewt_at n ≡ n = omega arith in
-    rw (size, slope, weights, y, f, e) (a.requires.list1or_n.0, (a.requires.list1or_n.1.0, omega arith))
+    rw (size, slope, weights, y, f, e) (a.requires.list1or_n, (a.requires.list1or_n_2, omega arith))
 
 pub returns : goal.returns
 returns c p =

@@ -21,7 +21,7 @@ tolerance-requires c =
 pub tolerance-requires-in-loop-i : goal.tolerance-requires-in-loop-i
 tolerance-requires-in-loop-i c =
     let s = c in
-    serves s.args.atol.now _ _ (omega arith) s.requires.list1or_n_2.0
+    serves s.args.atol.now _ _ (omega arith) s.requires.list1or_n_2
 
 pub loop-i-preserved : goal.loop-i-preserved
 loop-i-preserved c =

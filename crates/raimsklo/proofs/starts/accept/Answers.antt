@@ -7,13 +7,13 @@ use Rattle.raimsklo.proofs.starts.accept.Goals as goal
 pub keep-requires : goal.keep-requires
 keep-requires c =
     let l = c in
-    l.requires.y0_len.1.0
+    l.requires.session_length_in_bounds.0
 
 pub store-requires : goal.store-requires
 store-requires c =
     let l = c in
     let p = l.requires in
-    omega (arith, p.y0_len.0.0, p.y0_len.1.1)
+    omega (arith, p.y0_len.0, p.session_length_in_bounds.1)
 
 pub returns : goal.returns
 unfolding accepted_start_of
