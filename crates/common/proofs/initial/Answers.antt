@@ -1,20 +1,22 @@
 -- `initial` meets its contract: field by field; the larger of the two orders is found by a test.
 -- Assumes nothing.
 use mathlib.Core.Path.{◌≡◌}
-use mathlib.Core.Logic.{⊎_elim}
 use Prim.Native.Nat.{◌≤◌, max}
 use native.Mathlib.Omega.{arith}
 use borrow.Author.Rules.{rules}
 use Rattle.common.specs.Limits.{mxordn_of, mxords_of}
 use Rattle.common.specs.Initial.{initial_of}
 use Rattle.common.proofs.initial.Goals as goal
+use Rattle.common.proofs.initial.Goals.{then-a-b, else-a-b}
 
 pub overflow_add-lmax : goal.overflow_add-lmax
 overflow_add-lmax c =
     let j = c in
     let few : j.if-a-b.order ≤ 12 =
-    ⊎_elim (λ w. omega (arith, w.1, j.mxords-b.ensures))
-    (λ w. omega (arith, w.1, j.mxordn-a.ensures)) j.if-a-b.branch
+    elim j.if-a-b.branch [
+      | then-a-b w ↦ omega (arith, w.order-is, j.mxords-b.ensures)
+      | else-a-b w ↦ omega (arith, w.order-is, j.mxordn-a.ensures)
+    ]
     in
     omega arith
 
@@ -26,6 +28,9 @@ returns c =
     let b = j.mxords-b.ensures in
     let a = j.mxordn-a.ensures in
     let larger : j.if-a-b.order ≡ max (mxordn_of s) (mxords_of s) =
-    ⊎_elim (λ w. omega (arith, w.0.taken, w.1, a, b)) (λ w. omega (arith, w.0.left, w.1, a, b)) j.if-a-b.branch
+    elim j.if-a-b.branch [
+      | then-a-b w ↦ omega (arith, w.if-a-b.true, w.order-is, a, b)
+      | else-a-b w ↦ omega (arith, w.if-a-b.false, w.order-is, a, b)
+    ]
     in
     rw larger

@@ -38,7 +38,7 @@ less-requires c =
     simp length-set (omega (arith, column args.n args.kb (omega arith)))
 
 pub shape_of-work : goal.shape_of-work
-shape_of-work c = c.less.auto.0 ∙ simp length-set
+shape_of-work c = c.less.auto.work ∙ simp length-set
 
 pub returns : goal.returns
 unfolding backward_step_of backward_of

@@ -21,7 +21,7 @@ pub loop-j-preserved : goal.loop-j-preserved
 loop-j-preserved c =
     let l = c in
     let last = c.column in
-    (last.auto.0 ∙ l.loop-j.invariant.0, rw last.ensures (again _ _ _ _ _ (omega arith) l.loop-j.invariant.1))
+    (last.auto.a ∙ l.loop-j.invariant.0, rw last.ensures (again _ _ _ _ _ (omega arith) l.loop-j.invariant.1))
 
 pub returns : goal.returns
 returns c = ended _ _ _ _ _ (omega arith) c.loop-j.invariant.1

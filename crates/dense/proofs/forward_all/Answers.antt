@@ -33,7 +33,7 @@ loop-k-preserved c =
     let l = c in
     let last = c.less in
     let exchange = c.swap_entries in (
-      last.auto.0 ∙ (exchange.auto.0 ∙ l.loop-k.invariant.0),
+      last.auto.work ∙ (exchange.auto.work ∙ l.loop-k.invariant.0),
       rw (last.ensures, exchange.ensures) (again _ _ _ _ _ (omega arith) l.loop-k.invariant.1),
     )
 
