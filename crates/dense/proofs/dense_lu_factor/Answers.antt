@@ -24,7 +24,7 @@ unfolding step_of
 returns-then-not-step c =
     let l = c in
     let s = c.step in
-    let no = not-true s.result c.if-not-step.true in
+    let no = c.if-not-step.true in
     let args = l.args in
     let whole =
     sym (stays (step_of args.n) (l.loop-k.k + 1) args.n _ (λ k. refl))
@@ -36,9 +36,9 @@ pub loop-k-preserved : goal.loop-k-preserved
 loop-k-preserved c =
     let l = c in
     let s = c.step in
-    let yes = not-false s.result c.if-not-step.false in
+    let yes = c.if-not-step.false in
     let whole = onward _ _ _ _ _ _ (omega arith) (rw yes at (sym s.ensures)) l.loop-k.invariant.2 in
-    (s.auto.0 ∙ l.loop-k.invariant.0, s.auto.1.1.0 ∙ l.loop-k.invariant.1, whole)
+    (s.auto.a ∙ l.loop-k.invariant.0, s.auto.ipiv ∙ l.loop-k.invariant.1, whole)
 
 pub returns : goal.returns
 returns c = parts (ended _ _ _ _ _ (omega arith) c.loop-k.invariant.2)

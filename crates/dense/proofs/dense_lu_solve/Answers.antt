@@ -43,7 +43,7 @@ returns-then-not-backward_step c =
     let l = c in
     let s = c.backward_step in
     let args = l.args in
-    let no = not-true s.result c.if-not-backward_step.true in
+    let no = c.if-not-backward_step.true in
     let whole =
     refused args.n args.a args.b l.loop-kb.kb _ _ _ _ (omega arith) s.ensures l.loop-kb.invariant.1 no
     in
@@ -54,11 +54,11 @@ loop-kb-preserved c =
     let l = c in
     let s = c.backward_step in
     let args = l.args in
-    let yes = not-false s.result c.if-not-backward_step.false in
+    let yes = c.if-not-backward_step.false in
     let whole =
     taken args.n args.a args.b l.loop-kb.kb _ _ _ _ (omega arith) s.ensures l.loop-kb.invariant.1 yes
     in
-    (s.auto.0 ∙ l.loop-kb.invariant.0, whole)
+    (s.auto.work ∙ l.loop-kb.invariant.0, whole)
 
 pub returns : goal.returns
 returns c =

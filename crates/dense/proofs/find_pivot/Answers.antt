@@ -7,6 +7,7 @@ use Rattle.loops.specs.For.{for}
 use Rattle.loops.proofs.For.{onward, ended}
 use Rattle.dense.specs.Factor.{pick_row, pivot_of}
 use Rattle.dense.proofs.find_pivot.Goals as goal
+use Rattle.dense.proofs.find_pivot.Goals.{then-x-value, else-x-value}
 
 pub loop-i-init : goal.loop-i-init
 unfolding pivot_of
@@ -19,16 +20,16 @@ pub loop-i-preserved : goal.loop-i-preserved
 loop-i-preserved c =
     let l = c in
     let x = c.abs-x.ensures in
-    ⊎_elim
-    (λ w. (
-      omega (arith, w.1),
-      onward _ _ _ _ _ _ (omega arith) (rw (w.1, w.2, ← x, w.0.taken)) l.loop-i.invariant.1,
-    ))
-    (λ w. (
-      omega (arith, w.1),
-      onward _ _ _ _ _ _ (omega arith) (rw (w.1, w.2, ← x, w.0.left)) l.loop-i.invariant.1,
-    ))
-    c.if-x-value.branch
+    elim c.if-x-value.branch [
+      | then-x-value w ↦ (
+        omega (arith, w.row-is),
+        onward _ _ _ _ _ _ (omega arith) (rw (w.row-is, w.value-is, ← x, w.if-x-value.true)) l.loop-i.invariant.1,
+      )
+      | else-x-value w ↦ (
+        omega (arith, w.row-is),
+        onward _ _ _ _ _ _ (omega arith) (rw (w.row-is, w.value-is, ← x, w.if-x-value.false)) l.loop-i.invariant.1,
+      )
+    ]
 
 pub returns : goal.returns
 returns c = (ended _ _ _ _ _ (omega arith) c.loop-i.invariant.1, omega arith)

@@ -29,7 +29,7 @@ loop-j-preserved c =
     let l = c.loop-j in
     let last = c.add_scaled in
     let el = c.el.ensures in
-    (last.auto.0 ∙ l.invariant.0, rw (last.ensures, el) (again _ _ _ _ _ (omega arith) l.invariant.1))
+    (last.auto.work ∙ l.invariant.0, rw (last.ensures, el) (again _ _ _ _ _ (omega arith) l.invariant.1))
 
 pub returns : goal.returns
 returns c = ended _ _ _ _ _ (omega arith) c.loop-j.invariant.1

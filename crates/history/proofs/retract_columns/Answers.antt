@@ -27,7 +27,7 @@ pub loop-k-preserved : goal.loop-k-preserved
 loop-k-preserved c =
     let l = c.loop-k in
     let last = c.sub_next in
-    (last.auto.0 ∙ l.invariant.0, rw last.ensures (again _ _ _ _ _ (omega arith) l.invariant.1))
+    (last.auto.yh ∙ l.invariant.0, rw last.ensures (again _ _ _ _ _ (omega arith) l.invariant.1))
 
 pub returns : goal.returns
 returns c = ended _ _ _ _ _ (omega arith) c.loop-k.invariant.1
