@@ -9,7 +9,8 @@ FLOAT_ARRAY = "[f64; common::FLOAT_WORDS]"
 STATE = {"bool": "{} == 1", "MethodFamily": "family({})", "usize": "{}", "f64": "{}"}
 NUMBER = {"bool": "flag_number({})", "MethodFamily": "family_number({})", "usize": "{}", "f64": "{}"}
 STATE_OF = {"bool": "flag_of ({})", "MethodFamily": "family_of ({})", "usize": "{}", "f64": "{}"}
-NUMBER_OF = {"bool": "flag_number {}", "MethodFamily": "family_number {}", "Phase": "phase_number {}", "usize": "{}", "f64": "{}"}
+NUMBER_OF = {"bool": "flag_number {}", "MethodFamily": "family_number {}", "Phase": "phase_number {}", "usize": "{}",
+             "f64": "{}"}
 
 SETTINGS = [f for f in WORDS if f.record == "settings"]
 RECORD = [f for f in WORDS if f.record == "common"]
@@ -130,7 +131,7 @@ def listed(end):
     """A table of bounds, an entry a line, each with its field's name behind it."""
     rows = [f"{'' if k == 0 else '∷ '}{SPEC.get(f.bounds[end], f.bounds[end])}  -- {f.name}"
             for k, f in enumerate(COUNTS)]
-    return lines([*rows, "∷ []"], "    ")
+    return lines(rows, "    ") + "    ∷ []"
 
 
 def definitions():
@@ -184,6 +185,7 @@ session_of u f = record {{ settings = settings_of u f; common = common_of u f; p
 unfoldable pub lowest : List ℕ
 lowest =
 {listed(0)}
+
 unfoldable pub highest : List ℕ
 highest =
 {listed(1)}
