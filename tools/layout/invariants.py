@@ -15,14 +15,13 @@ def put_law(field):
     return f"""    pub put-{field.name} : Floats
 {wrapped(parameters(field), "        ")}
     put-{field.name} = {known}
-
 """
 
 
 def records():
     same = lambda x: ((f.name, f"{x}.{f.name}") for f in FLOAT_FIELDS)
     initial = ((f.name, GIVEN.get(f.initial[1], "literal _")) for f in FLOAT_FIELDS)
-    puts = "".join(put_law(f) for f in FLOAT_FIELDS if f.name not in FIXED)
+    puts = "\n".join(put_law(f) for f in FLOAT_FIELDS if f.name not in FIXED)
     return f"""\
 -- That the floats of the record `Common` are of the format, said of the floats one by one, so that it stands as it is
 -- where another field is set; one law for the setter of each float; a session's floats and those of its record; and the
@@ -50,7 +49,8 @@ module _ {{
     (f : Floats
 {wrapped(parameters(), "    ")})
   where
-{puts}pub commons : (x : Session) → FloatsFit x → CommonFits x.common
+{puts}
+pub commons : (x : Session) → FloatsFit x → CommonFits x.common
 commons x f = {record_of(same("f"))}
 
 pub floats : (x : Session) → Fit x.settings.xend → Fit x.settings.direction → CommonFits x.common

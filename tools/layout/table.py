@@ -4,7 +4,7 @@ A new field goes to the end of its group in its struct (floats, counts, flags), 
 RANGES if it is a count, and one in INITIAL if a start gives it another value than 0, false or Adams. After a run of
 tools/record.py what is left is its range in words (crates/session/specs/WordRanges.antt, which is not made: it says
 what RANGES must be) and its use: in the code and the definition that set it, in the lists of what a move may change
-(`attempted`, `testsMoved`), for a float its law `put-..` where it is set, for a count that it stays in its range.
+(`attempted`, `tests_moved`), for a float its law `put-..` where it is set, for a count that it stays in its range.
 """
 import re
 
