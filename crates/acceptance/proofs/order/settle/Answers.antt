@@ -41,7 +41,7 @@ stoda_adjust_step_size-requires-2 c =
     let r = c in
     let a = r in
     let p = a.requires.le_order in
-    rw r.stoda_reset-f.ensures (reset-range _ p.0 p.1 a.requires.step_in_range, p.2)
+    rw r.stoda_reset-f.ensures record { step_in_range = reset-range _ p.0 p.1 a.requires.step_in_range; n_in_bounds = p.2 }
 
 pub returns : goal.returns
 unfolding settle_of
