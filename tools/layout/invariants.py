@@ -40,7 +40,7 @@ pub record Floats (
 {lines((f"pub {f.name} : Fit {f.name}₀" for f in FLOAT_FIELDS), "  ")}
 abbrev pub CommonFits : Common → Type 0
 CommonFits c =
-{wrapped(["Floats"] + [f"c.{f.name}" for f in FLOAT_FIELDS], "    ", 96)}
+{wrapped(["Floats"] + [f"c.{f.name}" for f in FLOAT_FIELDS], "    ")}
 
 module _ {{
 {wrapped(parameters(), "    ")}

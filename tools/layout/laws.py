@@ -101,7 +101,7 @@ FITS = {
 
 
 def chain(parts, mark, last, indent):
-    return wrapped([p if k == 0 else f"{mark} {p}" for k, p in enumerate([*parts, last])], indent, 110 + len(indent))
+    return wrapped([p if k == 0 else f"{mark} {p}" for k, p in enumerate([*parts, last])], indent, 116)
 
 
 def laws():

@@ -184,23 +184,15 @@ def phases():
 # ---- text
 
 
-def breadth(part):
-    """What a part counts for in a line. `rt fmt` keeps the breaks of such lines, so they stand where they stood when a
-    name had no underscore and a field was `c .f`, and as an argument `(c .f)`.
-    """
-    part = re.sub(r"(?<=\w)_(?=\w)", "", part)
-    part = re.sub(r"(?<=\w )\w[\w.]*\.\w+", r"(\g<0>)", part)
-    return len(part.replace(".", " ."))
-
-
 def wrapped(parts, indent, width=118):
-    rows, row, used = [], [], 0
+    rows, row = [], indent
     for part in parts:
-        if row and used + breadth(part) + 1 > width:
-            rows, row = [*rows, row], []
-        used = (used if row else len(indent)) + breadth(part) + 1
-        row.append(part)
-    return "\n".join(indent + " ".join(row) for row in [*rows, row])
+        if len(row) + len(part) + 1 > width and row.strip():
+            rows.append(row.rstrip())
+            row = indent
+        row += part + " "
+    rows.append(row.rstrip())
+    return "\n".join(rows)
 
 
 def lines(parts, indent):
