@@ -14,6 +14,7 @@ mod words;
 
 use raimsklo::Reply;
 use refusals::Options;
+use std::io;
 
 // Work and question of the most states.
 const WORK_LENGTH: usize = common::MAX_STATES * common::MAX_STATES
@@ -289,18 +290,15 @@ fn whole() -> Found {
     all(&runs::RUNS)
 }
 
-fn replayed() {
+fn replayed(rt: &impl Print) -> io::Result<()> {
     let f = whole();
-    io::write_all(1, b"runs: ");
-    io::print_decimal(1, f.runs as u64);
-    io::write_all(1, b"\nanswers: ");
-    io::print_decimal(1, f.answers as u64);
-    io::write_all(1, b" compared, ");
-    io::print_decimal(1, f.differ as u64);
-    io::write_all(1, b" differ\n");
+    let runs = f.runs;
+    let answers = f.answers;
+    let differ = f.differ;
+    println!(rt; "runs: {runs}\nanswers: {answers} compared, {differ} differ")
 }
 
-fn main() {
-    replayed();
-    sums::lines();
+fn main(rt: HostRuntime) -> io::Result<()> {
+    replayed(&rt)?;
+    sums::lines(&rt)
 }
