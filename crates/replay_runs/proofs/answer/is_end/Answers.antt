@@ -2,7 +2,6 @@
 -- Assumes nothing.
 use native.Mathlib.Omega.{arith}
 use borrow.Author.Rules.{rules}
-use borrow.Author.Tests.{not-true, not-false}
 use Rattle.replay_runs.specs.Answer.{is_stored_end}
 use Rattle.replay_runs.proofs.answer.is_end.Goals as goal
 

@@ -6,7 +6,6 @@ use mathlib.Core.List.{List}
 use native.Mathlib.Nat.{sub-zero}
 use native.Mathlib.Omega.{arith}
 use borrow.Author.Rules.{rules}
-use borrow.Author.Tests.{not-true, not-false}
 use lib.ListN.{length, get_or}
 use lib.Ieee.{Float, nan}
 use Rattle.replay_runs.specs.Words.{is_stored_float, are_stored_from, are_stored_floats}

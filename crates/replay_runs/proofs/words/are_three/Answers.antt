@@ -2,7 +2,6 @@
 -- Assumes nothing.
 use native.Mathlib.Omega.{arith}
 use borrow.Author.Rules.{rules}
-use borrow.Author.Tests.{not-true, not-false}
 use Rattle.replay_runs.specs.Words.{are_stored_three}
 use Rattle.replay_runs.proofs.words.are_three.Goals as goal
 
