@@ -6,7 +6,7 @@ use Rattle.common.specs.SessionWords.{session_length}
 use Rattle.rig.proofs.drive.Given as goal
 
 abbrev pub invariant-loop : goal.invariant-loop
-invariant-loop l =
+invariant-loop g l =
     (l.counter ≤ 100000)
     × (length l.pose ≡ max_states) × (length l.numbers ≡ max_states) × (length l.columns ≡ max_states * max_states)
     × (length l.session ≡ session_length) × (length l.question ≡ question_length max_states)

@@ -3,5 +3,5 @@ use Rattle.std.proofs.Common.{◌≡◌, ◌-◌, ◌≤◌, length, arith, rule
 use Rattle.rig.proofs.frames.Given as goal
 
 abbrev pub invariant-loop-k : goal.invariant-loop-k
-invariant-loop-k l =
+invariant-loop-k g l =
     (l.k ≤ 9) × (length l.pose ≡ length l.initial.pose)
