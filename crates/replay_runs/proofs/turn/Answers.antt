@@ -1,6 +1,5 @@
 -- `turn` meets its contract: a reply and an answer have at most 5098 words. Assumes nothing.
 use native.Mathlib.Omega.{arith}
-use borrow.Author.Rules.{rules}
 use Rattle.replay_runs.proofs.turn.Goals as goal
 
 pub compared-requires : goal.compared-requires

@@ -1,5 +1,5 @@
 -- `drive` is safe and ends: each turn keeps the lengths of what is lent, and there are at most 100000. Assumes nothing.
-use Rattle.std.proofs.Common.{◌≡◌, ◌-◌, ◌*◌, ◌≤◌, length, arith, rules}
+use Rattle.std.proofs.Common.{◌≡◌, ◌*◌, ◌≤◌, length}
 use Rattle.common.specs.Layout.{question_length}
 use Rattle.common.specs.Limits.{max_states}
 use Rattle.common.specs.SessionWords.{session_length}

@@ -1,5 +1,5 @@
 -- `frames` is safe and ends: each turn keeps the length. Assumes nothing.
-use Rattle.std.proofs.Common.{◌≡◌, ◌-◌, ◌≤◌, length, arith, rules}
+use Rattle.std.proofs.Common.{◌≡◌, ◌≤◌, length}
 use Rattle.rig.proofs.frames.Given as goal
 
 abbrev pub invariant-loop-k : goal.invariant-loop-k

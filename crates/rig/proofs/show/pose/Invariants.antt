@@ -1,5 +1,5 @@
 -- `pose` is safe and ends. Assumes nothing.
-use Rattle.std.proofs.Common.{◌-◌, ◌≤◌, arith, rules}
+use Rattle.std.proofs.Common.{◌≤◌}
 use Rattle.rig.proofs.show.pose.Given as goal
 
 abbrev pub invariant-loop-i : goal.invariant-loop-i
