@@ -261,21 +261,21 @@ fn drive(
 }
 
 fn cost(rt: &impl Print, end: Reply, w: Watch) -> io::Result<()> {
-    show::count(rt, "ended by ", end.number)?;
+    show::count(rt, b"ended by ", end.number)?;
     print!(rt; ", h ")?;
     show::pattern(rt, end.h)?;
-    show::count(rt, "\nderivatives ", end.nfe)?;
-    show::count(rt, ", Jacobians ", end.nje)?;
-    show::count(rt, ", factorings ", end.nlu)?;
-    show::count(rt, "\nderivatives seen ", w.derivatives)?;
-    show::count(rt, ", Jacobians seen ", w.jacobians)?;
-    show::count(rt, "\nsteps ", end.total)?;
-    show::count(rt, ", accepted ", end.accepted)?;
-    show::count(rt, ", rejected ", end.rejected)?;
-    show::count(rt, "\nreports ", w.reports)?;
-    show::count(rt, ", wrong ", w.wrong)?;
-    show::count(rt, "\nmost derivatives in a step ", w.most)?;
-    show::count(rt, ", capped at ", w.capped)?;
+    show::count(rt, b"\nderivatives ", end.nfe)?;
+    show::count(rt, b", Jacobians ", end.nje)?;
+    show::count(rt, b", factorings ", end.nlu)?;
+    show::count(rt, b"\nderivatives seen ", w.derivatives)?;
+    show::count(rt, b", Jacobians seen ", w.jacobians)?;
+    show::count(rt, b"\nsteps ", end.total)?;
+    show::count(rt, b", accepted ", end.accepted)?;
+    show::count(rt, b", rejected ", end.rejected)?;
+    show::count(rt, b"\nreports ", w.reports)?;
+    show::count(rt, b", wrong ", w.wrong)?;
+    show::count(rt, b"\nmost derivatives in a step ", w.most)?;
+    show::count(rt, b", capped at ", w.capped)?;
     println!(rt; "")
 }
 

@@ -4,8 +4,9 @@ ghost use Rattle.common.specs.Limits.{max_states};
 
 use std::io;
 
-pub fn count(rt: &impl Print, name: &str, n: usize) -> io::Result<()> {
-    print!(rt; "{name}{n}")
+pub fn count(rt: &impl Print, name: &[u8], n: usize) -> io::Result<()> {
+    rt.write_all(name)?;
+    rt.print(n)
 }
 
 fn whole(rt: &impl Print, x: f64) -> io::Result<()> {
@@ -35,7 +36,7 @@ pub fn frame(rt: &impl Print, t: f64, refused: usize, y: &[f64]) -> io::Result<(
     print!(rt; "at")?;
     millionths(rt, t)?;
     if refused != 0 {
-        count(rt, " refused by ", refused)?;
+        count(rt, b" refused by ", refused)?;
     } else {
         print!(rt; ":")?;
         millionths(rt, y[0])?;
