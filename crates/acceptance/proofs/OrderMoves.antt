@@ -29,7 +29,8 @@ use Rattle.acceptance.specs.declared.Branch.{Branch}
 use Rattle.acceptance.specs.declared.Branch.TheVariants.{SmallGain, Lowered, Kept, Raised, HeldBySm1}
 use Rattle.acceptance.specs.declared.Branch.TheVariants.{FamilyChanged}
 use Rattle.acceptance.specs.declared.order.Factors.{Factors}
-use Rattle.acceptance.specs.Order.{Settled, raised_at, raised_work_of, raised_left_of, held_of, waits_of, order_taken_of}
+use Rattle.acceptance.specs.Order.{Settled, raised_at, raised_work_of, raised_left_of, held_of, waits_of}
+use Rattle.acceptance.specs.Order.{order_taken_of}
 use Rattle.acceptance.specs.Order.{settle_of, raise_column_at, raise_column_of, raise_of, lower_of, same_largest}
 use Rattle.acceptance.specs.Order.{choose_of, forgotten_of, choose_order_of}
 
@@ -102,7 +103,8 @@ module _ (s : Settings) (c : Common) (k : ℕ) where
   three : (branch : Branch) (work : List Float) → Moves s c k work (waits_of branch c work)
   three branch work = waits-moves branch 3 work (λ h. omega arith) (omega arith)
 
-  taken-moves : (rh : Float) (branch : Branch) (work : List Float) → Moves s c k work (order_taken_of s c rh branch work)
+  taken-moves : (rh : Float) (branch : Branch) (work : List Float)
+      → Moves s c k work (order_taken_of s c rh branch work)
   unfolding adjust_of
   taken-moves rh branch work =
       record {

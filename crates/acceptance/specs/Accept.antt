@@ -32,7 +32,8 @@ counted_down c = with_ialth (c.ialth - 1) c
 
 unfoldable pub keep_family_of : Settings → Common → Float → List Float → Settled
 keep_family_of s c dsm work =
-    cond (eqb (c.ialth - 1) 0) (choose_order_of s (counted_down c) dsm work) (took_branch Unchanged (counted_down c) work)
+    cond (eqb (c.ialth - 1) 0) (choose_order_of s (counted_down c) dsm work)
+    (took_branch Unchanged (counted_down c) work)
 
 abbrev pub changed_family : Moved → Settled
 changed_family m = took_branch FamilyChanged m.common m.work

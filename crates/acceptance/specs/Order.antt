@@ -33,7 +33,8 @@ pub record Settled : Type 0 where
 
 -- savf = acor - column lmax - 1
 abbrev pub raised_at : ℕ → ℕ → ℕ → List Float → List Float
-raised_at n lmax i work = set work (savf_at n + i) (get_or work (acor_at n + i) nan ⊖ get_or work (i + (lmax - 1) * n) nan)
+raised_at n lmax i work =
+    set work (savf_at n + i) (get_or work (acor_at n + i) nan ⊖ get_or work (i + (lmax - 1) * n) nan)
 
 unfoldable pub raised_work_of : ℕ → ℕ → List Float → List Float
 raised_work_of n lmax work = for 0 n (raised_at n lmax) work

@@ -70,7 +70,8 @@ no_convergence_at s true c work = stops_as Poor c work
 no_convergence_at s false c work = goes_on Pass (quartered_of s c work)
 
 unfoldable pub no_convergence_of : Settings → Common → List Float → Attempt
-no_convergence_of s c work = no_convergence_at s (poor_of s (unconverged_of c)) (unconverged_of c) (retracted_work s c work)
+no_convergence_of s c work =
+    no_convergence_at s (poor_of s (unconverged_of c)) (unconverged_of c) (retracted_work s c work)
 
 -- ---- the error test
 

@@ -26,10 +26,12 @@ use Rattle.vectors.specs.Weights.{ewset_of, invert_of}
 use Rattle.common.specs.Initial as Initial
 use Rattle.common.specs.SessionWords.{session_length}
 use Rattle.common.specs.Rules.{first_call_init_of, reset_of}
-use Rattle.history.specs.Columns.{predict_columns_of, retract_columns_of, rescale_columns_of, add_scaled_of, correct_columns_of}
+use Rattle.history.specs.Columns.{predict_columns_of, retract_columns_of, rescale_columns_of, add_scaled_of}
+use Rattle.history.specs.Columns.{correct_columns_of}
 use Rattle.history.specs.Columns.{copy_of, slope_of, fill_of, scale_part_of}
 use Rattle.history.specs.Steps.{limited_of, adjust_of, stale_of, predicted_of}
-use Rattle.corrector.specs.Verdict.{judge_of, rated_of, dcon_of, estimated_of, judged_converged, give_up_of, judged_further}
+use Rattle.corrector.specs.Verdict.{judge_of, rated_of, dcon_of, estimated_of, judged_converged, give_up_of}
+use Rattle.corrector.specs.Verdict.{judged_further}
 use Rattle.corrector.specs.Verdict.{judged_tested}
 use Rattle.corrector.specs.Iterate.{open_of, adams_residual_of, adams_update_of, adams_of, correct_of}
 use Rattle.attempt.specs.Attempt as Attempt
@@ -131,7 +133,8 @@ begins-10 = begins-single problem10 accepted.1 floats-10 slices refl
 
 begins-two : Begins (problem_of two_steps) slices
 begins-two =
-    begins-single two_steps accepted-two (given-floats two_steps (literal _, literal _, literal _, literal _, literal _))
+    begins-single two_steps accepted-two
+    (given-floats two_steps (literal _, literal _, literal _, literal _, literal _))
     slices refl
 
 abbrev gives : ReplyCall
@@ -183,7 +186,8 @@ record Computed : Type 0 where
   reports : (phase : Phase) → PhaseAt 1 (node (gives ∷ [])) phase → phase ≡ Phase.FirstReport
 
 computed : Computed
-unfolding told_by stands_at kind_of accepted_settings given_step_of Refusals.smallest_of Refusals.largest_of Refusals.inverse_of
+unfolding told_by stands_at kind_of accepted_settings given_step_of Refusals.smallest_of Refusals.largest_of
+    Refusals.inverse_of
     Refusals.inverse_largest_of
     Rules.start Rules.beginning Rules.started Rules.weighted Rules.sized Rules.first_answered Rules.solve_at Rules.step
     Rules.attempts Rules.decide Rules.tested Rules.stepped Rules.after_acceptance Rules.closed Rules.after_report
@@ -194,11 +198,14 @@ unfolding told_by stands_at kind_of accepted_settings given_step_of Refusals.sma
     Attempt.missed_of Attempt.overshot_of Attempt.failed_of Attempt.unconverged_of Attempt.quartered_of
     Attempt.no_convergence_at Attempt.no_convergence_of Accept.corrected_of Accept.keep_family_of Accept.test_family_of
     Accept.accept_of Accept.closed_of judge_of rated_of dcon_of estimated_of judged_converged give_up_of judged_further
-    judged_tested open_of adams_residual_of adams_update_of adams_of correct_of limited_of adjust_of stale_of predicted_of
+    judged_tested open_of adams_residual_of adams_update_of adams_of correct_of limited_of adjust_of stale_of
+    predicted_of
     predict_columns_of retract_columns_of rescale_columns_of add_scaled_of correct_columns_of copy_of slope_of fill_of
-    scale_part_of first_call_init_of reset_of ewset_of invert_of tolerance_of vmnorm_of elco_of tesco_of sm1_of cfode_of root_of abs_of
+    scale_part_of first_call_init_of reset_of ewset_of invert_of tolerance_of vmnorm_of elco_of tesco_of sm1_of
+    cfode_of root_of abs_of
     negative signum_of refused max_of min_of times add sub mul div neg lt eq le ne of_int of_bits
-    Order.raised_work_of Order.raised_left_of Order.raised_size_of Order.lowered_size_of Order.limited_factors_of Order.settle_of
+    Order.raised_work_of Order.raised_left_of Order.raised_size_of Order.lowered_size_of Order.limited_factors_of
+    Order.settle_of
     Order.raise_column_of Order.raise_of Order.lower_of Order.choose_of Order.choose_order_of size_of
 computed =
     record {

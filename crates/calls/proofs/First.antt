@@ -192,7 +192,8 @@ module _ (p : Problem) (b : Buffers) (begins : Begins p b) (r : ReplyCall) (time
   exactly-so : (y : Refusal) → Answers y a → IsFirst (first_rows p b f) y → FirstExactly p b r
   exactly-so y like is =
       let rest = size_row p b f in
-      exactly-as (λ q. y ≡ q) (λ q. a ≡ refusal_reply q) _ _ (same_end y a like) (first_rows p b f) (Unit {0}) (Unit {0})
+      exactly-as (λ q. y ≡ q) (λ q. a
+      ≡ refusal_reply q) _ _ (same_end y a like) (first_rows p b f) (Unit {0}) (Unit {0})
       (λ z. z, λ z. z)
       (each-weight (λ q. (y ≡ q) ↔ (a ≡ refusal_reply q)) p rest refl (same_answer y a like) n 0)
       (exactly (place_of n) (first_rows p b f) 0 y (Unit {0}) tt

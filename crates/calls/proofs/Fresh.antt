@@ -88,7 +88,8 @@ module _ (m : ℕ) where
 
 -- ---- the session
 
-kept_fresh : (x : Session) (rtol atol : List Float) (a b : List ℕ) → length a ≡ session_length → length b ≡ session_length
+kept_fresh : (x : Session) (rtol atol : List Float) (a b : List ℕ) → length a ≡ session_length
+    → length b ≡ session_length
     → put_tolerances_of rtol atol (encode_of x a) ≡ put_tolerances_of rtol atol (encode_of x b)
 unfolding put_tolerances_of encode_of put_counts_of put_floats_of
 kept_fresh x rtol atol a b p q =

@@ -172,7 +172,8 @@ unfolding lengths_refusal in_order also_of or_else
 lengths-are n work pivots question rest =
     by (not (eqb work (work_length n))) (not (eqb pivots n)) (not (eqb question (question_length n)))
   where
-    by : (s t u : Bool) → or_else (also_of (also_of (also_of none s 3) t 3) u 3) rest ≡ cond (s || (t || u)) (plain 3) rest
+    by : (s t u : Bool)
+        → or_else (also_of (also_of (also_of none s 3) t 3) u 3) rest ≡ cond (s || (t || u)) (plain 3) rest
     by true t u = refl
     by false true u = refl
     by false false true = refl

@@ -27,11 +27,13 @@ use Rattle.common.specs.Initial as Initial
 use Rattle.common.specs.SessionWords.{session_length}
 use Rattle.common.specs.Layout.{column}
 use Rattle.common.specs.Rules.{first_call_init_of, reset_of}
-use Rattle.history.specs.Columns.{predict_columns_of, retract_columns_of, rescale_columns_of, add_scaled_of, correct_columns_of}
+use Rattle.history.specs.Columns.{predict_columns_of, retract_columns_of, rescale_columns_of, add_scaled_of}
+use Rattle.history.specs.Columns.{correct_columns_of}
 use Rattle.history.specs.Columns.{copy_of, slope_of, fill_of, scale_part_of}
 use Rattle.history.specs.Steps.{limited_of, adjust_of, stale_of, predicted_of}
 use Rattle.interpolation.proofs.Examples.{sum-7}
-use Rattle.corrector.specs.Verdict.{judge_of, rated_of, dcon_of, estimated_of, judged_converged, give_up_of, judged_further}
+use Rattle.corrector.specs.Verdict.{judge_of, rated_of, dcon_of, estimated_of, judged_converged, give_up_of}
+use Rattle.corrector.specs.Verdict.{judged_further}
 use Rattle.corrector.specs.Verdict.{judged_tested}
 use Rattle.corrector.specs.Iterate.{open_of, adams_residual_of, adams_update_of, adams_of, correct_of}
 use Rattle.attempt.specs.Attempt as Attempt
@@ -240,21 +242,26 @@ unfolding start_refusal_of or_else also_of in_order Refusals.size_refusal Refusa
 accepted = (refl, refl, refl, refl)
 
 computed : Ends row8 × Ends row9 × Ends row10 × Ends row11 × Ends row12
-unfolding allowed hosted shown_as accepted_settings given_step_of Refusals.smallest_of Refusals.largest_of Refusals.inverse_of
+unfolding allowed hosted shown_as accepted_settings given_step_of Refusals.smallest_of Refusals.largest_of
+    Refusals.inverse_of
     Refusals.inverse_largest_of beginning resume_at resume_of asked_in_step_of finished_of
     Begin.setup_of Begin.prepared_at Begin.prepared_of Begin.predicted_at Begin.first_prediction_of Turns.open_pass_of
     Turns.began_of Turns.go_on_at Turns.go_on_of Pass.attempted_at Pass.reported_of Pass.closed_at Pass.end_step_of
     Pass.accepted_at
     Pass.accepted_of Pass.error_test_at Pass.error_test_of Pass.pass_failed_of Pass.concluded_at Pass.iterate_of
-    Pass.iterations_of Pass.opened_reply_at Pass.opened_reply_of Pass.further_reply_of Initial.initial_of Start.first_size_of
+    Pass.iterations_of Pass.opened_reply_at Pass.opened_reply_of Pass.further_reply_of Initial.initial_of
+    Start.first_size_of
     Reports.sized_at Reports.sized_of Reports.weighted_at Reports.first_derivative_of Reports.after_first_report_of
-    Reports.after_report_of Attempt.retracted_of Attempt.repredict_of Attempt.error_of Attempt.shrunk_of Attempt.missed_at
+    Reports.after_report_of Attempt.retracted_of Attempt.repredict_of Attempt.error_of Attempt.shrunk_of
+    Attempt.missed_at
     Attempt.missed_of Attempt.overshot_of Attempt.failed_of Attempt.unconverged_of Attempt.quartered_of
     Attempt.no_convergence_at Attempt.no_convergence_of Accept.corrected_of Accept.keep_family_of Accept.test_family_of
     Accept.accept_of Accept.closed_of judge_of rated_of dcon_of estimated_of judged_converged give_up_of judged_further
-    judged_tested open_of adams_residual_of adams_update_of adams_of correct_of limited_of adjust_of stale_of predicted_of
+    judged_tested open_of adams_residual_of adams_update_of adams_of correct_of limited_of adjust_of stale_of
+    predicted_of
     predict_columns_of retract_columns_of rescale_columns_of add_scaled_of correct_columns_of copy_of slope_of fill_of
-    scale_part_of first_call_init_of reset_of ewset_of invert_of tolerance_of vmnorm_of elco_of tesco_of sm1_of cfode_of root_of abs_of
+    scale_part_of first_call_init_of reset_of ewset_of invert_of tolerance_of vmnorm_of elco_of tesco_of sm1_of
+    cfode_of root_of abs_of
     negative signum_of refused max_of min_of times add sub mul div neg lt eq le ne of_int of_bits
 computed = (
   record { asked = refl; over = refl; reply = refl; y = refl },

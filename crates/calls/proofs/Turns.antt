@@ -27,7 +27,8 @@ use Rattle.common.specs.State.{Given, State, put_c}
 use Rattle.jacobian.specs.Jacobian.{is_supplied, begin_of, finish_jacobian_of as factors_of}
 use Rattle.corrector.specs.declared.Pass.{Pass}
 use Rattle.corrector.specs.declared.Pass.TheVariants as Pass
-use Rattle.attempt.specs.Attempt.{poor_of, no_convergence_at, no_convergence_of, error_of, missed_at, missed_of, overshot_of}
+use Rattle.attempt.specs.Attempt.{poor_of, no_convergence_at, no_convergence_of, error_of, missed_at, missed_of}
+use Rattle.attempt.specs.Attempt.{overshot_of}
 use Rattle.attempt.specs.Attempt.{failed_of, retracted_work}
 use Rattle.attempt.specs.Attempt as Attempt
 use Rattle.acceptance.specs.declared.Branch.{Branch}
@@ -45,7 +46,8 @@ use Rattle.questions.specs.Begin.{open_pass_of, began_of, go_on_at, go_on_of}
 use Rattle.between_steps.specs.Begin.{is_going}
 use Rattle.passes.specs.Pass.{attempted_at, attempted_of, reported_of, closed_at, end_step_of, accepted_at, accepted_of}
 use Rattle.passes.specs.Pass.{error_test_at, error_test_of, pass_failed_of, concluded_at, iterate_of, iterations_of}
-use Rattle.passes.specs.Pass.{matrix_done_at, matrix_done_of, ask_column_of, ask_jacobian_at, ask_jacobian_of, opened_reply_at}
+use Rattle.passes.specs.Pass.{matrix_done_at, matrix_done_of, ask_column_of, ask_jacobian_at, ask_jacobian_of}
+use Rattle.passes.specs.Pass.{opened_reply_at}
 use Rattle.passes.specs.Pass.{opened_reply_of, jacobian_reply_of, column_reply_at, column_reply_of, further_reply_of}
 use Rattle.passes.specs.Pass.{restep_reply_of}
 use Rattle.reports.specs.Reports.{sized_at, sized_of, weighted_at, first_derivative_of, after_first_report_of}
@@ -228,7 +230,8 @@ module _ (g : Given) (x : State) (reply : List Float) (time : Float) where
   after-report Modified = record { agrees = refl; means = (refl, refl) }
 
   taken : (phase : Phase) (kind : Kind) → Asked phase kind → Taken phase kind
-  unfolding resume_at first_derivative_of first_modified_of opened_reply_of jacobian_reply_of column_reply_of further_reply_of
+  unfolding resume_at first_derivative_of first_modified_of opened_reply_of jacobian_reply_of column_reply_of
+      further_reply_of
       restep_reply_of modified_of
   taken Phase.FirstDerivative kind e = weighted-at kind _ _
   taken Phase.FirstReport (Kind.Report a) e = first-report a

@@ -2,7 +2,8 @@
 -- Demand 3 counts the questions that the calls returned. Steps, families, Jacobians and ends are taken from the tree of
 -- the step rules, fed the start's arguments and the replies not refused: nothing of the session's but its accepted
 -- count. A list that ends early covers the step under way. That a run succeeds is not claimed: its end may be any.
-use Rattle.std.specs.Prelude.{Bool, true, false, cond, ◌&&◌, ◌||◌, List, [], ◌∷◌, ◌≡◌, ℕ, ◌+◌, ◌*◌, ◌≤◌, eqb, leb, length}
+use Rattle.std.specs.Prelude.{Bool, true, false, cond, ◌&&◌, ◌||◌, List, [], ◌∷◌, ◌≡◌, ℕ, ◌+◌, ◌*◌, ◌≤◌, eqb, leb}
+use Rattle.std.specs.Prelude.{length}
 use Rattle.invariants.specs.Host.{IsF64}
 use Rattle.session.specs.Session.{decode_of}
 use Rattle.rules.specs.Play.{derivative_at, Play, ret, ask, tell, say}

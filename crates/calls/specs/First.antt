@@ -26,7 +26,10 @@ weight_of p i = tolerance_of p.rtol i ⊗ abs_of (get_or p.y0 i nan) ⊕ toleran
 abbrev pub weight_rows : Problem → ℕ → ℕ → List Row → List Row
 weight_rows p zero i rest = rest
 weight_rows p (suc k) i rest =
-    record { refusal = record { number = 12; index = i; value = zero_f }; holds = Ieee.le (weight_of p i) zero_f ≡ true }
+    record {
+      refusal = record { number = 12; index = i; value = zero_f };
+      holds = Ieee.le (weight_of p i) zero_f ≡ true;
+    }
     ∷ weight_rows p k (i + 1) rest
 
 -- the state with its weights, f being the first derivative, and the first step there: the one given or computed

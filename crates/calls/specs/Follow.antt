@@ -2,7 +2,8 @@
 -- says, fed the start's arguments and the replies not refused, bit for bit (`calls-follow` in proofs/Follow.antt).
 -- What is left in work, pivots and session is the tree's too. No call of a run returns 13; a refused reply returns 3 or
 -- 14 and changes nothing. That the tree is the Rust's is believed, not claimed (docs/PROOFS.md).
-use Rattle.std.specs.Prelude.{Bool, true, false, cond, not, ◌&&◌, List, [], ◌∷◌, ◌++◌, map, ◌⊎◌, ◌≡◌, ℕ, ◌+◌, ◌-◌, eqb, length, replicate, Float}
+use Rattle.std.specs.Prelude.{Bool, true, false, cond, not, ◌&&◌, List, [], ◌∷◌, ◌++◌, map, ◌⊎◌, ◌≡◌, ℕ, ◌+◌, ◌-◌, eqb}
+use Rattle.std.specs.Prelude.{length, replicate, Float}
 use Rattle.loops.specs.Part.{put_part}
 use Rattle.numbers.specs.Float.{zero_f}
 use Rattle.common.specs.SessionWords.{session_length}

@@ -40,7 +40,8 @@ adams_update_of n e work = for 0 n (adams_update_at n e) work
 -- y = h·savf - (column 1 + acor)
 abbrev pub bdf_residual_at : ℕ → Float → ℕ → List Float → List Float
 bdf_residual_at n h i work =
-    set work (y_at n + i) (h ⊗ get_or work (savf_at n + i) nan ⊖ (get_or work (n + i) nan ⊕ get_or work (acor_at n + i) nan))
+    set work (y_at n + i)
+    (h ⊗ get_or work (savf_at n + i) nan ⊖ (get_or work (n + i) nan ⊕ get_or work (acor_at n + i) nan))
 
 unfoldable pub bdf_residual_of : ℕ → Float → List Float → List Float
 bdf_residual_of n h work = for 0 n (bdf_residual_at n h) work

@@ -64,7 +64,8 @@ judged_further s c del =
     cond (strays s c del) (give_up_of c) (record { pass = Further; common = with_m (c.m + 1) (with_delp del c) })
 
 unfoldable pub judged_tested : Settings → Common → Float → Verdict
-judged_tested s c del = cond (Ieee.le (dcon_of c del) one_f) (judged_converged (estimated_of s c)) (judged_further s c del)
+judged_tested s c del =
+    cond (Ieee.le (dcon_of c del) one_f) (judged_converged (estimated_of s c)) (judged_further s c del)
 
 -- the first iteration of the Adams family is not tested
 abbrev pub rated_verdict : Settings → Common → Float → Bool → Bool → Verdict

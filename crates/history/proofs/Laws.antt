@@ -81,7 +81,8 @@ length-add-scaled : (n j : ℕ) (e : Float) (at : ℕ) (l : List Float) → leng
 unfolding add_scaled_of
 length-add-scaled n j e at l = length-for (add_scaled_at n j e at) 0 n l (λ i t. simp length-set)
 
-pub length-correct : (s : Settings) (c : Common) (work : List Float) → length (correct_columns_of s c work) ≡ length work
+pub length-correct : (s : Settings) (c : Common) (work : List Float)
+    → length (correct_columns_of s c work) ≡ length work
 unfolding correct_columns_of
 length-correct s c work = length-for (correct_at s c) 0 (c.nq + 1) work (λ j t. length-add-scaled s.n j _ _ t)
 

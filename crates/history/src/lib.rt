@@ -7,7 +7,8 @@ ghost use Rattle.common.specs.Layout.{matrix_at};
 ghost use Rattle.history.specs.Columns.{add_range, sub_range, predict_columns_of, retract_columns_of, times_of};
 ghost use Rattle.history.specs.Columns.{rescale_columns_of, add_scaled_of, correct_columns_of, copy_of, slope_of};
 ghost use Rattle.common.specs.Ranges.{StepInRange};
-ghost use Rattle.history.specs.Steps.{least_of, pdh_of, limited_of, adjust_of, stale_of, predicted_of, predicted_work_of};
+ghost use Rattle.history.specs.Steps.{least_of, pdh_of, limited_of, adjust_of, stale_of, predicted_of};
+ghost use Rattle.history.specs.Steps.{predicted_work_of};
 ghost use Rattle.history.specs.Parts.{norm_at_of, stored_of};
 
 use common::{Common, Settings};

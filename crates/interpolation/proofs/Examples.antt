@@ -41,7 +41,8 @@ snapshot n nq h = n ∷ nq ∷ one_f ∷ h ∷ d0_5 ∷ uround ∷ d2 ∷ d0_5 �
 pub sum-7 : (y : Float) →
     (interpolate_of d0_75 (snapshot one_f one_f d0_5) (y ∷ []) ≡ outputs 0 (d1_75 ∷ []))
     × (interpolate_of d0_75 (snapshot one_f one_f zero_f) (y ∷ []) ≡ outputs 17 (y ∷ []))
-unfolding times whole_count_of read_header_of last_column_of horner_of evaluate_of interpolate_sized_of interpolate_of eq sub mul
+unfolding times whole_count_of read_header_of last_column_of horner_of evaluate_of interpolate_sized_of interpolate_of
+    eq sub mul
     div of_bits of_int
 sum-7 y = (refl, refl)
 
@@ -92,7 +93,8 @@ copies xi a b c d y = (refl, refl, refl)
 pub minus-zero : (y : Float) →
     (interpolate_of d0_75 (snapshot one_f minus_zero d0_5) (y ∷ []) ≡ outputs 0 (d2 ∷ []))
     × (interpolate_of d0_75 (snapshot minus_zero one_f d0_5) [] ≡ outputs 0 [])
-unfolding times whole_count_of read_header_of last_column_of horner_of evaluate_of interpolate_sized_of interpolate_of eq of_bits
+unfolding times whole_count_of read_header_of last_column_of horner_of evaluate_of interpolate_sized_of interpolate_of
+    eq of_bits
     of_int
 minus-zero y = (refl, refl)
 

@@ -68,7 +68,8 @@ cancel-size x y m e p =
     eq_of_mul-eq-mul_right (suc m * up e * down e) (mul-pos (mul-pos (zero-lt-suc m) (up_pos e)) (down_pos e))
     (x.plus * y.bottom + y.minus * x.bottom) (y.plus * x.bottom + x.minus * y.bottom) p
 
-pub cancel : (h : Float) → Finite h → Ieee.eq h zero_f ≡ false → (x y : Fraction) → x ⊠ exact_of h ≈ y ⊠ exact_of h → x ≈ y
+pub cancel : (h : Float) → Finite h → Ieee.eq h zero_f ≡ false → (x y : Fraction) → x ⊠ exact_of h ≈ y ⊠ exact_of h
+    → x ≈ y
 unfolding Ieee.eq Ieee.of_bits
 cancel nan f n x y p = absurd f
 cancel (inf s) f n x y p = absurd f

@@ -75,9 +75,11 @@ module _ (cont yi : List Float) (n nq i : ℕ) (s : Float) (h : i < length yi) (
             rw (z, q) (t.here i h ∙ entry-is nq);
       }
 
-  all-turns : get_or (for 1 (nq + 1) (horner_turn cont n nq s) (last_column_of (column_in cont n nq) yi)) i nan ≡ from 0 nq
+  all-turns : get_or (for 1 (nq + 1) (horner_turn cont n nq s) (last_column_of (column_in cont n nq) yi)) i nan
+      ≡ from 0 nq
   all-turns =
-      (reaches Done (horner_turn cont n nq s) (nq + 1) turn 1 (last_column_of (column_in cont n nq) yi) (omega arith) begin
+      (reaches Done (horner_turn cont n nq s) (nq + 1) turn 1 (last_column_of (column_in cont n nq) yi) (omega arith)
+      begin
       ).value 0 nq refl (omega arith)
 
 pub evaluated : (xi : Float) (cont : List Float) (z : Sizes) (yi : List Float) (i : ℕ) → i < length yi

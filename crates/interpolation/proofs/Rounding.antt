@@ -51,7 +51,8 @@ closest-near n u U = rw (div-add-mod' n u) at at_last
     small : r < u
     small = mod-lt n U
 
-    go : (o : Ordering) → (T (is_le o) → r * 2 ≤ u) → (T (not (is_le o)) → u < r * 2) → (T (compare_is_eq o) → r * 2 ≡ u)
+    go : (o : Ordering) → (T (is_le o) → r * 2 ≤ u) → (T (not (is_le o)) → u < r * 2)
+        → (T (compare_is_eq o) → r * 2 ≡ u)
         → Apart (nearest q o * u * 2) ((q * u + r) * 2) u
     go Ordering.lt h k e = let l = h tt in (omega arith, omega arith)
     go Ordering.eq h k e = tie q r u (q % 2) (omega arith) (e tt)

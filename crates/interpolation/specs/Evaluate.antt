@@ -60,4 +60,5 @@ headed_of xi cont (Read z) yi = interpolate_sized_of xi cont z yi
 
 unfoldable pub interpolate_of : Float → List Float → List Float → Interpolated
 interpolate_of xi cont yi =
-    cond (eqb (length cont) (length yi)) (outputs 0 (last_column_of cont yi)) (headed_of xi cont (read_header_of cont) yi)
+    cond (eqb (length cont) (length yi)) (outputs 0 (last_column_of cont yi))
+    (headed_of xi cont (read_header_of cont) yi)

@@ -30,7 +30,8 @@ with_states cont NotWhole = Refused
 with_states cont (Is n) = with_order cont n (whole_count_of (get_or cont 1 nan) 12)
 
 unfoldable pub read_header_of : List Float → Header
-read_header_of cont = cond (ltb (length cont) 6) Refused (with_states cont (whole_count_of (get_or cont 0 nan) max_states))
+read_header_of cont =
+    cond (ltb (length cont) 6) Refused (with_states cont (whole_count_of (get_or cont 0 nan) max_states))
 
 -- the opposite, of a snapshot and the sizes that are read from it: 15 is refused exactly where no sizes have it
 -- (proofs/Counts.antt)

@@ -63,7 +63,8 @@ module _ (s : Settings) where
       choose-fits (forgotten_of c) (limited_factors_of c (factors_of s c dsm work)) (raised_left_of s c work)
       (put-pdest (either Fit (is_bdf c.meth) c.pdest zero_f f.pdest (literal _)) f)
 
-  keep-family : (c : Common) (dsm : Float) (work : List Float) → CommonFits c → SettledFits (keep_family_of s c dsm work)
+  keep-family : (c : Common) (dsm : Float) (work : List Float) → CommonFits c
+      → SettledFits (keep_family_of s c dsm work)
   unfolding keep_family_of
   keep-family c dsm work f =
       either SettledFits (eqb (c.ialth - 1) 0) _ _ (choose-order (counted_down c) dsm work f) f
@@ -80,7 +81,8 @@ module _ (s : Settings) where
   tested-fits c dsm work Gap f = f
   tested-fits c dsm work (To to) f = changed-fits c to work f
 
-  test-family : (c : Common) (dsm : Float) (work : List Float) → CommonFits c → SettledFits (test_family_of s c dsm work)
+  test-family : (c : Common) (dsm : Float) (work : List Float) → CommonFits c
+      → SettledFits (test_family_of s c dsm work)
   unfolding test_family_of
   test-family c dsm work f =
       either SettledFits (ltb c.icount 1000000) _ _

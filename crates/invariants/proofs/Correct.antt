@@ -18,7 +18,8 @@ use Rattle.common.specs.Record.{is_bdf}
 use Rattle.jacobian.specs.Jacobian.{begin_of, finish_jacobian_of}
 use Rattle.corrector.specs.declared.Correction.{Correction}
 use Rattle.corrector.specs.declared.Verdict.{Verdict}
-use Rattle.corrector.specs.Verdict.{rm_of, rated_of, dcon_of, pdest_of, estimated_of, judged_converged, give_up_of, strays}
+use Rattle.corrector.specs.Verdict.{rm_of, rated_of, dcon_of, pdest_of, estimated_of, judged_converged, give_up_of}
+use Rattle.corrector.specs.Verdict.{strays}
 use Rattle.corrector.specs.Verdict.{judged_further, judged_tested, rated_verdict, solved_verdict, judge_of}
 use Rattle.corrector.specs.Iterate.{open_of, Corrected, adams_of, bdf_of, bdf_residual_of, correct_in, correct_of}
 use Rattle.session.proofs.Fits.{Fit}

@@ -15,13 +15,15 @@ use Rattle.common.specs.State.{Given}
 use Rattle.common.specs.Rules.{first_call_init_of}
 use Rattle.attempt.specs.Attempt.{no_convergence_of, failed_of}
 use Rattle.between_steps.specs.declared.Kind.{Kind}
-use Rattle.between_steps.specs.Begin.{is_cut, cut_of, setup_of, prepared_at, prepared_of, predicted_at, first_prediction_of}
+use Rattle.between_steps.specs.Begin.{is_cut, cut_of, setup_of, prepared_at, prepared_of, predicted_at}
+use Rattle.between_steps.specs.Begin.{first_prediction_of}
 use Rattle.between_steps.specs.Start.{first_step_of as step_of}
 use Rattle.questions.specs.Turns.{RunState}
 use Rattle.machine.specs.Resume.{resume_of}
 use Rattle.refusals.specs.declared.Options.{Options}
 use Rattle.refusals.specs.declared.Lengths.{Lengths}
-use Rattle.refusals.specs.Start.{largest_of, smallest_of, inverse_of, inverse_largest_of, accepted_settings, given_step_of}
+use Rattle.refusals.specs.Start.{largest_of, smallest_of, inverse_of, inverse_largest_of, accepted_settings}
+use Rattle.refusals.specs.Start.{given_step_of}
 use Rattle.session.proofs.Fits.{Fit, FloatsFit}
 use Rattle.invariants.specs.Next.{started_session, session_found}
 use Rattle.invariants.proofs.Keeps.{Invariant, each, any, after-pass, Keeps}

@@ -10,7 +10,8 @@ use Rattle.common.specs.declared.Common.{Common}
 use Rattle.common.specs.Rules.{first_call_init_of, reset_of, tiny_of}
 use Rattle.history.specs.Steps.{adjust_of, predicted_of}
 use Rattle.attempt.specs.Attempt.{retracted_of, retracted_work, repredict_of, unconverged_of, poor_of, quartered_of}
-use Rattle.attempt.specs.Attempt.{no_convergence_at, no_convergence_of, tenth_of, missed_at, missed_of, overshot_of, failed_of}
+use Rattle.attempt.specs.Attempt.{no_convergence_at, no_convergence_of, tenth_of, missed_at, missed_of, overshot_of}
+use Rattle.attempt.specs.Attempt.{failed_of}
 use Rattle.attempt.specs.Attempt.{lowered_of, restep_of}
 use Rattle.invariants.proofs.Floats.{literal, sum, product, quotient}
 use Rattle.invariants.proofs.Sizes.{elco}

@@ -46,11 +46,14 @@ use Rattle.questions.specs.declared.Phase.{Phase}
 use Rattle.questions.specs.declared.Phase.TheVariants as Phase
 use Rattle.questions.specs.Turns.{RunState, asked_of, asked_in_step_of, finished_of}
 use Rattle.questions.specs.Begin.{open_pass_of, began_of, go_on_at, go_on_of}
-use Rattle.passes.specs.Pass.{attempted_at, reported_of, closed_at, end_step_of, accepted_at, accepted_of, error_test_at}
+use Rattle.passes.specs.Pass.{attempted_at, reported_of, closed_at, end_step_of, accepted_at, accepted_of}
+use Rattle.passes.specs.Pass.{error_test_at}
 use Rattle.passes.specs.Pass.{error_test_of, pass_failed_of, concluded_at, iterate_of, iterations_of, matrix_done_at}
-use Rattle.passes.specs.Pass.{matrix_done_of, ask_column_of, ask_jacobian_at, ask_jacobian_of, opened_reply_at, opened_reply_of}
+use Rattle.passes.specs.Pass.{matrix_done_of, ask_column_of, ask_jacobian_at, ask_jacobian_of, opened_reply_at}
+use Rattle.passes.specs.Pass.{opened_reply_of}
 use Rattle.passes.specs.Pass.{jacobian_reply_of, column_reply_at, column_reply_of, further_reply_of, restep_reply_of}
-use Rattle.reports.specs.Reports.{sized_at, sized_of, weighted_at, first_derivative_of, after_first_report_of, first_modified_of}
+use Rattle.reports.specs.Reports.{sized_at, sized_of, weighted_at, first_derivative_of, after_first_report_of}
+use Rattle.reports.specs.Reports.{first_modified_of}
 use Rattle.reports.specs.Reports.{after_report_of, modified_of}
 use Rattle.machine.specs.Resume.{is_asked, unasked, resume_at, resume_of}
 use Rattle.machine.proofs.Replies.{derivative-length}

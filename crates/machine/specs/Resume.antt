@@ -11,7 +11,8 @@ use Rattle.questions.specs.declared.Phase.TheVariants as Phase
 use Rattle.questions.specs.declared.Question.TheVariants.{Unasked}
 use Rattle.questions.specs.Turns.{RunState}
 use Rattle.passes.specs.Pass.{opened_reply_of, jacobian_reply_of, column_reply_of, further_reply_of, restep_reply_of}
-use Rattle.reports.specs.Reports.{first_derivative_of, after_first_report_of, first_modified_of, after_report_of, modified_of}
+use Rattle.reports.specs.Reports.{first_derivative_of, after_first_report_of, first_modified_of, after_report_of}
+use Rattle.reports.specs.Reports.{modified_of}
 
 -- ---- whether a reply is what was asked
 

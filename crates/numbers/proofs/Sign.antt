@@ -38,7 +38,8 @@ abs_positive (inf false) h = refl
 abs_positive (fin true m e) h = differs h
 abs_positive (fin false m e) h = refl
 
-pub abs-other : (x : Float) → T (Ieee.fits binary64 x) → Ieee.lt zero_f x ≡ false → abs_of x ≡ Ieee.sub binary64 zero_f x
+pub abs-other : (x : Float) → T (Ieee.fits binary64 x) → Ieee.lt zero_f x ≡ false
+    → abs_of x ≡ Ieee.sub binary64 zero_f x
 unfolding abs_of Ieee.lt Ieee.sub Ieee.add Ieee.sum Ieee.neg Ieee.of_bits Ieee.fits
 abs-other nan g h = refl
 abs-other (inf true) g h = refl

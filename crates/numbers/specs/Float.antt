@@ -1,5 +1,6 @@
 -- 64-bit floats: short names for the operations of lib.Ieee at binary64, and the constants of the method.
--- A literal of the code is `of_bits` of its pattern. Each stands here once, named after its decimal (`d1_2` is 1.2), and
+-- A literal of the code is `of_bits` of its pattern. Each stands here once, named after its decimal (`d1_2` is 1.2),
+-- and
 -- proofs/Literals.antt shows that it is the float nearest to that decimal. How an operation rounds is said in
 -- lib.Ieee.
 use Rattle.std.specs.Prelude.{ℕ, pos}

@@ -10,7 +10,8 @@ ghost use Rattle.common.specs.Ranges.{StepInRange, Inside, Lent};
 ghost use Rattle.questions.specs.Turns.{run_state};
 ghost use Rattle.passes.specs.Pass.{attempted_at, reported_of, end_step_of, accepted_of, error_test_of, pass_failed_of};
 ghost use Rattle.passes.specs.Pass.{iterate_of, iterations_of, matrix_done_of, ask_column_of, ask_jacobian_of};
-ghost use Rattle.passes.specs.Pass.{opened_reply_of, jacobian_reply_of, column_reply_of, further_reply_of, restep_reply_of};
+ghost use Rattle.passes.specs.Pass.{opened_reply_of, jacobian_reply_of, column_reply_of, further_reply_of};
+ghost use Rattle.passes.specs.Pass.{restep_reply_of};
 
 use acceptance::Branch;
 use attempt::Next;

@@ -1,6 +1,7 @@
 -- The norms, weights, first step, factoring and solving at every argument: what they give where the sizes serve, and
 -- otherwise a NaN, or the number 2 and everything as it was. Matrices have at most 64 columns.
-use Rattle.std.specs.Prelude.{Bool, true, cond, ◌&&◌, ◌||◌, List, ℕ, ◌+◌, ◌-◌, ◌*◌, eqb, leb, ltb, length, get_or, Float}
+use Rattle.std.specs.Prelude.{Bool, true, cond, ◌&&◌, ◌||◌, List, ℕ, ◌+◌, ◌-◌, ◌*◌, eqb, leb, ltb, length, get_or}
+use Rattle.std.specs.Prelude.{Float}
 use Rattle.std.specs.Float.{nan}
 use Rattle.loops.specs.For.{for}
 use Rattle.common.specs.Limits.{max_states}
@@ -60,14 +61,16 @@ ewset_left rtol atol n at work =
     (work_left 2 work)
 
 unfoldable pub ewset_like_left : ℕ → ℕ → List Float → WorkLeft
-ewset_like_left n at work = cond (is_behind n at (length work)) (work_left 0 (ewset_like_of n at work)) (work_left 2 work)
+ewset_like_left n at work =
+    cond (is_behind n at (length work)) (work_left 0 (ewset_like_of n at work)) (work_left 2 work)
 
 -- the index refused, or the number of weights
 abbrev pub index_of : ℕ → Weights → ℕ
 index_of count Inverted = count
 index_of count (Refused i) = i
 
-unfoldable pub initial_step_or_nan : Float → Float → List Float → List Float → List Float → List Float → List Float → Float
+unfoldable pub initial_step_or_nan : Float → Float → List Float → List Float → List Float → List Float → List Float
+    → Float
 initial_step_or_nan t tout y f0 w rtol atol =
     let n = length y in
     cond (leb (length f0) (length w) && (is_tolerance_list n (length rtol) && is_tolerance_list n (length atol)))

@@ -27,7 +27,8 @@ retract_left n nq nqnyh yh = columns_left (are_columns n nq nqnyh (length yh)) (
 
 unfoldable pub correct_left : List Float → List ℕ → List Float → Columns
 correct_left fs cs work =
-    columns_left (is_usable fs cs (length work)) (correct_columns_of (lent_settings fs cs) (lent_common fs cs) work) work
+    columns_left (is_usable fs cs (length work)) (correct_columns_of (lent_settings fs cs) (lent_common fs cs) work)
+    work
 
 unfoldable pub snapshot_left : List Float → List ℕ → List Float → List Float → Columns
 snapshot_left fs cs work question =

@@ -2,7 +2,8 @@
 --     floats   0 hmxi   1 tn   2 h   3 hu   4 rc   5 el0   6 conit   7 rmax   8 pdest   9 pdlast   10 convrate
 --     counts   0 n   1 mxordn   2 mxords   3 msbp   4 family   5 nq   6 lmax   7 nqnyh   8 ialth   9 icount   10 table
 --              11 nslp   12 nst   13 due
-use Rattle.std.specs.Prelude.{Bool, false, cond, ◌&&◌, List, ℕ, ◌+◌, ◌*◌, ◌^◌, eqb, leb, ltb, length, get_or, set, Float}
+use Rattle.std.specs.Prelude.{Bool, false, cond, ◌&&◌, List, ℕ, ◌+◌, ◌*◌, ◌^◌, eqb, leb, ltb, length, get_or, set}
+use Rattle.std.specs.Prelude.{Float}
 use Rattle.std.specs.Float.{nan}
 use Rattle.numbers.specs.Float.{zero_f}
 use Rattle.common.specs.declared.MethodFamily.{MethodFamily}
@@ -109,5 +110,6 @@ are_limits mxordn mxords msbp nslp =
 
 unfoldable pub is_usable : List Float → List ℕ → ℕ → Bool
 is_usable fs cs work =
-    eqb (length fs) 11 && (eqb (length cs) 14 && (are_limits (get_or cs 1 0) (get_or cs 2 0) (get_or cs 3 0) (get_or cs 11 0)
+    eqb (length fs) 11 &&
+    (eqb (length cs) 14 && (are_limits (get_or cs 1 0) (get_or cs 2 0) (get_or cs 3 0) (get_or cs 11 0)
     && in_range (get_or cs 0 0) (get_or cs 5 0) (get_or cs 7 0) (get_or cs 10 0) work))

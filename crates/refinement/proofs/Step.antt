@@ -26,7 +26,8 @@ use Rattle.between_steps.specs.Begin.{first_prediction_of as opened_of, is_going
 use Rattle.questions.specs.declared.Phase.TheVariants as Phase
 use Rattle.questions.specs.Turns.{RunState, turn_at, asked_of, asked_in_step_of, finished_of}
 use Rattle.questions.specs.Begin.{open_pass_of, began_of, go_on_at, go_on_of}
-use Rattle.passes.specs.Pass.{attempted_at, reported_of, closed_at, end_step_of, accepted_at, accepted_of, error_test_at}
+use Rattle.passes.specs.Pass.{attempted_at, reported_of, closed_at, end_step_of, accepted_at, accepted_of}
+use Rattle.passes.specs.Pass.{error_test_at}
 use Rattle.passes.specs.Pass.{error_test_of, pass_failed_of}
 use Rattle.passes.specs.Pass as Machine
 use Rattle.reports.specs.Reports.{after_report_of, modified_of}

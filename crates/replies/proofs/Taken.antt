@@ -37,7 +37,8 @@ module _ (kind work : ℕ) (pivots bytes : List ℕ) (question : ℕ) where
   n = stored_n bytes
 
   rest : length bytes ≡ session_length → (n ≡ 0 → ⊥) → n ≤ max_states
-      → (or_else (lengths_refusal n work (length pivots) question) (stored_refusal (is_kind kind) pivots bytes)).number ≡ 0
+      → (or_else (lengths_refusal n work (length pivots) question) (stored_refusal (is_kind kind) pivots bytes)).number
+      ≡ 0
       → Taken kind work pivots bytes question
   unfolding lengths_refusal stored_refusal in_order
   rest long some few q =
@@ -66,7 +67,8 @@ module _ (kind work : ℕ) (pivots bytes : List ℕ) (question : ℕ) where
   at-most false p long some q = rest long some (ltb-false _ _ p) q
 
   at-least : (e : Bool) → eqb n 0 ≡ e → length bytes ≡ session_length
-      → (cond e (plain 13) (cond (ltb max_states n) (plain 13) (or_else (lengths_refusal n work (length pivots) question)
+      → (cond e (plain 13)
+      (cond (ltb max_states n) (plain 13) (or_else (lengths_refusal n work (length pivots) question)
       (stored_refusal (is_kind kind) pivots bytes)))).number ≡ 0 → Taken kind work pivots bytes question
   at-least true p long q = absurd (omega arith)
   at-least false p long q = at-most (ltb max_states n) refl long (eqb-false _ _ p) q

@@ -1,6 +1,7 @@
 -- A reply: what it is refused for, and what an accepted one answers and leaves. An end leaves the question as it was
 -- (01-scope, 'Limits and refusals').
-use Rattle.std.specs.Prelude.{Bool, true, false, cond, not, ◌&&◌, List, [], ◌∷◌, ◌≡◌, ℕ, ◌≤◌, eqb, ltb, leb, length, Float}
+use Rattle.std.specs.Prelude.{Bool, true, false, cond, not, ◌&&◌, List, [], ◌∷◌, ◌≡◌, ℕ, ◌≤◌, eqb, ltb, leb, length}
+use Rattle.std.specs.Prelude.{Float}
 use Rattle.loops.specs.Part.{part, put_part}
 use Rattle.common.specs.declared.Settings.{Settings}
 use Rattle.common.specs.declared.Common.{Common}

@@ -117,5 +117,6 @@ bits_of z p f =
     let b = to_bits binary64 z in
     let l : b < top binary64 = leb-false (top binary64) b (negative-bits z f ∙ no_sign z p) in
     let r : b % top binary64 ≡ b = mod-eq_of_lt l in
-    let n : nan_bits binary64 b ≡ false = nan_bits_is binary64 b ∙ ap is_nan (of_bits-to_bits binary64 z f) ∙ no_nan z p in
+    let n : nan_bits binary64 b ≡ false =
+    nan_bits_is binary64 b ∙ ap is_nan (of_bits-to_bits binary64 z f) ∙ no_nan z p in
     rw r at (ltb-false infinity_bits (b % top binary64) (sym (nan_bits_above binary64 b) ∙ n))

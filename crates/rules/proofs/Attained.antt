@@ -20,10 +20,12 @@ use Rattle.common.specs.declared.MethodFamily.TheVariants.{Adams}
 use Rattle.common.specs.declared.Settings.{Settings}
 use Rattle.common.specs.Rules.{first_call_init_of, reset_of}
 use Rattle.common.specs.State.{Given}
-use Rattle.history.specs.Columns.{predict_columns_of, retract_columns_of, scale_part_of, rescale_columns_of, copy_of, slope_of}
+use Rattle.history.specs.Columns.{predict_columns_of, retract_columns_of, scale_part_of, rescale_columns_of, copy_of}
+use Rattle.history.specs.Columns.{slope_of}
 use Rattle.history.specs.Columns.{fill_of}
 use Rattle.history.specs.Steps.{limited_of, adjust_of, stale_of, predicted_of}
-use Rattle.corrector.specs.Verdict.{judge_of, rated_of, dcon_of, estimated_of, judged_converged, give_up_of, judged_further}
+use Rattle.corrector.specs.Verdict.{judge_of, rated_of, dcon_of, estimated_of, judged_converged, give_up_of}
+use Rattle.corrector.specs.Verdict.{judged_further}
 use Rattle.corrector.specs.Verdict.{judged_tested}
 use Rattle.corrector.specs.Iterate.{open_of, adams_residual_of, adams_update_of, adams_of, correct_of}
 use Rattle.attempt.specs.Attempt.{retracted_of, repredict_of, error_of, shrunk_of, tenth_of, missed_at, missed_of}
@@ -100,10 +102,14 @@ pub cap-attained : (fed 1 (start given from) [] replies).steps
     } ∷ []
 unfolding fed waits start started weighted sized first_answered beginning solve_at step stepped attempts decide tested
     attempted follow pass pass_at iterations turns iterated initial_of first_size_of setup_of prepared_at prepared_of
-    predicted_at failed_of restep_of retracted_of repredict_of error_of shrunk_of tenth_of missed_at missed_of overshot_of
-    judge_of rated_of dcon_of estimated_of judged_converged give_up_of judged_further judged_tested open_of adams_residual_of
+    predicted_at failed_of restep_of retracted_of repredict_of error_of shrunk_of tenth_of missed_at missed_of
+    overshot_of
+    judge_of rated_of dcon_of estimated_of judged_converged give_up_of judged_further judged_tested open_of
+    adams_residual_of
     adams_update_of adams_of correct_of limited_of adjust_of stale_of predicted_of predict_columns_of retract_columns_of
-    scale_part_of rescale_columns_of copy_of slope_of fill_of first_call_init_of reset_of ewset_of invert_of tolerance_of vmnorm_of
-    elco_of tesco_of sm1_of cfode_of root_of abs_of negative refused max_of min_of times add sub mul div neg lt eq le ne of_int
+    scale_part_of rescale_columns_of copy_of slope_of fill_of first_call_init_of reset_of ewset_of invert_of
+    tolerance_of vmnorm_of
+    elco_of tesco_of sm1_of cfode_of root_of abs_of negative refused max_of min_of times add sub mul div neg lt eq le
+    ne of_int
     of_bits
 cap-attained = refl

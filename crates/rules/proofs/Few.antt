@@ -138,7 +138,8 @@ module _ (g : Given) (acc : Accepted g.s) where
     closed-few Inverted x zero h = absurd (omega arith)
     closed-few Inverted x (suc m) h = λ a y t. answered-few _ a y t m (omega arith)
 
-    settled-few : (order : ℕ) (gap : Bool) (x : State) (m : ℕ) → 2 + M ≤ m → EndsIn (after_acceptance g on order gap x) m
+    settled-few : (order : ℕ) (gap : Bool) (x : State) (m : ℕ) → 2 + M ≤ m
+        → EndsIn (after_acceptance g on order gap x) m
     unfolding after_acceptance
     settled-few order true x m h = tt
     settled-few order false x m h = closed-few _ _ m h

@@ -31,16 +31,19 @@ use Rattle.corrector.specs.Verdict.{judged_further, judged_tested, rated_verdict
 use Rattle.corrector.proofs.Judged.{Ways, converges, retries, fails, goes_on, judge-ways}
 use Rattle.attempt.specs.declared.Next.TheVariants.{Pass, TooSmall, Poor}
 use Rattle.attempt.specs.Attempt.{Attempt, retracted_of, retracted_work, repredict_of, unconverged_of, quartered_of}
-use Rattle.attempt.specs.Attempt.{no_convergence_at, no_convergence_of, tenth_of, missed_at, missed_of, overshot_of, failed_of}
+use Rattle.attempt.specs.Attempt.{no_convergence_at, no_convergence_of, tenth_of, missed_at, missed_of, overshot_of}
+use Rattle.attempt.specs.Attempt.{failed_of}
 use Rattle.attempt.specs.Attempt.{lowered_of, restep_of}
 use Rattle.attempt.proofs.Laws.{unconverged, restepped}
 use Rattle.acceptance.specs.declared.family.Change.TheVariants.{Gap}
-use Rattle.acceptance.specs.Family.{move_if, to_bdf_of, to_adams_at, to_adams_of, adams_proposal_of, change_in, change_of}
+use Rattle.acceptance.specs.Family.{move_if, to_bdf_of, to_adams_at, to_adams_of, adams_proposal_of, change_in}
+use Rattle.acceptance.specs.Family.{change_of}
 use Rattle.acceptance.specs.declared.family.Proposal.{Proposal}
 use Rattle.acceptance.specs.declared.Branch.{Branch}
 use Rattle.acceptance.specs.declared.Branch.TheVariants.{CoefficientGap, Lowered, Kept, Raised}
 use Rattle.acceptance.specs.declared.order.Factors.{Factors}
-use Rattle.acceptance.specs.Order.{Settled, held_of, settle_of, raise_of, lower_of, same_largest, choose_of, choose_order_of}
+use Rattle.acceptance.specs.Order.{Settled, held_of, settle_of, raise_of, lower_of, same_largest, choose_of}
+use Rattle.acceptance.specs.Order.{choose_order_of}
 use Rattle.acceptance.specs.Accept.{corrected_of, keep_family_of, tested_of as tested_family, test_family_of, accept_of}
 use Rattle.acceptance.proofs.Laws.{accept-keeps}
 use Rattle.between_steps.specs.declared.Status.TheVariants as Status

@@ -12,7 +12,8 @@ use Rattle.common.specs.State.{Given, State, made, put_c, put_w}
 use Rattle.history.specs.Columns.{copy_of, fill_of}
 use Rattle.history.specs.Parts.{stored_of}
 use Rattle.jacobian.specs.Jacobian.{is_supplied}
-use Rattle.jacobian.specs.Jacobian.{begin_of, perturb_of, restore_of, supplied_of, Factored, finish_jacobian_of as factors_of}
+use Rattle.jacobian.specs.Jacobian.{begin_of, perturb_of, restore_of, supplied_of, Factored}
+use Rattle.jacobian.specs.Jacobian.{finish_jacobian_of as factors_of}
 use Rattle.corrector.specs.declared.Pass.{Pass}
 use Rattle.corrector.specs.declared.Pass.TheVariants.{Converged, Retry, NoConvergence, Further}
 use Rattle.corrector.specs.Verdict.{verdict_of}

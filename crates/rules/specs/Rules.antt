@@ -254,7 +254,8 @@ first_answered g x Modified f t =
 -- 11: a first step that is zero, NaN or of another sign
 unfoldable pub sized : Given → Bool → Float → State → Play
 sized g true h x = ret (step_refused h (put_c (with_h h x.c) x))
-sized g false h x = tell (first_report_at g (sized_state g h x)) (sized_state g h x) (first_answered g (sized_state g h x))
+sized g false h x =
+    tell (first_report_at g (sized_state g h x)) (sized_state g h x) (first_answered g (sized_state g h x))
 
 abbrev pub first_step : Given → State → Float
 first_step g x = first_step_of g.s x.c g.rtol g.atol x.w

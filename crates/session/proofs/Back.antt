@@ -57,7 +57,8 @@ module _ (x : Session) (b : List ℕ) (room : session_length ≤ length b) where
       → word (encode_of x b) (0 + k) ≡ get_or (counts_of x) k 0
   unfolding encode_of
   encoded-count k h small =
-      put-floats-other count_words float_words (floats_of x) (put_counts_of 0 (counts_of x) b) (0 + k) (inl (omega arith))
+      put-floats-other count_words float_words (floats_of x) (put_counts_of 0 (counts_of x) b) (0 + k)
+      (inl (omega arith))
       ∙ put-counts-at 0 (counts_of x) b k h (omega arith) small
 
   -- words from the tolerances on stay
@@ -194,7 +195,8 @@ module _ (rtol atol : List Float) (b : List ℕ) where
         → word (put_tolerances_of rtol atol b) (rtol_at + i) ≡ slot_of rtol i
     unfolding put_tolerances_of
     rtol-slot f i h =
-        put-floats-other atol_at max_states atol (put_floats_of rtol_at max_states rtol b) (rtol_at + i) (inl (omega arith))
+        put-floats-other atol_at max_states atol (put_floats_of rtol_at max_states rtol b) (rtol_at + i)
+        (inl (omega arith))
         ∙ put-floats-at rtol_at max_states rtol b i h (omega arith) (slot_small rtol i (slot-fits rtol f i))
 
     pub atol-slot : ListFits atol → (i : ℕ) → i < max_states

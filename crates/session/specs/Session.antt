@@ -1,7 +1,8 @@
 -- A session's record and tolerances in its bytes, and the test of 13 (01-scope, 'Limits and refusals').
 -- Counts, floats, then a slot for each state of relative and of absolute tolerances; a slot beyond a list's end is 0.
 -- That a session is of a run is not claimed: whatever passes the test is taken.
-use Rattle.std.specs.Prelude.{Bool, true, not, ◌&&◌, ◌||◌, List, ◌⊎◌, ◌≡◌, ℕ, ◌+◌, ◌*◌, ◌%◌, eqb, ltb, leb, length, get_or, Float}
+use Rattle.std.specs.Prelude.{Bool, true, not, ◌&&◌, ◌||◌, List, ◌⊎◌, ◌≡◌, ℕ, ◌+◌, ◌*◌, ◌%◌, eqb, ltb, leb, length}
+use Rattle.std.specs.Prelude.{get_or, Float}
 use Rattle.std.specs.Float.Ieee as Ieee
 use Rattle.loops.specs.For.{for}
 use Rattle.loops.specs.Part.{part}
@@ -100,7 +101,8 @@ counters_in_range s c = ltb c.ncf (mxncf_of s) && ltb c.m s.maxcor && ltb c.colu
 
 -- all of it, u being the counts
 unfoldable pub fields_in_range : List ℕ → Settings → Common → Bool
-fields_in_range u s c = every (word_in_range u) count_words && lists_in_range s && orders_in_range s c && counters_in_range s c
+fields_in_range u s c =
+    every (word_in_range u) count_words && lists_in_range s && orders_in_range s c && counters_in_range s c
 
 -- a tolerance below 0 is out of range; a NaN passes
 abbrev pub not_negative_at : List ℕ → ℕ → ℕ → Bool

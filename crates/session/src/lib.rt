@@ -6,7 +6,8 @@
 ghost use Rattle.std.specs.Prelude.{◌≡◌, Bool, ◌≤◌, length};
 ghost use Rattle.common.specs.Limits.{max_states};
 ghost use Rattle.common.specs.SessionWords.{session_length};
-ghost use Rattle.session.specs.Session.{encode_counts_of, encode_floats_of, stored_counts, decode_of, put_tolerances_of};
+ghost use Rattle.session.specs.Session.{encode_counts_of, encode_floats_of};
+ghost use Rattle.session.specs.Session.{stored_counts, decode_of, put_tolerances_of};
 ghost use Rattle.session.specs.Session.{rtol_first, atol_first, stored_n, finished_in, in_range_of};
 
 mod fields;

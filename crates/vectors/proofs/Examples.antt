@@ -68,15 +68,18 @@ answer = refl
 pub step-relative :
     initial_step_of zero_f d2 (d4 ∷ zero_f ∷ []) (minus_one ∷ d0_5 ∷ []) (d1000 ∷ d0_25 ∷ []) (zero_f ∷ []) (d1e_6 ∷ [])
     ≡ lit 0x3f50_624d_b095_9298
-unfolding times initial_step_of tolerance_used_of largest_rtol_of relative_of tolerance_of vmnorm_of abs_of max_of min_of clamp_of
+unfolding times initial_step_of tolerance_used_of largest_rtol_of relative_of tolerance_of vmnorm_of abs_of max_of
+    min_of clamp_of
     copysign_of sqrt_of lt le ne add sub mul div of_bits
 step-relative = refl
 
 -- the same from 1 to 0 with rtol 0.5, which is cut to 0.001: -0.022360679774997897
 pub step_back :
-    initial_step_of one_f zero_f (d4 ∷ zero_f ∷ []) (minus_one ∷ d0_5 ∷ []) (d1000 ∷ d0_25 ∷ []) (d0_5 ∷ []) (d1e_6 ∷ [])
+    initial_step_of one_f zero_f (d4 ∷ zero_f ∷ []) (minus_one ∷ d0_5 ∷ []) (d1000 ∷ d0_25 ∷ []) (d0_5 ∷ [])
+    (d1e_6 ∷ [])
     ≡ lit 0xbf96_e5b7_d166_57e1
-unfolding times initial_step_of tolerance_used_of largest_rtol_of relative_of tolerance_of vmnorm_of abs_of max_of min_of clamp_of
+unfolding times initial_step_of tolerance_used_of largest_rtol_of relative_of tolerance_of vmnorm_of abs_of max_of
+    min_of clamp_of
     copysign_of sqrt_of lt le ne add sub mul div of_bits
 step_back = refl
 
@@ -84,6 +87,7 @@ step_back = refl
 pub step-whole :
     initial_step_of one_f (lit 0x3fef_8000_0000_0000) (nan ∷ []) (nan ∷ []) (one_f ∷ []) (d0_5 ∷ []) (zero_f ∷ [])
     ≡ lit 0xbf90_0000_0000_0000
-unfolding times initial_step_of tolerance_used_of largest_rtol_of relative_of tolerance_of vmnorm_of abs_of max_of min_of clamp_of
+unfolding times initial_step_of tolerance_used_of largest_rtol_of relative_of tolerance_of vmnorm_of abs_of max_of
+    min_of clamp_of
     copysign_of sqrt_of lt le ne add sub mul div of_bits
 step-whole = refl

@@ -129,7 +129,8 @@ module _ (x : ℕ → Float) where
 
   -- the maximum of x 0 to x (n - 1), from +0 on
   pub largest : (n : ℕ) → Largest x n (for 0 n (λ i s. max_of s (x i)) zero_f)
-  largest n = reaches (Largest x) (λ i s. max_of s (x i)) n (λ k s h p. one_more k s p) 0 zero_f (omega arith) (nothing x)
+  largest n =
+      reaches (Largest x) (λ i s. max_of s (x i)) n (λ k s h p. one_more k s p) 0 zero_f (omega arith) (nothing x)
 
 pub norm-largest : (v w : List Float)
     → Largest (λ i. abs_of (get_or v i nan) ⊗ get_or w i nan) (length v) (vmnorm_of v w).value

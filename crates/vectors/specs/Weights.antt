@@ -14,7 +14,8 @@ use Rattle.vectors.specs.declared.Weights.TheVariants.{Inverted, Refused}
 
 -- y is the first n numbers of work, the weights stand from `at` on
 abbrev pub ewset_at : List Float → List Float → ℕ → ℕ → List Float → List Float
-ewset_at rtol atol at i work = set work (at + i) (tolerance_of rtol i ⊗ abs_of (get_or work i nan) ⊕ tolerance_of atol i)
+ewset_at rtol atol at i work =
+    set work (at + i) (tolerance_of rtol i ⊗ abs_of (get_or work i nan) ⊕ tolerance_of atol i)
 
 unfoldable pub ewset_of : List Float → List Float → ℕ → ℕ → List Float → List Float
 ewset_of rtol atol n at work = for 0 n (ewset_at rtol atol at) work

@@ -8,7 +8,8 @@ ghost use Rattle.vectors.specs.Tolerance.{List1OrN, tolerance_of};
 ghost use Rattle.vectors.specs.Norm.{entry_of, vmnorm_of, row_at, row_of, fnorm_of};
 ghost use Rattle.vectors.specs.Maxima.{four_at, top_of, row_sums_at, row_sums_of, four_rows_at};
 ghost use Rattle.vectors.specs.Weights.{ewset_of, ewset_like_of, invert_of, weights_outcome};
-ghost use Rattle.vectors.specs.FirstStep.{largest_rtol_of, relative_at, relative_of, tolerance_used_of, initial_step_of};
+ghost use Rattle.vectors.specs.FirstStep.{largest_rtol_of, relative_at, relative_of, tolerance_used_of};
+ghost use Rattle.vectors.specs.FirstStep.{initial_step_of};
 
 // What a norm answers.
 #[derive(Clone, Copy)]

@@ -10,11 +10,10 @@ use Rattle.acceptance.proofs.accept.Goals as goal
 pub test_family-requires : goal.test_family-requires
 unfolding corrected_of
 test_family-requires c =
-    let a = c in
-    let m = a.requires.le_mxordn in
-    let l = a.requires.le_lmax in
+    let m = c.requires.le_mxordn in
+    let l = c.requires.le_lmax in
     rw c.correct-d.ensures.0 record {
-      step_in_range = same-range _ refl refl refl refl a.requires.step_in_range;
+      step_in_range = same-range _ refl refl refl refl c.requires.step_in_range;
       le_mxordn = (m.0, m.1);
       le_lmax = (l.0, l.1, l.2, l.3, omega arith);
     }

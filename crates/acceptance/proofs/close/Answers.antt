@@ -11,18 +11,17 @@ use Rattle.acceptance.proofs.close.Goals as goal
 
 pub ewset-requires : goal.ewset-requires
 ewset-requires c =
-    let a = c in
-    record { list1or_n = a.requires.list1or_n; list1or_n_2 = a.requires.list1or_n_2; n_le_at = (omega arith, omega arith) }
+    record {
+      list1or_n = c.requires.list1or_n;
+      list1or_n_2 = c.requires.list1or_n_2;
+      n_le_at = (omega arith, omega arith);
+    }
 
 pub returns : goal.returns
 unfolding closed_of scale_part_of
 returns c =
-    let i = c in
-    let e = i in
-    let a = e in
-    let t = a in
-    let n = t.args.s.n in
+    let n = c.args.s.n in
     let p : savf_at n - ewt_at n ≡ n = omega arith in
     let q : y_at n - acor_at n ≡ n = omega arith in
-    let inverted = i.invert_weights.ensures in
-    rw (inverted.0, inverted.1, p, e.ewset.ensures, a.scale.ensures, q, t.tesco-r.ensures)
+    let inverted = c.invert_weights.ensures in
+    rw (inverted.0, inverted.1, p, c.ewset.ensures, c.scale.ensures, q, c.tesco-r.ensures)

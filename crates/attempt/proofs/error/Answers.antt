@@ -11,5 +11,4 @@ returns-then-c-eq0 c = rw (eq-eqb _ _ c.if-c-eq0.true, ← c.tesco-tesco.ensures
 pub returns : goal.returns
 unfolding error_of
 returns c =
-    let t = c in
-    rw (ne_eqb _ _ t.if-c-eq0.false, ← t.tesco-tesco.ensures, c.norm_at.ensures)
+    rw (ne_eqb _ _ c.if-c-eq0.false, ← c.tesco-tesco.ensures, c.norm_at.ensures)

@@ -13,11 +13,9 @@ returns-then-is_tiny c = rw (sym c.is_tiny.ensures ∙ c.if-is_tiny.true)
 pub returns-then-c-lt3 : goal.returns-then-c-lt3
 unfolding missed_of missed_at
 returns-then-c-lt3 c =
-    let early = c in
-    let tiny = early in
     rw (
-      sym tiny.is_tiny.ensures ∙ tiny.if-is_tiny.false,
-      lt-ltb _ _ early.if-c-lt3.true,
+      sym c.is_tiny.ensures ∙ c.if-is_tiny.false,
+      lt-ltb _ _ c.if-c-lt3.true,
       ← c.shrunk-rh.ensures,
     )
     (ap (goes_on Pass) c.repredict.ensures)
@@ -25,27 +23,20 @@ returns-then-c-lt3 c =
 pub returns-then-c-eq10 : goal.returns-then-c-eq10
 unfolding missed_of missed_at
 returns-then-c-eq10 c =
-    let early = c in
-    let tiny = early in
     rw (
-      sym tiny.is_tiny.ensures ∙ tiny.if-is_tiny.false,
-      le-ltb _ _ early.if-c-lt3.false,
+      sym c.is_tiny.ensures ∙ c.if-is_tiny.false,
+      le-ltb _ _ c.if-c-lt3.false,
       eq-eqb _ _ c.if-c-eq10.true,
     )
 
 pub returns : goal.returns
 unfolding missed_of missed_at tenth_of
 returns c =
-    let x = c in
-    let y = x in
-    let last = y in
-    let early = last in
-    let tiny = early in
     rw (
-      sym tiny.is_tiny.ensures ∙ tiny.if-is_tiny.false,
-      le-ltb _ _ early.if-c-lt3.false,
-      ne_eqb _ _ last.if-c-eq10.false,
-      y.copy_part.ensures,
+      sym c.is_tiny.ensures ∙ c.if-is_tiny.false,
+      le-ltb _ _ c.if-c-lt3.false,
+      ne_eqb _ _ c.if-c-eq10.false,
+      c.copy_part.ensures,
       c.max.ensures,
-      x.least.ensures,
+      c.least.ensures,
     )

@@ -18,45 +18,34 @@ returns-then-is_tiny c =
 pub returns-then-d-mxncf : goal.returns-then-d-mxncf
 unfolding no_convergence_of no_convergence_at unconverged_of
 returns-then-d-mxncf c =
-    let m = c in
-    let t = m in
-    let r = t.retract-d.ensures in
+    let r = c.retract-d.ensures in
     rw (
       ← r.0,
       ← r.1,
-      sym t.is_tiny.ensures ∙ t.if-is_tiny.false,
-      ← m.mxncf.ensures,
+      sym c.is_tiny.ensures ∙ c.if-is_tiny.false,
+      ← c.mxncf.ensures,
       eq-eqb _ _ c.if-d-mxncf.true,
     )
 
 pub repredict-requires : goal.repredict-requires
 unfolding unconverged_of
 repredict-requires c =
-    let t = c in
-    let r = t in
-    let a = r in
-    let p = in-range-unconverged a.args.s a.args.c a.requires.step_in_range in
-    record { step_in_range = rw r.retract-d.ensures.0 (same-range _ refl refl refl refl p); n_in_bounds = search rules }
+    let p = in-range-unconverged c.args.s c.args.c c.requires.step_in_range in
+    record { step_in_range = rw c.retract-d.ensures.0 (same-range _ refl refl refl refl p); n_in_bounds = search rules }
 
 pub returns : goal.returns
 unfolding no_convergence_of no_convergence_at unconverged_of quartered_of
 returns c =
-    let x = c in
-    let b = x in
-    let i = b in
-    let m = i in
-    let t = m in
-    let r = t in
-    let a = r.args.c in
-    let e = r.retract-d.ensures in
-    let same : r.retract-d.result.rejected ≡ a.rejected = rw e.0 (same-rejected a) in
+    let a = c.args.c in
+    let e = c.retract-d.ensures in
+    let same : c.retract-d.result.rejected ≡ a.rejected = rw e.0 (same-rejected a) in
     rw (
       ← e.0,
       ← e.1,
-      sym t.is_tiny.ensures ∙ t.if-is_tiny.false,
-      ← m.mxncf.ensures,
-      ne_eqb _ _ i.if-d-mxncf.false,
+      sym c.is_tiny.ensures ∙ c.if-is_tiny.false,
+      ← c.mxncf.ensures,
+      ne_eqb _ _ c.if-d-mxncf.false,
     )
     (ap (goes_on Pass)
     (c.repredict.ensures
-    ∙ rw (x.max-rh.ensures, x.least.ensures, b.is_bdf.ensures, same)))
+    ∙ rw (c.max-rh.ensures, c.least.ensures, c.is_bdf.ensures, same)))

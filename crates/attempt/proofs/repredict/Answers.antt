@@ -6,10 +6,11 @@ use Rattle.attempt.proofs.repredict.Goals as goal
 
 pub stoda_get_predicted_values-requires : goal.stoda_get_predicted_values-requires
 stoda_get_predicted_values-requires c =
-    let x = c in
-    let a = x in
-    let e = x.stoda_adjust_step_size-d.ensures in
-    record { step_in_range = rw e.0 (in-range-adjust a.args.s a.args.c a.args.rh a.requires.step_in_range); n_in_bounds = search rules }
+    let e = c.stoda_adjust_step_size-d.ensures in
+    record {
+      step_in_range = rw e.0 (in-range-adjust c.args.s c.args.c c.args.rh c.requires.step_in_range);
+      n_in_bounds = search rules;
+    }
 
 pub returns : goal.returns
 unfolding repredict_of

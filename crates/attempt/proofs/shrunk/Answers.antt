@@ -7,12 +7,10 @@ use Rattle.attempt.proofs.shrunk.Goals as goal
 pub returns-then-c-ge2 : goal.returns-then-c-ge2
 unfolding shrunk_of
 returns-then-c-ge2 c =
-    let t = c in
-    let m = t in
     rw (
-      le-leb _ _ t.if-c-ge2.true,
-      ← m.root.ensures,
-      ← m.min-rh.ensures,
+      le-leb _ _ c.if-c-ge2.true,
+      ← c.root.ensures,
+      ← c.min-rh.ensures,
       ← c.min.ensures,
       ← c.least.ensures,
     )
@@ -21,12 +19,10 @@ returns-then-c-ge2 c =
 pub returns : goal.returns
 unfolding shrunk_of
 returns c =
-    let t = c in
-    let m = t in
     rw (
-      lt-leb _ _ t.if-c-ge2.false,
-      ← m.root.ensures,
-      ← m.min-rh.ensures,
+      lt-leb _ _ c.if-c-ge2.false,
+      ← c.root.ensures,
+      ← c.min-rh.ensures,
       ← c.least-2.ensures,
     )
     c.max-2.ensures

@@ -9,8 +9,7 @@ use Rattle.between_steps.proofs.cut.Goals as goal
 
 pub stoda_adjust_step_size-requires : goal.stoda_adjust_step_size-requires
 stoda_adjust_step_size-requires c =
-    let a = c in
-    record { step_in_range = same-range _ refl refl refl refl (in-range a.requires.inside); n_in_bounds = omega arith }
+    record { step_in_range = same-range _ refl refl refl refl (in-range c.requires.inside); n_in_bounds = omega arith }
 
 pub returns : goal.returns
 unfolding cut_of

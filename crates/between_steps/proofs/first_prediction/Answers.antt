@@ -10,16 +10,12 @@ use Rattle.between_steps.proofs.first_prediction.Goals as goal
 
 pub stoda_get_predicted_values-e-requires : goal.stoda_get_predicted_values-e-requires
 stoda_get_predicted_values-e-requires c =
-    let r = c in
-    let a = r in
-    let x = a.args in
-    let q = rw (← r.prepare-d.ensures) at (prepared-range a.requires.inside x.work.now) in
+    let x = c.args in
+    let q = rw (← c.prepare-d.ensures) at (prepared-range c.requires.inside x.work.now) in
     record { step_in_range = same-range _ refl refl refl refl q; n_in_bounds = omega arith }
 
 pub returns : goal.returns
 unfolding first_prediction_of predicted_at
 returns c =
-    let e = c in
-    let r = e in
-    let d = e.stoda_get_predicted_values-e.ensures in
-    rw (← r.prepare-d.ensures, ← d.1, ← d.0, ← c.norm_at.ensures)
+    let d = c.stoda_get_predicted_values-e.ensures in
+    rw (← c.prepare-d.ensures, ← d.1, ← d.0, ← c.norm_at.ensures)

@@ -10,24 +10,21 @@ cut-requires c = c.requires
 pub returns-then-abs : goal.returns-then-abs
 unfolding prepared_of prepared_at
 returns-then-abs c =
-    let i = c in
-    rw (← i.abs-2.ensures, ← i.abs.ensures, i.if-abs.true)
+    rw (← c.abs-2.ensures, ← c.abs.ensures, c.if-abs.true)
     c.cut.ensures
 
 pub returns-then-due : goal.returns-then-due
 unfolding prepared_of prepared_at
 returns-then-due c =
-    let i = c in
     rw (
       c.setup.ensures,
-      ← i.abs-2.ensures,
-      ← i.abs.ensures,
-      i.if-abs.false,
+      ← c.abs-2.ensures,
+      ← c.abs.ensures,
+      c.if-abs.false,
       c.if-due.true,
     )
 
 pub returns : goal.returns
 unfolding prepared_of prepared_at
 returns c =
-    let i = c in
-    rw (← i.abs-2.ensures, ← i.abs.ensures, i.if-abs.false, c.if-due.false)
+    rw (← c.abs-2.ensures, ← c.abs.ensures, c.if-abs.false, c.if-due.false)

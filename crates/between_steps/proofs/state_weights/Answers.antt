@@ -8,7 +8,6 @@ use Rattle.between_steps.proofs.state_weights.Goals as goal
 
 pub returns : goal.returns
 returns c =
-    let i = c in
-    let n = i.args.n in
+    let n = c.args.n in
     let weights : savf_at n - ewt_at n ≡ n = omega arith in
-    rw (i.invert_weights.ensures.0, weights, i.ewset_scalar_like.ensures)
+    rw (c.invert_weights.ensures.0, weights, c.ewset_scalar_like.ensures)

@@ -6,11 +6,10 @@ use Rattle.common.proofs.el.Goals as goal
 
 pub elco-requires : goal.elco-requires
 elco-requires c =
-    let a = c in
-    let n = a.args.s.n in
-    let k = a.args.c.nqnyh in
+    let n = c.args.s.n in
+    let k = c.args.c.nqnyh in
     rw c.order_in_force.ensures
-    (a.requires.1, order_from n k a.requires.0 a.requires.2, order-to n k a.requires.0 a.requires.3, a.requires.4)
+    (c.requires.1, order_from n k c.requires.0 c.requires.2, order-to n k c.requires.0 c.requires.3, c.requires.4)
 
 pub returns : goal.returns
 returns c = rw (← c.order_in_force.ensures) c.elco.ensures

@@ -11,11 +11,10 @@ use Rattle.common.proofs.initial.Goals.{then-a-b, else-a-b}
 
 pub overflow_add-lmax : goal.overflow_add-lmax
 overflow_add-lmax c =
-    let j = c in
-    let few : j.if-a-b.order ≤ 12 =
-    elim j.if-a-b.branch [
-      | then-a-b w ↦ omega (arith, w.order-is, j.mxords-b.ensures)
-      | else-a-b w ↦ omega (arith, w.order-is, j.mxordn-a.ensures)
+    let few : c.if-a-b.order ≤ 12 =
+    elim c.if-a-b.branch [
+      | then-a-b w ↦ omega (arith, w.order-is, c.mxords-b.ensures)
+      | else-a-b w ↦ omega (arith, w.order-is, c.mxordn-a.ensures)
     ]
     in
     omega arith
@@ -23,12 +22,11 @@ overflow_add-lmax c =
 pub returns : goal.returns
 unfolding initial_of
 returns c =
-    let j = c in
-    let s = j.args.s in
-    let b = j.mxords-b.ensures in
-    let a = j.mxordn-a.ensures in
-    let larger : j.if-a-b.order ≡ max (mxordn_of s) (mxords_of s) =
-    elim j.if-a-b.branch [
+    let s = c.args.s in
+    let b = c.mxords-b.ensures in
+    let a = c.mxordn-a.ensures in
+    let larger : c.if-a-b.order ≡ max (mxordn_of s) (mxords_of s) =
+    elim c.if-a-b.branch [
       | then-a-b w ↦ omega (arith, w.if-a-b.true, w.order-is, a, b)
       | else-a-b w ↦ omega (arith, w.if-a-b.false, w.order-is, a, b)
     ]

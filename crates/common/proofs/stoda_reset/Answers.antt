@@ -8,8 +8,7 @@ use Rattle.common.proofs.stoda_reset.Goals as goal
 
 pub overflow_mul-d : goal.overflow_mul-d
 overflow_mul-d c =
-    let a = c in
-    omega (arith, small_product a.args.c.nq a.args.s.n a.requires.3 a.requires.0)
+    omega (arith, small_product c.args.c.nq c.args.s.n c.requires.3 c.requires.0)
 
 pub returns : goal.returns
 unfolding reset_of

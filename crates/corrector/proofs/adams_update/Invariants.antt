@@ -11,4 +11,5 @@ use Rattle.corrector.proofs.adams_update.Given as goal
 
 abbrev pub invariant-loop-i : goal.invariant-loop-i
 invariant-loop-i l =
-    (length l.work ≡ length l.initial.work) × (for l.i l.n (adams_update_at l.n l.e) l.work ≡ adams_update_of l.n l.e l.initial.work)
+    (length l.work ≡ length l.initial.work)
+    × (for l.i l.n (adams_update_at l.n l.e) l.work ≡ adams_update_of l.n l.e l.initial.work)

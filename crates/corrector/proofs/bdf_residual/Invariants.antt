@@ -11,4 +11,5 @@ use Rattle.corrector.proofs.bdf_residual.Given as goal
 
 abbrev pub invariant-loop-i : goal.invariant-loop-i
 invariant-loop-i l =
-    (length l.work ≡ length l.initial.work) × (for l.i l.n (bdf_residual_at l.n l.h) l.work ≡ bdf_residual_of l.n l.h l.initial.work)
+    (length l.work ≡ length l.initial.work)
+    × (for l.i l.n (bdf_residual_at l.n l.h) l.work ≡ bdf_residual_of l.n l.h l.initial.work)

@@ -10,4 +10,6 @@ use Rattle.corrector.specs.Iterate.{bdf_update_at, bdf_update_of}
 use Rattle.corrector.proofs.bdf_update.Given as goal
 
 abbrev pub invariant-loop-i : goal.invariant-loop-i
-invariant-loop-i l = (length l.work ≡ length l.initial.work) × (for l.i l.n (bdf_update_at l.n l.e) l.work ≡ bdf_update_of l.n l.e l.initial.work)
+invariant-loop-i l =
+    (length l.work ≡ length l.initial.work)
+    × (for l.i l.n (bdf_update_at l.n l.e) l.work ≡ bdf_update_of l.n l.e l.initial.work)

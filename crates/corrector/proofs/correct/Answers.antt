@@ -6,12 +6,10 @@ use Rattle.corrector.proofs.correct.Goals as goal
 
 pub returns-then-is_bdf : goal.returns-then-is_bdf
 returns-then-is_bdf c =
-    let i = c in
-    let family = sym i.is_bdf.ensures ∙ i.if-is_bdf.true in
+    let family = sym c.is_bdf.ensures ∙ c.if-is_bdf.true in
     c.correct_bdf.ensures ∙ sym (in-second _ _ _ _ family)
 
 pub returns : goal.returns
 returns c =
-    let i = c in
-    let family = sym i.is_bdf.ensures ∙ i.if-is_bdf.false in
+    let family = sym c.is_bdf.ensures ∙ c.if-is_bdf.false in
     c.correct_adams.ensures ∙ sym (in-first _ _ _ _ family)

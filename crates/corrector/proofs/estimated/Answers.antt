@@ -13,13 +13,9 @@ el-requires c =
 pub returns-then-pdest : goal.returns-then-pdest
 unfolding estimated_of
 returns-then-pdest c =
-    let m = c in
-    let a = m in
-    rw (← a.el.ensures, ← a.abs.ensures, ← m.max-pdest.ensures, c.if-pdest.true)
+    rw (← c.el.ensures, ← c.abs.ensures, ← c.max-pdest.ensures, c.if-pdest.true)
 
 pub returns-else-pdest : goal.returns-else-pdest
 unfolding estimated_of
 returns-else-pdest c =
-    let m = c in
-    let a = m in
-    rw (← a.el.ensures, ← a.abs.ensures, ← m.max-pdest.ensures, c.if-pdest.false)
+    rw (← c.el.ensures, ← c.abs.ensures, ← c.max-pdest.ensures, c.if-pdest.false)

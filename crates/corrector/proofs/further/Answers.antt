@@ -12,14 +12,12 @@ returns-then-m-s c = rw (eq-eqb _ _ c.if-m-s.true) c.give_up.ensures
 pub returns-then-del-c : goal.returns-then-del-c
 unfolding judged_further
 returns-then-del-c c =
-    let g = c in
-    rw (ne_eqb _ _ g.if-m-s.false, le-leb _ _ g.if-m-ge2.true, c.if-del-c.true) c.give_up-then-del-c.ensures
+    rw (ne_eqb _ _ c.if-m-s.false, le-leb _ _ c.if-m-ge2.true, c.if-del-c.true) c.give_up-then-del-c.ensures
 
 pub returns-else-del-c : goal.returns-else-del-c
 unfolding judged_further
 returns-else-del-c c =
-    let g = c in
-    rw (ne_eqb _ _ g.if-m-s.false, le-leb _ _ g.if-m-ge2.true, c.if-del-c.false)
+    rw (ne_eqb _ _ c.if-m-s.false, le-leb _ _ c.if-m-ge2.true, c.if-del-c.false)
 
 pub returns-else-m-ge2 : goal.returns-else-m-ge2
 unfolding judged_further

@@ -11,38 +11,31 @@ use Rattle.corrector.proofs.judge.Goals.{then-c-eq0+else-not-is_bdf, else-c-eq0}
 pub returns-then-not-solved : goal.returns-then-not-solved
 unfolding judge_of
 returns-then-not-solved c =
-    let i = c in
-    rw (i.if-not-solved.true) c.give_up.ensures
+    rw (c.if-not-solved.true) c.give_up.ensures
 
 pub returns-then-del-pnorm : goal.returns-then-del-pnorm
 unfolding judge_of
 returns-then-del-pnorm c =
-    let i = c in
-    rw (i.if-not-solved.false, c.if-del-pnorm.true) c.converged.ensures
+    rw (c.if-not-solved.false, c.if-del-pnorm.true) c.converged.ensures
 
 pub returns-then-not-is_bdf : goal.returns-then-not-is_bdf
 unfolding judge_of
 returns-then-not-is_bdf c =
-    let first = c in
-    let far = first in
-    let solved = far.if-not-solved.false in
+    let solved = c.if-not-solved.false in
     let family = sym c.is_bdf.ensures ∙ c.if-not-is_bdf.true in
-    rw (solved, far.if-del-pnorm.false, eq-eqb _ _ first.if-c-eq0.true, family) c.further.ensures
+    rw (solved, c.if-del-pnorm.false, eq-eqb _ _ c.if-c-eq0.true, family) c.further.ensures
 
 pub tested-requires : goal.tested-requires
 tested-requires c =
-    let a = c in
-    let k = in-range-known a.args.s a.args.c a.args.x.del a.requires.step_in_range a.requires.maxcor_bound.1 in
-    rw c.known_rate.ensures record { step_in_range = k.0; maxcor_bound = (a.requires.maxcor_bound.0, k.1) }
+    let k = in-range-known c.args.s c.args.c c.args.x.del c.requires.step_in_range c.requires.maxcor_bound.1 in
+    rw c.known_rate.ensures record { step_in_range = k.0; maxcor_bound = (c.requires.maxcor_bound.0, k.1) }
 
 pub returns : goal.returns
 unfolding judge_of known_rate_of
 returns c =
-    let later = c in
-    let far = later in
-    let solved = far.if-not-solved.false in
-    rw (solved, far.if-del-pnorm.false, c.tested.ensures, c.known_rate.ensures)
-    (elim later.if-c-eq0.branch [
+    let solved = c.if-not-solved.false in
+    rw (solved, c.if-del-pnorm.false, c.tested.ensures, c.known_rate.ensures)
+    (elim c.if-c-eq0.branch [
       | then-c-eq0+else-not-is_bdf w ↦ rw (eq-eqb _ _ w.if-c-eq0.true, sym w.is_bdf.ensures ∙ w.if-not-is_bdf.false)
       | else-c-eq0 w ↦ rw (ne_eqb _ _ w.if-c-eq0.false)
     ])

@@ -8,9 +8,8 @@ use Rattle.corrector.proofs.rated.Goals.{then-del-c, else-del-c}
 pub returns : goal.returns
 unfolding rated_of
 returns c =
-    let j = c in
-    let a = j.args in
-    let rm : j.if-del-c.rm ≡ rm_of a.c a.del =
+    let a = c.args in
+    let rm : c.if-del-c.rm ≡ rm_of a.c a.del =
     elim c.if-del-c.branch [
       | then-del-c w ↦ w.rm-is ∙ rw w.if-del-c.true
       | else-del-c w ↦ w.rm-is ∙ rw w.if-del-c.false

@@ -6,11 +6,9 @@ use Rattle.corrector.proofs.tested.Goals as goal
 pub returns-then-dcon : goal.returns-then-dcon
 unfolding judged_tested
 returns-then-dcon c =
-    let t = c in
-    rw (← t.dcon.ensures, t.if-dcon.true, ← c.estimated.ensures) c.converged.ensures
+    rw (← c.dcon.ensures, c.if-dcon.true, ← c.estimated.ensures) c.converged.ensures
 
 pub returns : goal.returns
 unfolding judged_tested
 returns c =
-    let t = c in
-    rw (← t.dcon.ensures, t.if-dcon.false) c.further.ensures
+    rw (← c.dcon.ensures, c.if-dcon.false) c.further.ensures

@@ -1,4 +1,5 @@
--- `backward_step` meets its contract: row n - 1 - kb lies within the matrix, and its test is that of `backward_step_of`.
+-- `backward_step` meets its contract: row n - 1 - kb lies within the matrix, and its test is that of
+-- `backward_step_of`.
 -- Assumes nothing.
 use Prim.Native.Nat.{ℕ, ◌+◌, ◌-◌, ◌*◌, ◌<◌, ◌≤◌}
 use mathlib.Core.Path.{◌∙◌}

@@ -13,8 +13,7 @@ loop-i-init c = (refl, refl)
 
 pub loop-i-preserved : goal.loop-i-preserved
 loop-i-preserved c =
-    let l = c in
-    (simp length-set (omega arith), again _ _ _ _ _ (omega arith) l.loop-i.invariant.1)
+    (simp length-set (omega arith), again _ _ _ _ _ (omega arith) c.loop-i.invariant.1)
 
 pub returns : goal.returns
 returns c = ended _ _ _ _ _ (omega arith) c.loop-i.invariant.1

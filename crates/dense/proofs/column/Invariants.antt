@@ -9,4 +9,6 @@ use Rattle.dense.specs.Factor.{column_at, column_of}
 use Rattle.dense.proofs.column.Given as goal
 
 abbrev pub invariant-loop-i : goal.invariant-loop-i
-invariant-loop-i l = (length l.a ≡ length l.initial.a) × (for l.i l.n (column_at l.n l.k l.j l.ukj) l.a ≡ column_of l.n l.k l.j l.initial.a)
+invariant-loop-i l =
+    (length l.a ≡ length l.initial.a)
+    × (for l.i l.n (column_at l.n l.k l.j l.ukj) l.a ≡ column_of l.n l.k l.j l.initial.a)

@@ -22,23 +22,21 @@ loop-k-init c = (refl, refl, refl)
 pub returns-then-not-step : goal.returns-then-not-step
 unfolding step_of
 returns-then-not-step c =
-    let l = c in
     let s = c.step in
     let no = c.if-not-step.true in
-    let args = l.args in
+    let args = c.args in
     let whole =
-    sym (stays (step_of args.n) (l.loop-k.k + 1) args.n _ (λ k. refl))
-    ∙ onward _ _ _ _ _ _ (omega arith) (rw no at (sym s.ensures)) l.loop-k.invariant.2
+    sym (stays (step_of args.n) (c.loop-k.k + 1) args.n _ (λ k. refl))
+    ∙ onward _ _ _ _ _ _ (omega arith) (rw no at (sym s.ensures)) c.loop-k.invariant.2
     in
     parts whole
 
 pub loop-k-preserved : goal.loop-k-preserved
 loop-k-preserved c =
-    let l = c in
     let s = c.step in
     let yes = c.if-not-step.false in
-    let whole = onward _ _ _ _ _ _ (omega arith) (rw yes at (sym s.ensures)) l.loop-k.invariant.2 in
-    (s.auto.a ∙ l.loop-k.invariant.0, s.auto.ipiv ∙ l.loop-k.invariant.1, whole)
+    let whole = onward _ _ _ _ _ _ (omega arith) (rw yes at (sym s.ensures)) c.loop-k.invariant.2 in
+    (s.auto.a ∙ c.loop-k.invariant.0, s.auto.ipiv ∙ c.loop-k.invariant.1, whole)
 
 pub returns : goal.returns
 returns c = parts (ended _ _ _ _ _ (omega arith) c.loop-k.invariant.2)

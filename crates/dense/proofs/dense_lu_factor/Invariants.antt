@@ -16,4 +16,8 @@ use Rattle.dense.proofs.dense_lu_factor.Given as goal
 abbrev pub invariant-loop-k : goal.invariant-loop-k
 invariant-loop-k l =
     (length l.a ≡ length l.initial.a) × (length l.ipiv ≡ length l.initial.ipiv) ×
-    (for l.k l.n (step_of l.n) (record { a = l.a; ipiv = l.ipiv; ok = true }) ≡ factor_of l.n l.initial.a l.initial.ipiv)
+    (for l.k l.n (step_of l.n) (record {
+      a = l.a;
+      ipiv = l.ipiv;
+      ok = true;
+    }) ≡ factor_of l.n l.initial.a l.initial.ipiv)

@@ -40,25 +40,23 @@ loop-kb-init c = (refl, refl)
 
 pub returns-then-not-backward_step : goal.returns-then-not-backward_step
 returns-then-not-backward_step c =
-    let l = c in
     let s = c.backward_step in
-    let args = l.args in
+    let args = c.args in
     let no = c.if-not-backward_step.true in
     let whole =
-    refused args.n args.a args.b l.loop-kb.kb _ _ _ _ (omega arith) s.ensures l.loop-kb.invariant.1 no
+    refused args.n args.a args.b c.loop-kb.kb _ _ _ _ (omega arith) s.ensures c.loop-kb.invariant.1 no
     in
-    parts (whole ∙ begun _ _ _ _ _ _ l.forward_all.ensures)
+    parts (whole ∙ begun _ _ _ _ _ _ c.forward_all.ensures)
 
 pub loop-kb-preserved : goal.loop-kb-preserved
 loop-kb-preserved c =
-    let l = c in
     let s = c.backward_step in
-    let args = l.args in
+    let args = c.args in
     let yes = c.if-not-backward_step.false in
     let whole =
-    taken args.n args.a args.b l.loop-kb.kb _ _ _ _ (omega arith) s.ensures l.loop-kb.invariant.1 yes
+    taken args.n args.a args.b c.loop-kb.kb _ _ _ _ (omega arith) s.ensures c.loop-kb.invariant.1 yes
     in
-    (s.auto.work ∙ l.loop-kb.invariant.0, whole)
+    (s.auto.work ∙ c.loop-kb.invariant.0, whole)
 
 pub returns : goal.returns
 returns c =

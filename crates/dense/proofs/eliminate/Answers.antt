@@ -13,15 +13,13 @@ loop-j-init c = (refl, refl)
 
 pub column-requires : goal.column-requires
 column-requires c =
-    let l = c in
-    let a = l.args in
-    omega (arith, within a.n a.n l.loop-j.j (omega arith), within a.n a.n a.k (omega arith))
+    let a = c.args in
+    omega (arith, within a.n a.n c.loop-j.j (omega arith), within a.n a.n a.k (omega arith))
 
 pub loop-j-preserved : goal.loop-j-preserved
 loop-j-preserved c =
-    let l = c in
     let last = c.column in
-    (last.auto.a ∙ l.loop-j.invariant.0, rw last.ensures (again _ _ _ _ _ (omega arith) l.loop-j.invariant.1))
+    (last.auto.a ∙ c.loop-j.invariant.0, rw last.ensures (again _ _ _ _ _ (omega arith) c.loop-j.invariant.1))
 
 pub returns : goal.returns
 returns c = ended _ _ _ _ _ (omega arith) c.loop-j.invariant.1

@@ -10,4 +10,6 @@ use Rattle.dense.specs.Factor.{column_of, eliminate_of}
 use Rattle.dense.proofs.eliminate.Given as goal
 
 abbrev pub invariant-loop-j : goal.invariant-loop-j
-invariant-loop-j l = (length l.a ≡ length l.initial.a) × (for l.j l.n (column_of l.n l.k) l.a ≡ eliminate_of l.n l.k l.initial.a)
+invariant-loop-j l =
+    (length l.a ≡ length l.initial.a)
+    × (for l.j l.n (column_of l.n l.k) l.a ≡ eliminate_of l.n l.k l.initial.a)

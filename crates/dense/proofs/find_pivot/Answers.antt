@@ -18,16 +18,15 @@ abs-x-requires c = tt
 
 pub loop-i-preserved : goal.loop-i-preserved
 loop-i-preserved c =
-    let l = c in
     let x = c.abs-x.ensures in
     elim c.if-x-value.branch [
       | then-x-value w ↦ (
         omega (arith, w.row-is),
-        onward _ _ _ _ _ _ (omega arith) (rw (w.row-is, w.value-is, ← x, w.if-x-value.true)) l.loop-i.invariant.1,
+        onward _ _ _ _ _ _ (omega arith) (rw (w.row-is, w.value-is, ← x, w.if-x-value.true)) c.loop-i.invariant.1,
       )
       | else-x-value w ↦ (
         omega (arith, w.row-is),
-        onward _ _ _ _ _ _ (omega arith) (rw (w.row-is, w.value-is, ← x, w.if-x-value.false)) l.loop-i.invariant.1,
+        onward _ _ _ _ _ _ (omega arith) (rw (w.row-is, w.value-is, ← x, w.if-x-value.false)) c.loop-i.invariant.1,
       )
     ]
 

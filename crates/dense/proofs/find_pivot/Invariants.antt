@@ -12,4 +12,7 @@ use Rattle.dense.proofs.find_pivot.Given as goal
 
 abbrev pub invariant-loop-i : goal.invariant-loop-i
 invariant-loop-i l =
-    (l.row < l.n) × (for l.i l.n (pick_row l.n l.k l.a) (record { row = l.row; value = l.value }) ≡ pivot_of l.n l.k l.a)
+    (l.row < l.n) × (for l.i l.n (pick_row l.n l.k l.a) (record {
+      row = l.row;
+      value = l.value;
+    }) ≡ pivot_of l.n l.k l.a)

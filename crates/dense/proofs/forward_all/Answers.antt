@@ -13,28 +13,24 @@ loop-k-init c = (refl, refl)
 
 pub overflow_add-b-in-loop-k : goal.overflow_add-b-in-loop-k
 overflow_add-b-in-loop-k c =
-    let l = c in
-    omega (arith, l.requires.by_index l.loop-k.k (omega arith))
+    omega (arith, c.requires.by_index c.loop-k.k (omega arith))
 
 pub swap_entries-requires : goal.swap_entries-requires
 swap_entries-requires c =
-    let l = c in
-    omega (arith, l.requires.by_index l.loop-k.k (omega arith))
+    omega (arith, c.requires.by_index c.loop-k.k (omega arith))
 
 pub less-requires : goal.less-requires
 less-requires c =
-    let l = c in
-    let n = l.args.n in
-    omega (arith, within n n l.loop-k.k (omega arith))
+    let n = c.args.n in
+    omega (arith, within n n c.loop-k.k (omega arith))
 
 pub loop-k-preserved : goal.loop-k-preserved
 unfolding forward_step_of
 loop-k-preserved c =
-    let l = c in
     let last = c.less in
     let exchange = c.swap_entries in (
-      last.auto.work ∙ (exchange.auto.work ∙ l.loop-k.invariant.0),
-      rw (last.ensures, exchange.ensures) (again _ _ _ _ _ (omega arith) l.loop-k.invariant.1),
+      last.auto.work ∙ (exchange.auto.work ∙ c.loop-k.invariant.0),
+      rw (last.ensures, exchange.ensures) (again _ _ _ _ _ (omega arith) c.loop-k.invariant.1),
     )
 
 pub returns : goal.returns

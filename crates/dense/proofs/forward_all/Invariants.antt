@@ -10,4 +10,5 @@ use Rattle.dense.proofs.forward_all.Given as goal
 
 abbrev pub invariant-loop-k : goal.invariant-loop-k
 invariant-loop-k l =
-    (length l.work ≡ length l.initial.work) × (for l.k l.n (forward_step_of l.n l.a l.ipiv l.b) l.work ≡ forward_all_of l.n l.a l.ipiv l.b l.initial.work)
+    (length l.work ≡ length l.initial.work)
+    × (for l.k l.n (forward_step_of l.n l.a l.ipiv l.b) l.work ≡ forward_all_of l.n l.a l.ipiv l.b l.initial.work)

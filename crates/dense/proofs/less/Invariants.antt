@@ -10,4 +10,5 @@ use Rattle.dense.proofs.less.Given as goal
 
 abbrev pub invariant-loop-i : goal.invariant-loop-i
 invariant-loop-i l =
-    (length l.work ≡ length l.initial.work) × (for l.i l.hi (less_at l.n l.a l.b l.k l.bk) l.work ≡ less_of l.n l.a l.b l.k l.bk l.lo l.hi l.initial.work)
+    (length l.work ≡ length l.initial.work)
+    × (for l.i l.hi (less_at l.n l.a l.b l.k l.bk) l.work ≡ less_of l.n l.a l.b l.k l.bk l.lo l.hi l.initial.work)

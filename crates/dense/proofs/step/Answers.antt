@@ -23,8 +23,6 @@ scale-requires c =
 pub returns : goal.returns
 unfolding step_of
 returns c =
-    let e = c in
     let eliminated = c.eliminate.ensures in
-    let s = c in
-    let exchanged = s.exchange.ensures in
-    rw (eliminated, s.scale.ensures, exchanged, ← e.find_pivot-p.ensures.0, e.if-value.false)
+    let exchanged = c.exchange.ensures in
+    rw (eliminated, c.scale.ensures, exchanged, ← c.find_pivot-p.ensures.0, c.if-value.false)

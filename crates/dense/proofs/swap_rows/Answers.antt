@@ -13,14 +13,12 @@ loop-j-init c = (refl, refl)
 
 pub swap_at-requires : goal.swap_at-requires
 swap_at-requires c =
-    let l = c in
-    omega (arith, within l.args.n l.args.n l.loop-j.j (omega arith))
+    omega (arith, within c.args.n c.args.n c.loop-j.j (omega arith))
 
 pub loop-j-preserved : goal.loop-j-preserved
 loop-j-preserved c =
-    let l = c in
     let last = c.swap_at in
-    (last.auto.a ∙ l.loop-j.invariant.0, rw last.ensures (again _ _ _ _ _ (omega arith) l.loop-j.invariant.1))
+    (last.auto.a ∙ c.loop-j.invariant.0, rw last.ensures (again _ _ _ _ _ (omega arith) c.loop-j.invariant.1))
 
 pub returns : goal.returns
 returns c = ended _ _ _ _ _ (omega arith) c.loop-j.invariant.1

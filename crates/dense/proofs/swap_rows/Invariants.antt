@@ -9,4 +9,6 @@ use Rattle.dense.specs.Factor.{swap_at, swap_of}
 use Rattle.dense.proofs.swap_rows.Given as goal
 
 abbrev pub invariant-loop-j : goal.invariant-loop-j
-invariant-loop-j l = (length l.a ≡ length l.initial.a) × (for l.j l.n (swap_at l.n l.k l.p) l.a ≡ swap_of l.n l.k l.p l.initial.a)
+invariant-loop-j l =
+    (length l.a ≡ length l.initial.a)
+    × (for l.j l.n (swap_at l.n l.k l.p) l.a ≡ swap_of l.n l.k l.p l.initial.a)

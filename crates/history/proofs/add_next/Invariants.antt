@@ -10,4 +10,6 @@ use Rattle.history.specs.Columns.{add_at, add_range}
 use Rattle.history.proofs.add_next.Given as goal
 
 abbrev pub invariant-loop-i : goal.invariant-loop-i
-invariant-loop-i l = (length l.yh ≡ length l.initial.yh) × (for l.i l.e (add_at l.n) l.yh ≡ add_range l.n l.a l.e l.initial.yh)
+invariant-loop-i l =
+    (length l.yh ≡ length l.initial.yh)
+    × (for l.i l.e (add_at l.n) l.yh ≡ add_range l.n l.a l.e l.initial.yh)

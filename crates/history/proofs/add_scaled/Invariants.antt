@@ -11,4 +11,5 @@ use Rattle.history.proofs.add_scaled.Given as goal
 
 abbrev pub invariant-loop-i : goal.invariant-loop-i
 invariant-loop-i l =
-    (length l.work ≡ length l.initial.work) × (for l.i l.n (add_scaled_at l.n l.j l.e l.at) l.work ≡ add_scaled_of l.n l.j l.e l.at l.initial.work)
+    (length l.work ≡ length l.initial.work)
+    × (for l.i l.n (add_scaled_at l.n l.j l.e l.at) l.work ≡ add_scaled_of l.n l.j l.e l.at l.initial.work)

@@ -11,4 +11,5 @@ use Rattle.history.proofs.copy_part.Given as goal
 
 abbrev pub invariant-loop-i : goal.invariant-loop-i
 invariant-loop-i l =
-    (length l.work ≡ length l.initial.work) × (for l.i l.n (copy_at l.to l.from) l.work ≡ copy_of l.n l.to l.from l.initial.work)
+    (length l.work ≡ length l.initial.work)
+    × (for l.i l.n (copy_at l.to l.from) l.work ≡ copy_of l.n l.to l.from l.initial.work)

@@ -13,16 +13,14 @@ loop-j-init c = (refl, refl)
 
 pub el-requires : goal.el-requires
 el-requires c =
-    let a = c in
-    let p = a.requires.step_in_range in
-    let first = within a.args.s.n a.args.c.nq 0 p.order.0 in
+    let p = c.requires.step_in_range in
+    let first = within c.args.s.n c.args.c.nq 0 p.order.0 in
     (p.n.0, p.table, omega (arith, first), p.used.1, omega arith)
 
 pub add_scaled-requires : goal.add_scaled-requires
 add_scaled-requires c =
-    let l = c in
-    let n = l.args.s.n in
-    omega (arith, within n 13 l.loop-j.j (omega arith))
+    let n = c.args.s.n in
+    omega (arith, within n 13 c.loop-j.j (omega arith))
 
 pub loop-j-preserved : goal.loop-j-preserved
 loop-j-preserved c =

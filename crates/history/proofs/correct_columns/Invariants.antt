@@ -11,4 +11,5 @@ use Rattle.history.proofs.correct_columns.Given as goal
 
 abbrev pub invariant-loop-j : goal.invariant-loop-j
 invariant-loop-j l =
-    (length l.work ≡ length l.initial.work) × (for l.j l.j-end (correct_at l.s l.c) l.work ≡ correct_columns_of l.s l.c l.initial.work)
+    (length l.work ≡ length l.initial.work)
+    × (for l.j l.j-end (correct_at l.s l.c) l.work ≡ correct_columns_of l.s l.c l.initial.work)

@@ -11,4 +11,5 @@ use Rattle.history.proofs.fill.Given as goal
 
 abbrev pub invariant-loop-i : goal.invariant-loop-i
 invariant-loop-i l =
-    (length l.v ≡ length l.initial.v) × (for l.i (length l.initial.v) (store_at l.x) l.v ≡ replicate (length l.initial.v) l.x)
+    (length l.v ≡ length l.initial.v)
+    × (for l.i (length l.initial.v) (store_at l.x) l.v ≡ replicate (length l.initial.v) l.x)

@@ -11,5 +11,4 @@ returns-then-abs c = rw (← c.abs.ensures, c.if-abs.true)
 pub returns : goal.returns
 unfolding stale_of
 returns c =
-    let t = c in
-    rw (← t.abs.ensures, t.if-abs.false, ← c.msbp.ensures)
+    rw (← c.abs.ensures, c.if-abs.false, ← c.msbp.ensures)

@@ -8,10 +8,8 @@ use Rattle.history.proofs.limited.Goals as goal
 pub returns-then-is_bdf : goal.returns-then-is_bdf
 unfolding limited_of
 returns-then-is_bdf c =
-    let x = c in
-    let a = x in
     let bdf = sym c.is_bdf.ensures ∙ c.if-is_bdf.true in
-    rw (← a.min-rh1.ensures, ← a.abs.ensures, ← x.max.ensures, bdf)
+    rw (← c.min-rh1.ensures, ← c.abs.ensures, ← c.max.ensures, bdf)
 
 pub returns-then-rh2-d : goal.returns-then-rh2-d
 unfolding limited_of

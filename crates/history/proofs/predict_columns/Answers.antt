@@ -13,15 +13,13 @@ loop-k-init c = (refl, refl)
 
 pub overflow_mul-k : goal.overflow_mul-k
 overflow_mul-k c =
-    let l = c in
-    let a = l.args in
-    omega (arith, within a.n a.nq l.loop-k.k (omega arith))
+    let a = c.args in
+    omega (arith, within a.n a.nq c.loop-k.k (omega arith))
 
 pub overflow_sub-nqnyh : goal.overflow_sub-nqnyh
 overflow_sub-nqnyh c =
-    let l = c in
-    let a = l.args in
-    omega (arith, within a.n a.nq l.loop-k.k (omega arith))
+    let a = c.args in
+    omega (arith, within a.n a.nq c.loop-k.k (omega arith))
 
 pub loop-k-preserved : goal.loop-k-preserved
 loop-k-preserved c =

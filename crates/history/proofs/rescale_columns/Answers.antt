@@ -15,46 +15,39 @@ loop-j-init c = (refl, refl)
 
 pub overflow_mul-a : goal.overflow_mul-a
 overflow_mul-a c =
-    let l = c in
-    let a = l.args in
-    omega (arith, within a.n a.l l.loop-j.j (omega arith))
+    let a = c.args in
+    omega (arith, within a.n a.l c.loop-j.j (omega arith))
 
 pub overflow_add-e : goal.overflow_add-e
 overflow_add-e c =
-    let l = c in
-    let a = l.args in
-    omega (arith, within a.n a.l l.loop-j.j (omega arith))
+    let a = c.args in
+    omega (arith, within a.n a.l c.loop-j.j (omega arith))
 
 pub offset_bounds-yh-a : goal.offset_bounds-yh-a
 offset_bounds-yh-a c =
-    let l = c in
-    let a = l.args in
-    omega (arith, within a.n a.l l.loop-j.j (omega arith))
+    let a = c.args in
+    omega (arith, within a.n a.l c.loop-j.j (omega arith))
 
 pub slice_bounds-scale-count : goal.slice_bounds-scale-count
 slice_bounds-scale-count c =
-    let l = c in
-    let a = l.args in
-    omega (arith, within a.n a.l l.loop-j.j (omega arith))
+    let a = c.args in
+    omega (arith, within a.n a.l c.loop-j.j (omega arith))
 
 pub slice_bounds-scale-start : goal.slice_bounds-scale-start
 slice_bounds-scale-start c =
-    let l = c in
-    let a = l.args in
-    omega (arith, within a.n a.l l.loop-j.j (omega arith))
+    let a = c.args in
+    omega (arith, within a.n a.l c.loop-j.j (omega arith))
 
 pub slice_bounds-scale-end : goal.slice_bounds-scale-end
 slice_bounds-scale-end c =
-    let l = c in
-    let a = l.args in
-    omega (arith, within a.n a.l l.loop-j.j (omega arith))
+    let a = c.args in
+    omega (arith, within a.n a.l c.loop-j.j (omega arith))
 
 pub loop-j-preserved : goal.loop-j-preserved
 unfolding scale_part_of
 loop-j-preserved c =
-    let b = c in
-    let l = b.loop-j in
-    let a = b.args in
+    let l = c.loop-j in
+    let a = c.args in
     let scaled = c.scale.ensures in
     let k : l.j * a.n + a.n - l.j * a.n ≡ a.n = omega arith in (
       rw (scaled, k) (length-scale-part a.n (l.j * a.n) (l.r ⊗ a.rh) l.yh ∙ l.invariant.0),

@@ -15,4 +15,7 @@ use Rattle.history.proofs.rescale_columns.Given as goal
 abbrev pub invariant-loop-j : goal.invariant-loop-j
 invariant-loop-j l =
     let begun : Rescaled = record { r = one_f; yh = l.initial.yh } in
-    (length l.yh ≡ length l.initial.yh) × (for l.j l.l (rescale_at l.n l.rh) (record { r = l.r; yh = l.yh }) ≡ for 1 l.l (rescale_at l.n l.rh) begun)
+    (length l.yh ≡ length l.initial.yh) × (for l.j l.l (rescale_at l.n l.rh) (record {
+      r = l.r;
+      yh = l.yh;
+    }) ≡ for 1 l.l (rescale_at l.n l.rh) begun)

@@ -11,4 +11,5 @@ use Rattle.history.proofs.retract_columns.Given as goal
 
 abbrev pub invariant-loop-k : goal.invariant-loop-k
 invariant-loop-k l =
-    (length l.yh ≡ length l.initial.yh) × (for l.k l.nq (retract_pass l.n l.nqnyh) l.yh ≡ retract_columns_of l.n l.nq l.nqnyh l.initial.yh)
+    (length l.yh ≡ length l.initial.yh)
+    × (for l.k l.nq (retract_pass l.n l.nqnyh) l.yh ≡ retract_columns_of l.n l.nq l.nqnyh l.initial.yh)

@@ -10,4 +10,6 @@ use Rattle.history.specs.Columns.{slope_at, slope_of}
 use Rattle.history.proofs.set_slope.Given as goal
 
 abbrev pub invariant-loop-i : goal.invariant-loop-i
-invariant-loop-i l = (length l.work ≡ length l.initial.work) × (for l.i l.n (slope_at l.n l.h) l.work ≡ slope_of l.n l.h l.initial.work)
+invariant-loop-i l =
+    (length l.work ≡ length l.initial.work)
+    × (for l.i l.n (slope_at l.n l.h) l.work ≡ slope_of l.n l.h l.initial.work)

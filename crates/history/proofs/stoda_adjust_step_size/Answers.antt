@@ -8,6 +8,5 @@ use Rattle.history.proofs.stoda_adjust_step_size.Goals as goal
 pub returns : goal.returns
 unfolding adjust_of
 returns c =
-    let scaled = c in
-    let r = scaled.limited-r.ensures in
-    (rw (← r), scaled.rescale_columns.ensures ∙ rw r)
+    let r = c.limited-r.ensures in
+    (rw (← r), c.rescale_columns.ensures ∙ rw r)

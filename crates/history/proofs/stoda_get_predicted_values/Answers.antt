@@ -7,14 +7,12 @@ use Rattle.history.proofs.stoda_get_predicted_values.Goals as goal
 
 pub returns-then-is_stale : goal.returns-then-is_stale
 unfolding predicted_of
-returns-then-is_stale c =
-    let s = c in (
-      rw (c.is_bdf.ensures, sym s.is_stale.ensures ∙ c.if-is_stale.true),
-      s.predict_columns.ensures,
-    )
+returns-then-is_stale c = (
+  rw (c.is_bdf.ensures, sym c.is_stale.ensures ∙ c.if-is_stale.true),
+  c.predict_columns.ensures,
+)
 
 pub returns : goal.returns
 unfolding predicted_of
 returns c =
-    let s = c in
-    (rw (sym s.is_stale.ensures ∙ c.if-is_stale.false), s.predict_columns.ensures)
+    (rw (sym c.is_stale.ensures ∙ c.if-is_stale.false), c.predict_columns.ensures)

@@ -11,149 +11,130 @@ use Rattle.interpolation.proofs.evaluate.Goals as goal
 
 pub overflow_mul-last : goal.overflow_mul-last
 overflow_mul-last c =
-    let b = c in
-    let n = b.args.z.n in
-    let nq = b.args.z.nq in
+    let n = c.args.z.n in
+    let nq = c.args.z.nq in
     omega (arith, small_product nq n (omega arith) (omega arith))
 
 pub overflow_add-last : goal.overflow_add-last
 overflow_add-last c =
-    let b = c in
-    let n = b.args.z.n in
-    let nq = b.args.z.nq in
+    let n = c.args.z.n in
+    let nq = c.args.z.nq in
     omega (arith, small_product nq n (omega arith) (omega arith))
 
 pub overflow_add-end : goal.overflow_add-end
 overflow_add-end c =
-    let b = c in
-    let n = b.args.z.n in
-    let nq = b.args.z.nq in
+    let n = c.args.z.n in
+    let nq = c.args.z.nq in
     omega (arith, small_product nq n (omega arith) (omega arith))
 
 pub offset_bounds-cont-last : goal.offset_bounds-cont-last
 offset_bounds-cont-last c =
-    let b = c in
-    let n = b.args.z.n in
-    let nq = b.args.z.nq in
+    let n = c.args.z.n in
+    let nq = c.args.z.nq in
     omega (arith, small_product nq n (omega arith) (omega arith))
 
 pub slice_bounds-last_column-count : goal.slice_bounds-last_column-count
 slice_bounds-last_column-count c =
-    let b = c in
-    let n = b.args.z.n in
-    let nq = b.args.z.nq in
+    let n = c.args.z.n in
+    let nq = c.args.z.nq in
     omega (arith, small_product nq n (omega arith) (omega arith))
 
 pub slice_bounds-last_column-start : goal.slice_bounds-last_column-start
 slice_bounds-last_column-start c =
-    let b = c in
-    let n = b.args.z.n in
-    let nq = b.args.z.nq in
+    let n = c.args.z.n in
+    let nq = c.args.z.nq in
     omega (arith, small_product nq n (omega arith) (omega arith))
 
 pub slice_bounds-last_column-end : goal.slice_bounds-last_column-end
 slice_bounds-last_column-end c =
-    let b = c in
-    let n = b.args.z.n in
-    let nq = b.args.z.nq in
-    omega (arith, small_product nq n (omega arith) (omega arith), b.requires.3, within n (nq + 1) nq (omega arith))
+    let n = c.args.z.n in
+    let nq = c.args.z.nq in
+    omega (arith, small_product nq n (omega arith) (omega arith), c.requires.3, within n (nq + 1) nq (omega arith))
 
 pub last_column-requires : goal.last_column-requires
 last_column-requires c =
-    let b = c in
-    let n = b.args.z.n in
-    let nq = b.args.z.nq in
+    let n = c.args.z.n in
+    let nq = c.args.z.nq in
     let size : 6 + nq * n + n - (6 + nq * n) ≡ n = omega arith in
     let last = within n (nq + 1) nq (omega arith) in
-    let fits : 6 + nq * n + n ≤ length b.args.cont.now = omega (arith, b.requires.3, last) in
-    rw (size, length_part (6 + nq * n) n b.args.cont.now fits) (omega (arith, b.requires.2))
+    let fits : 6 + nq * n + n ≤ length c.args.cont.now = omega (arith, c.requires.3, last) in
+    rw (size, length_part (6 + nq * n) n c.args.cont.now fits) (omega (arith, c.requires.2))
 
 pub loop-jb-init : goal.loop-jb-init
 loop-jb-init c = (refl, omega arith, omega (arith, c.last_column.auto.yi), refl)
 
 pub overflow_mul-a : goal.overflow_mul-a
 overflow_mul-a c =
-    let b = c in
-    let n = b.args.z.n in
-    let nq = b.args.z.nq in
+    let n = c.args.z.n in
+    let nq = c.args.z.nq in
     let j = nq - c.loop-jb.jb in
     omega (arith, small_product j n (omega arith) (omega arith))
 
 pub overflow_add-a : goal.overflow_add-a
 overflow_add-a c =
-    let b = c in
-    let n = b.args.z.n in
-    let nq = b.args.z.nq in
+    let n = c.args.z.n in
+    let nq = c.args.z.nq in
     let j = nq - c.loop-jb.jb in
     omega (arith, small_product j n (omega arith) (omega arith))
 
 pub overflow_add-e : goal.overflow_add-e
 overflow_add-e c =
-    let b = c in
-    let n = b.args.z.n in
-    let nq = b.args.z.nq in
+    let n = c.args.z.n in
+    let nq = c.args.z.nq in
     let j = nq - c.loop-jb.jb in
     omega (arith, small_product j n (omega arith) (omega arith))
 
 pub offset_bounds-cont-a : goal.offset_bounds-cont-a
 offset_bounds-cont-a c =
-    let b = c in
-    let n = b.args.z.n in
-    let nq = b.args.z.nq in
+    let n = c.args.z.n in
+    let nq = c.args.z.nq in
     let j = nq - c.loop-jb.jb in
     omega (arith, small_product j n (omega arith) (omega arith))
 
 pub slice_bounds-horner-count : goal.slice_bounds-horner-count
 slice_bounds-horner-count c =
-    let b = c in
-    let n = b.args.z.n in
-    let nq = b.args.z.nq in
+    let n = c.args.z.n in
+    let nq = c.args.z.nq in
     let j = nq - c.loop-jb.jb in
     omega (arith, small_product j n (omega arith) (omega arith))
 
 pub slice_bounds-horner-start : goal.slice_bounds-horner-start
 slice_bounds-horner-start c =
-    let b = c in
-    let n = b.args.z.n in
-    let nq = b.args.z.nq in
+    let n = c.args.z.n in
+    let nq = c.args.z.nq in
     let j = nq - c.loop-jb.jb in
     omega (arith, small_product j n (omega arith) (omega arith))
 
 pub slice_bounds-horner-end : goal.slice_bounds-horner-end
 slice_bounds-horner-end c =
-    let b = c in
-    let n = b.args.z.n in
-    let nq = b.args.z.nq in
+    let n = c.args.z.n in
+    let nq = c.args.z.nq in
     let j = nq - c.loop-jb.jb in
-    omega (arith, small_product j n (omega arith) (omega arith), b.requires.3, within n (nq + 1) j (omega arith))
+    omega (arith, small_product j n (omega arith) (omega arith), c.requires.3, within n (nq + 1) j (omega arith))
 
 pub horner-requires : goal.horner-requires
 horner-requires c =
-    let b = c in
-    let n = b.args.z.n in
-    let nq = b.args.z.nq in
+    let n = c.args.z.n in
+    let nq = c.args.z.nq in
     let j = nq - c.loop-jb.jb in
     let size : 6 + j * n + n - (6 + j * n) ≡ n = omega arith in
     let this = within n (nq + 1) j (omega arith) in
-    let fits : 6 + j * n + n ≤ length b.args.cont.now = omega (arith, b.requires.3, this) in
-    rw (size, length_part (6 + j * n) n b.args.cont.now fits) (omega arith)
+    let fits : 6 + j * n + n ≤ length c.args.cont.now = omega (arith, c.requires.3, this) in
+    rw (size, length_part (6 + j * n) n c.args.cont.now fits) (omega arith)
 
 pub loop-jb-preserved : goal.loop-jb-preserved
 loop-jb-preserved c =
-    let t = c in
-    let l = t in
-    let b = l.args.z in
-    let j = b.nq - l.loop-jb.jb in
+    let b = c.args.z in
+    let j = b.nq - c.loop-jb.jb in
     let size : 6 + j * b.n + b.n - (6 + j * b.n) ≡ b.n = omega arith in
-    let turned = rw size at t.horner.ensures in
-    let rest = onward _ _ _ _ _ _ (omega arith) (sym turned) l.loop-jb.invariant.3 in
-    (omega arith, omega arith, omega (arith, t.horner.auto.yi), rest)
+    let turned = rw size at c.horner.ensures in
+    let rest = onward _ _ _ _ _ _ (omega arith) (sym turned) c.loop-jb.invariant.3 in
+    (omega arith, omega arith, omega (arith, c.horner.auto.yi), rest)
 
 pub returns : goal.returns
 unfolding evaluate_of
 returns c =
-    let l = c in
-    let b = l.args.z in
+    let b = c.args.z in
     let size : 6 + b.nq * b.n + b.n - (6 + b.nq * b.n) ≡ b.n = omega arith in
-    let last = rw size at l.last_column.ensures in
-    rw (← last) (ended _ _ _ _ _ (omega arith) l.loop-jb.invariant.3)
+    let last = rw size at c.last_column.ensures in
+    rw (← last) (ended _ _ _ _ _ (omega arith) c.loop-jb.invariant.3)

@@ -14,4 +14,5 @@ use Rattle.interpolation.proofs.evaluate.Given as goal
 abbrev pub invariant-loop-jb : goal.invariant-loop-jb
 invariant-loop-jb l =
     (l.jb-end ≡ l.nq + 1) × (1 ≤ l.jb) × (length l.yi ≡ l.n)
-    × (for l.jb (l.nq + 1) (horner_turn l.cont l.n l.nq l.s) l.yi ≡ for 1 (l.nq + 1) (horner_turn l.cont l.n l.nq l.s) l.initial.yi)
+    × (for l.jb (l.nq + 1) (horner_turn l.cont l.n l.nq l.s) l.yi
+    ≡ for 1 (l.nq + 1) (horner_turn l.cont l.n l.nq l.s) l.initial.yi)

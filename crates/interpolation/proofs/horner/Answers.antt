@@ -13,8 +13,7 @@ loop-i-init c = (refl, refl, refl)
 
 pub loop-i-preserved : goal.loop-i-preserved
 loop-i-preserved c =
-    let l = c in
-    (omega arith, simp length-set (omega arith), again _ _ _ _ _ (omega arith) l.loop-i.invariant.2)
+    (omega arith, simp length-set (omega arith), again _ _ _ _ _ (omega arith) c.loop-i.invariant.2)
 
 pub returns : goal.returns
 returns c = ended _ _ _ _ _ (omega arith) c.loop-i.invariant.2

@@ -17,9 +17,8 @@ returns-then-cont-yi c =
 
 pub interpolate_sized-requires : goal.interpolate_sized-requires
 interpolate_sized-requires c =
-    let d = c in
-    let cont = d.args.cont.now in
-    let r = header-reads cont d.in-Read.z (sym d.read_header.ensures ∙ d.in-Read.is) in
+    let cont = c.args.cont.now in
+    let r = header-reads cont c.in-Read.z (sym c.read_header.ensures ∙ c.in-Read.is) in
     (r.states.0, r.order.0, r.long)
 
 pub returns-in-Refused : goal.returns-in-Refused
@@ -32,8 +31,7 @@ returns-in-Refused c =
 pub returns-in-Read : goal.returns-in-Read
 unfolding interpolate_of
 returns-in-Read c =
-    let d = c in
-    let a = d.args in
+    let a = c.args in
     let other = ne_eqb (length a.cont.now) (length a.yi.now) (λ q. omega arith) in
     let answer = c.interpolate_sized.ensures in
-    rw (other, ← d.read_header.ensures, d.in-Read.is) answer
+    rw (other, ← c.read_header.ensures, c.in-Read.is) answer

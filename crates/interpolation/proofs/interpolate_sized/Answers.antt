@@ -16,9 +16,8 @@ returns-then-yi-n c =
 
 pub overflow_mul-z : goal.overflow_mul-z
 overflow_mul-z c =
-    let a = c in
-    let k : a.args.z.nq + 1 ≤ 13 = omega arith in
-    omega (arith, mul-le-mul k a.requires.0)
+    let k : c.args.z.nq + 1 ≤ 13 = omega arith in
+    omega (arith, mul-le-mul k c.requires.0)
 
 pub returns-then-cont-z : goal.returns-then-cont-z
 unfolding interpolate_sized_of
@@ -37,8 +36,7 @@ returns-then-z c =
 pub returns : goal.returns
 unfolding interpolate_sized_of
 returns c =
-    let d = c in
-    let a = d.args in
+    let a = c.args in
     let n = eq-eqb (length a.yi.now) a.z.n (omega arith) in
     let long = le-ltb (length a.cont.now - 6) ((a.z.nq + 1) * a.z.n) (omega arith) in
-    rw (n, long, d.if-z.false, ← c.evaluate.ensures)
+    rw (n, long, c.if-z.false, ← c.evaluate.ensures)

@@ -20,18 +20,15 @@ returns-in-NotWhole c =
 pub returns-in-NotWhole-whole_count : goal.returns-in-NotWhole-whole_count
 unfolding read_header_of
 returns-in-NotWhole-whole_count c =
-    let d = c in
-    let cont = d.args.cont.now in
+    let cont = c.args.cont.now in
     let long = le-ltb (length cont) 6 (omega arith) in
     let order = c.whole_count-in-Is.ensures in
-    rw (long, ← d.whole_count.ensures, d.in-Is.is, ← order, c.in-NotWhole-whole_count.is)
+    rw (long, ← c.whole_count.ensures, c.in-Is.is, ← order, c.in-NotWhole-whole_count.is)
 
 pub returns-in-Is-whole_count : goal.returns-in-Is-whole_count
 unfolding read_header_of
 returns-in-Is-whole_count c =
-    let e = c in
-    let d = e in
-    let cont = d.args.cont.now in
+    let cont = c.args.cont.now in
     let long = le-ltb (length cont) 6 (omega arith) in
-    let order = e.whole_count-in-Is.ensures in
-    rw (long, ← d.whole_count.ensures, d.in-Is.is, ← order, e.in-Is-whole_count.is)
+    let order = c.whole_count-in-Is.ensures in
+    rw (long, ← c.whole_count.ensures, c.in-Is.is, ← order, c.in-Is-whole_count.is)

@@ -11,24 +11,20 @@ use Rattle.interpolation.proofs.snapshot_step.Goals as goal
 
 pub overflow_mul-i-end : goal.overflow_mul-i-end
 overflow_mul-i-end c =
-    let a = c in
-    let k : a.args.c.nq + 1 ≤ 13 = omega (arith, a.requires.2) in
-    omega (arith, mul-le-mul k a.requires.1)
+    let k : c.args.c.nq + 1 ≤ 13 = omega (arith, c.requires.2) in
+    omega (arith, mul-le-mul k c.requires.1)
 
 pub loop-i-init : goal.loop-i-init
 loop-i-init c =
-    let a = c in
-    let k : a.args.c.nq + 1 ≤ 13 = omega (arith, a.requires.2) in
-    let q = mul-le-mul_right a.args.s.n k in
-    (omega (arith, q, a.requires.3), omega (arith, q, a.requires.4), refl, refl)
+    let k : c.args.c.nq + 1 ≤ 13 = omega (arith, c.requires.2) in
+    let q = mul-le-mul_right c.args.s.n k in
+    (omega (arith, q, c.requires.3), omega (arith, q, c.requires.4), refl, refl)
 
 pub loop-i-preserved : goal.loop-i-preserved
 loop-i-preserved c =
-    let l = c in
-    (omega arith, omega arith, simp length-set (omega arith), again _ _ _ _ _ (omega arith) l.loop-i.invariant.3)
+    (omega arith, omega arith, simp length-set (omega arith), again _ _ _ _ _ (omega arith) c.loop-i.invariant.3)
 
 pub returns : goal.returns
 unfolding snapshot_of
 returns c =
-    let l = c in
-    rw (← l.put_header.ensures) (ended _ _ _ _ _ (omega arith) l.loop-i.invariant.3)
+    rw (← c.put_header.ensures) (ended _ _ _ _ _ (omega arith) c.loop-i.invariant.3)

@@ -13,5 +13,7 @@ use Rattle.interpolation.proofs.snapshot_step.Given as goal
 
 abbrev pub invariant-loop-i : goal.invariant-loop-i
 invariant-loop-i l =
-    (l.i-end ≤ length l.work) × (l.n + 6 + l.i-end ≤ length l.initial.question) × (length l.question ≡ length l.initial.question)
+    (l.i-end ≤ length l.work)
+    × (l.n + 6 + l.i-end ≤ length l.initial.question)
+    × (length l.question ≡ length l.initial.question)
     × (for l.i l.i-end (snapshot_at l.n l.work) l.question ≡ for 0 l.i-end (snapshot_at l.n l.work) l.initial.question)

@@ -14,15 +14,13 @@ loop-k-init c = (refl, refl)
 
 pub returns-then-x-k : goal.returns-then-x-k
 returns-then-x-k c =
-    let l = c in
-    let a = l.args in
-    sym (stays (whole_count_at a.x) (l.loop-k.k + 1) (a.limit + 1) (Is l.loop-k.k) (λ j. refl))
-    ∙ onward _ _ _ _ _ _ (omega arith) (rw c.if-x-k.true) l.loop-k.invariant.1
+    let a = c.args in
+    sym (stays (whole_count_at a.x) (c.loop-k.k + 1) (a.limit + 1) (Is c.loop-k.k) (λ j. refl))
+    ∙ onward _ _ _ _ _ _ (omega arith) (rw c.if-x-k.true) c.loop-k.invariant.1
 
 pub loop-k-preserved : goal.loop-k-preserved
 loop-k-preserved c =
-    let l = c in
-    (omega arith, onward _ _ _ _ _ _ (omega arith) (rw c.if-x-k.false) l.loop-k.invariant.1)
+    (omega arith, onward _ _ _ _ _ _ (omega arith) (rw c.if-x-k.false) c.loop-k.invariant.1)
 
 pub returns : goal.returns
 returns c = ended _ _ _ _ _ (omega arith) c.loop-k.invariant.1

@@ -13,28 +13,23 @@ loop-i-init c = (refl, refl)
 
 pub overflow_mul-a : goal.overflow_mul-a
 overflow_mul-a c =
-    let l = c in
-    omega (arith, within l.args.n l.args.n l.loop-i.i (omega arith))
+    omega (arith, within c.args.n c.args.n c.loop-i.i (omega arith))
 
 pub overflow_add-a : goal.overflow_add-a
 overflow_add-a c =
-    let l = c in
-    omega (arith, within l.args.n l.args.n l.loop-i.i (omega arith))
+    omega (arith, within c.args.n c.args.n c.loop-i.i (omega arith))
 
 pub offset_bounds-a-i : goal.offset_bounds-a-i
 offset_bounds-a-i c =
-    let l = c in
-    omega (arith, within l.args.n l.args.n l.loop-i.i (omega arith))
+    omega (arith, within c.args.n c.args.n c.loop-i.i (omega arith))
 
 pub bounds-a-i : goal.bounds-a-i
 bounds-a-i c =
-    let l = c in
-    omega (arith, within l.args.n l.args.n l.loop-i.i (omega arith))
+    omega (arith, within c.args.n c.args.n c.loop-i.i (omega arith))
 
 pub bounds-a-i-in-loop-i : goal.bounds-a-i-in-loop-i
 bounds-a-i-in-loop-i c =
-    let l = c in
-    omega (arith, within l.args.n l.args.n l.loop-i.i (omega arith))
+    omega (arith, within c.args.n c.args.n c.loop-i.i (omega arith))
 
 pub loop-i-preserved : goal.loop-i-preserved
 loop-i-preserved c =

@@ -10,4 +10,6 @@ use Rattle.jacobian.specs.Jacobian.{identity_at, identity_of}
 use Rattle.jacobian.proofs.add_identity.Given as goal
 
 abbrev pub invariant-loop-i : goal.invariant-loop-i
-invariant-loop-i l = (length l.a ≡ length l.initial.a) × (for l.i l.n (identity_at l.n) l.a ≡ identity_of l.n l.initial.a)
+invariant-loop-i l =
+    (length l.a ≡ length l.initial.a)
+    × (for l.i l.n (identity_at l.n) l.a ≡ identity_of l.n l.initial.a)

@@ -11,4 +11,5 @@ use Rattle.jacobian.proofs.difference_column.Given as goal
 
 abbrev pub invariant-loop-i : goal.invariant-loop-i
 invariant-loop-i l =
-    (length l.work ≡ length l.initial.work) × (for l.i l.n (difference_at l.n l.j l.fac) l.work ≡ difference_of l.n l.j l.fac l.initial.work)
+    (length l.work ≡ length l.initial.work)
+    × (for l.i l.n (difference_at l.n l.j l.fac) l.work ≡ difference_of l.n l.j l.fac l.initial.work)

@@ -7,20 +7,16 @@ use Rattle.jacobian.proofs.factor.Goals as goal
 
 pub returns-in-Done : goal.returns-in-Done
 returns-in-Done c =
-    let d = c in
-    let i = d in
-    let x = i.args in
-    let f = rw i.add_identity.ensures at d.dense_lu_factor.ensures in
+    let x = c.args in
+    let f = rw c.add_identity.ensures at c.dense_lu_factor.ensures in
     let factors = identity_factors_of x.n x.a.now x.ipiv.now in
     let flag = ok-done factors.ok (sym f.2 ∙ c.in-Done.is) in
     (f.0, f.1, sym flag)
 
 pub returns-in-Singular : goal.returns-in-Singular
 returns-in-Singular c =
-    let d = c in
-    let i = d in
-    let x = i.args in
-    let f = rw i.add_identity.ensures at d.dense_lu_factor.ensures in
+    let x = c.args in
+    let f = rw c.add_identity.ensures at c.dense_lu_factor.ensures in
     let factors = identity_factors_of x.n x.a.now x.ipiv.now in
     let flag = ok-singular factors.ok (sym f.2 ∙ c.in-Singular.is) in
     (f.0, f.1, sym flag)

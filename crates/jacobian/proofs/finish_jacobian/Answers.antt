@@ -10,11 +10,9 @@ use Rattle.jacobian.proofs.finish_jacobian.Goals as goal
 pub returns : goal.returns
 unfolding finish_jacobian_of
 returns c =
-    let f = c in
-    let v = f in
-    let n = v.args.s.n in
+    let n = c.args.s.n in
     let size : matrix_at n + n * n - matrix_at n ≡ n * n = omega arith in
     let weights : savf_at n - ewt_at n ≡ n = omega arith in
-    let norm = rw (size, weights) at v.fnorm_dense-norm.ensures in
-    let done = rw size at f.factor-done.ensures in
+    let norm = rw (size, weights) at c.fnorm_dense-norm.ensures in
+    let done = rw size at c.factor-done.ensures in
     rw (c.in_force.ensures, ← norm, size, ← done.0, ← done.1, ← done.2)

@@ -6,5 +6,4 @@ use Rattle.jacobian.proofs.increment.Goals as goal
 pub returns : goal.returns
 unfolding increment_of
 returns c =
-    let a = c in
-    rw (← a.r0-r.ensures, ← a.abs.ensures) c.max.ensures
+    rw (← c.r0-r.ensures, ← c.abs.ensures) c.max.ensures

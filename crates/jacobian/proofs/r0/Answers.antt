@@ -6,11 +6,9 @@ use Rattle.jacobian.proofs.r0.Goals as goal
 pub returns-then-r : goal.returns-then-r
 unfolding r0_of
 returns-then-r c =
-    let x = c in
-    rw (← x.norm_at-fac.ensures, ← x.abs.ensures, c.if-r.true)
+    rw (← c.norm_at-fac.ensures, ← c.abs.ensures, c.if-r.true)
 
 pub returns : goal.returns
 unfolding r0_of
 returns c =
-    let x = c in
-    rw (← x.norm_at-fac.ensures, ← x.abs.ensures, c.if-r.false)
+    rw (← c.norm_at-fac.ensures, ← c.abs.ensures, c.if-r.false)

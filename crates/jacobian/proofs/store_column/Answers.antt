@@ -13,5 +13,4 @@ difference_column-requires c =
 pub returns : goal.returns
 unfolding restore_of
 returns c =
-    let d = c in
-    rw (← d.increment.ensures, ← d.difference_column.ensures)
+    rw (← c.increment.ensures, ← c.difference_column.ensures)

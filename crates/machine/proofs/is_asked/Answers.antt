@@ -71,7 +71,7 @@ module _ (len n : ℕ) where
   derivatives Phase.Finished k h = absurd (miss (0 ∷ 2 ∷ 3 ∷ 5 ∷ 6 ∷ 7 ∷ 9 ∷ []) 10 tt h)
 
 pub overflow_mul-result : goal.overflow_mul-result
-overflow_mul-result c = let a = c in omega (arith, mul-le-mul_right a.args.n a.requires)
+overflow_mul-result c = omega (arith, mul-le-mul_right c.args.n c.requires)
 
 pub returns-in-Finished : goal.returns-in-Finished
 returns-in-Finished c = rw c.in-Finished.is
@@ -98,7 +98,10 @@ returns-in-Derivative-kind c =
 pub returns-in-Derivative-kind-2 : goal.returns-in-Derivative-kind-2
 returns-in-Derivative-kind-2 c =
     let a = c.args in
-    rw (derivatives a.len a.n a.phase a.kind (opened c.in-FirstDerivative.in-FirstDerivative-own.keys4), c.in-Derivative-kind-2.is)
+    rw (
+      derivatives a.len a.n a.phase a.kind (opened c.in-FirstDerivative.in-FirstDerivative-own.keys4),
+      c.in-Derivative-kind-2.is,
+    )
 
 pub returns-in-Jacobian-kind : goal.returns-in-Jacobian-kind
 returns-in-Jacobian-kind c =

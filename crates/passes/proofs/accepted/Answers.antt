@@ -33,17 +33,15 @@ closes g x order CoefficientGap h = absurd (miss (0 ∷ 1 ∷ 2 ∷ 3 ∷ 4 ∷ 
 
 pub end_step-requires : goal.end_step-requires
 end_step-requires c =
-    let e = c in
-    let a = e in
-    let p = a.requires.inside in
-    let x = a.args in
-    let k = rw (← e.accept-chosen.ensures) at (accept-keeps x.s x.c x.dsm x.work.now) in record {
+    let p = c.requires.inside in
+    let x = c.args in
+    let k = rw (← c.accept-chosen.ensures) at (accept-keeps x.s x.c x.dsm x.work.now) in record {
       step_in_range = step-in-range _ p.settings (k.orders 1 (p.settings.mxordn.0, p.settings.mxords.0) p.orders)
           (omega (arith, k.nslp, p.steps));
       le_order = p.orders.nq;
       nst_bound = (omega (arith, k.nst, p.steps), omega (arith, k.rejected, p.counts));
-      list1or_n = a.requires.list1or_n;
-      list1or_n_2 = a.requires.list1or_n_2;
+      list1or_n = c.requires.list1or_n;
+      list1or_n_2 = c.requires.list1or_n_2;
       n_in_bounds = omega arith;
     }
 

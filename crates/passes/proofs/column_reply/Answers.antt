@@ -26,7 +26,11 @@ pub ask_column-requires : goal.ask_column-requires
 ask_column-requires c =
     let p = c.requires in
     let l = p.lent.sized in
-    record { n_le_max_states = (p.inside.settings.n.1, c.if-j-s.true); nfe_bound = (p.inside.counts.0, p.inside.counts.1); n_in_bounds = omega arith }
+    record {
+      n_le_max_states = (p.inside.settings.n.1, c.if-j-s.true);
+      nfe_bound = (p.inside.counts.0, p.inside.counts.1);
+      n_in_bounds = omega arith;
+    }
 
 pub returns-then-j-s : goal.returns-then-j-s
 unfolding column_reply_of column_reply_at
@@ -42,15 +46,20 @@ pub matrix_done-requires : goal.matrix_done-requires
 matrix_done-requires c =
     let p = c.requires in
     let first = inside-column p.inside 0 p.inside.settings.n.0 in
-    record { inside = first; nlu_bound = p.nlu_bound; list1or_n = p.list1or_n; list1or_n_2 = p.list1or_n_2; lent = lent_length _ (omega arith) p.lent }
+    record {
+      inside = first;
+      nlu_bound = p.nlu_bound;
+      list1or_n = p.list1or_n;
+      list1or_n_2 = p.list1or_n_2;
+      lent = lent_length _ (omega arith) p.lent;
+    }
 
 pub returns : goal.returns
 unfolding column_reply_of column_reply_at
 returns c =
-    let k = c in
     rw (
       le-ltb _ _ c.if-j-s.false,
-      ← k.store.ensures,
-      ← k.store_column.ensures,
+      ← c.store.ensures,
+      ← c.store_column.ensures,
     )
     c.matrix_done.ensures

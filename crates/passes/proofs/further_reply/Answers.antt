@@ -8,7 +8,12 @@ use Rattle.passes.proofs.further_reply.Goals as goal
 pub iterate-requires : goal.iterate-requires
 iterate-requires c =
     let p = c.requires in
-    record { inside = p.inside; list1or_n = p.list1or_n; list1or_n_2 = p.list1or_n_2; lent = lent_length _ (omega arith) p.lent }
+    record {
+      inside = p.inside;
+      list1or_n = p.list1or_n;
+      list1or_n_2 = p.list1or_n_2;
+      lent = lent_length _ (omega arith) p.lent;
+    }
 
 pub returns : goal.returns
 unfolding further_reply_of

@@ -14,17 +14,18 @@ use Rattle.passes.proofs.iterations.Goals as goal
 
 pub iterate-requires : goal.iterate-requires
 iterate-requires c =
-    let o = c in
-    let a = o in
-    let p = a.requires in record { inside = rw o.open_iterations-d.ensures.0 (inside-open p.inside); list1or_n = p.list1or_n; list1or_n_2 = p.list1or_n_2; lent = lent_length _ (omega arith) p.lent }
+    let p = c.requires in record {
+      inside = rw c.open_iterations-d.ensures.0 (inside-open p.inside);
+      list1or_n = p.list1or_n;
+      list1or_n_2 = p.list1or_n_2;
+      lent = lent_length _ (omega arith) p.lent;
+    }
 
 pub returns : goal.returns
 unfolding iterations_of fill_of
 returns c =
-    let o = c in
-    let a = o in
-    let n = a.args.s.n in
+    let n = c.args.s.n in
     let size : y_at n - acor_at n ≡ n = omega arith in
-    let long = length_part (acor_at n) n a.args.work.now (omega (arith, a.requires.lent.sized)) in
-    let opened = o.open_iterations-d.ensures in
+    let long = length_part (acor_at n) n c.args.work.now (omega (arith, c.requires.lent.sized)) in
+    let opened = c.open_iterations-d.ensures in
     rw (opened.0, opened.1, size, long) at c.iterate.ensures

@@ -42,12 +42,17 @@ slice_bounds-store_jacobian-end c =
 pub matrix_done-requires : goal.matrix_done-requires
 matrix_done-requires c =
     let p = c.requires in
-    record { inside = p.inside; nlu_bound = p.nlu_bound; list1or_n = p.list1or_n; list1or_n_2 = p.list1or_n_2; lent = lent_length _ (omega arith) p.lent }
+    record {
+      inside = p.inside;
+      nlu_bound = p.nlu_bound;
+      list1or_n = p.list1or_n;
+      list1or_n_2 = p.list1or_n_2;
+      lent = lent_length _ (omega arith) p.lent;
+    }
 
 pub returns : goal.returns
 unfolding jacobian_reply_of
 returns c =
-    let o = c in
-    let x = o.args in
+    let x = c.args in
     let k : matrix_at x.s.n + length x.f.now - matrix_at x.s.n ≡ length x.f.now = omega arith in
-    rw (o.store_jacobian.ensures, k) at c.matrix_done.ensures
+    rw (c.store_jacobian.ensures, k) at c.matrix_done.ensures

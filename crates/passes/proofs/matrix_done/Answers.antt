@@ -8,14 +8,12 @@ use Rattle.passes.proofs.matrix_done.Goals as goal
 
 pub iterations-requires : goal.iterations-requires
 iterations-requires c =
-    let f = c in
-    let a = f in
-    let p = a.requires in
-    let x = a.args in
+    let p = c.requires in
+    let x = c.args in
     let l = p.lent in
-    let inside = rw (← f.finish_jacobian-f.ensures) at
+    let inside = rw (← c.finish_jacobian-f.ensures) at
     (inside-factored p.inside x.work.now x.ipiv.now) in
-    let lent = rw (← f.finish_jacobian-f.ensures) at (lent-factored x.s x.c x.work.now x.ipiv.now l) in
+    let lent = rw (← c.finish_jacobian-f.ensures) at (lent-factored x.s x.c x.work.now x.ipiv.now l) in
     record { inside = inside; list1or_n = p.list1or_n; list1or_n_2 = p.list1or_n_2; lent = lent }
 
 pub returns-then-done : goal.returns-then-done
@@ -27,13 +25,11 @@ returns-then-done c =
 
 pub pass_failed-requires : goal.pass_failed-requires
 pass_failed-requires c =
-    let f = c in
-    let a = f in
-    let p = a.requires in
-    let x = a.args in
-    let inside = rw (← f.finish_jacobian-f.ensures) at
+    let p = c.requires in
+    let x = c.args in
+    let inside = rw (← c.finish_jacobian-f.ensures) at
     (inside-factored p.inside x.work.now x.ipiv.now) in
-    let lent = rw (← f.finish_jacobian-f.ensures) at
+    let lent = rw (← c.finish_jacobian-f.ensures) at
     (lent-factored x.s x.c x.work.now x.ipiv.now p.lent) in
     record { inside = inside; n_in_bounds = omega (arith, lent.sized) }
 

@@ -21,20 +21,23 @@ opened-at g x f t e = ap (opened_reply_at g (put_w (with_derivative g.s.n f x.w)
 pub returns-then-due : goal.returns-then-due
 unfolding opened_reply_at
 returns-then-due c =
-    let o = c in
-    let x = o.args in
-    (rw o.store.ensures at (c.ask_jacobian.ensures x.ipiv.now))
+    let x = c.args in
+    (rw c.store.ensures at (c.ask_jacobian.ensures x.ipiv.now))
     ∙ sym (opened-at _ _ _ true c.if-due.true)
 
 pub iterations-requires : goal.iterations-requires
 iterations-requires c =
     let p = c.requires in
-    record { inside = p.inside; list1or_n = p.list1or_n; list1or_n_2 = p.list1or_n_2; lent = lent_length _ (omega arith) p.lent }
+    record {
+      inside = p.inside;
+      list1or_n = p.list1or_n;
+      list1or_n_2 = p.list1or_n_2;
+      lent = lent_length _ (omega arith) p.lent;
+    }
 
 pub returns : goal.returns
 unfolding opened_reply_at
 returns c =
-    let o = c in
-    let x = o.args in
-    (rw o.store.ensures at c.iterations.ensures)
+    let x = c.args in
+    (rw c.store.ensures at c.iterations.ensures)
     ∙ sym (opened-at _ _ _ false c.if-due.false)

@@ -7,11 +7,9 @@ use Rattle.passes.proofs.pass_failed.Goals as goal
 
 pub attempted-requires : goal.attempted-requires
 attempted-requires c =
-    let e = c in
-    let a = e in
-    let p = a.requires.inside in
-    let x = a.args in
-    let q = rw (← e.no_convergence.ensures) at (unconverged x.s x.c x.work.now) in
+    let p = c.requires.inside in
+    let x = c.args in
+    let q = rw (← c.no_convergence.ensures) at (unconverged x.s x.c x.work.now) in
     (omega (arith, q.kept.nfe, p.counts), omega (arith, q.kept.count, p.counts), omega arith)
 
 pub returns : goal.returns

@@ -14,11 +14,9 @@ restep-d-requires c =
 
 pub open_pass-requires : goal.open_pass-requires
 open_pass-requires c =
-    let r = c in
-    let a = r in
-    let p = a.requires.inside in
-    let x = a.args in
-    let e = r.restep-d.ensures in
+    let p = c.requires.inside in
+    let x = c.args in
+    let e = c.restep-d.ensures in
     let nfe = ap (λ (m : Moved). m.common.nfe) e ∙ (restepped x.s x.c _).kept.nfe in
     let count = ap (λ (m : Moved). m.common.count) e ∙ (restepped x.s x.c _).kept.count in
     (omega (arith, nfe, p.counts), omega (arith, count, p.counts), omega arith)

@@ -7,11 +7,9 @@ use Rattle.questions.proofs.begin_step.Goals as goal
 
 pub open_pass-requires : goal.open_pass-requires
 open_pass-requires c =
-    let r = c in
-    let a = r in
-    let x = a.args in
-    let q = rw (← r.first_prediction.ensures) at (first-counts x.s x.c x.work.now) in
-    (omega (arith, q.0, a.requires.inside.counts), omega (arith, q.1), omega arith)
+    let x = c.args in
+    let q = rw (← c.first_prediction.ensures) at (first-counts x.s x.c x.work.now) in
+    (omega (arith, q.0, c.requires.inside.counts), omega (arith, q.1), omega arith)
 
 pub returns : goal.returns
 unfolding began_of

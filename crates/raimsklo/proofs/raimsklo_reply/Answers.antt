@@ -11,16 +11,18 @@ use Rattle.raimsklo.proofs.raimsklo_reply.Goals as goal
 
 pub returns-then-session-ne-SESSION_LENGTH : goal.returns-then-session-ne-SESSION_LENGTH
 unfolding reply_of reply_at reply_refusal_of
-returns-then-session-ne-SESSION_LENGTH c = rw (ne_eqb _ _ c.if-session-ne-SESSION_LENGTH.true, c.refused.ensures, c.plain.ensures)
+returns-then-session-ne-SESSION_LENGTH c = rw (
+  ne_eqb _ _ c.if-session-ne-SESSION_LENGTH.true,
+  c.refused.ensures,
+  c.plain.ensures,
+)
 
 pub decode-x-requires : goal.decode-x-requires
 decode-x-requires c = (search rules, c.counts-u.ensures)
 
 pub refusal-r-requires : goal.refusal-r-requires
 refusal-r-requires c =
-    let d = c in
-    let u = d in
-    record { bytes_len = u.if-session-ne-SESSION_LENGTH.false; u_value = (u.counts-u.ensures, d.decode-x.ensures) }
+    record { bytes_len = c.if-session-ne-SESSION_LENGTH.false; u_value = (c.counts-u.ensures, c.decode-x.ensures) }
 
 pub returns-then-r-ne0 : goal.returns-then-r-ne0
 unfolding reply_of reply_at
@@ -29,17 +31,17 @@ returns-then-r-ne0 c =
 
 pub accept-requires : goal.accept-requires
 accept-requires c =
-    let z = c in
-    let r = z in
-    let d = r in
-    let a = d.args in
+    let r = c in
+    let a = r.args in
     let b = a.session.now in
-    let t = taken _ _ _ _ _ (ap (λ (r : Refusal). r.number) (sym r.refusal-r.ensures) ∙ z.if-r-ne0.false) in record { bytes_len = t.bytes; pivots_value = (t.ranges, d.decode-x.ensures); sized = rw (stored-n b) (record { states = t.n; sized = t.work; pivoted = t.pivots; asked = t.question }) }
+    let t = taken _ _ _ _ _ (ap (λ (r : Refusal). r.number) (sym r.refusal-r.ensures) ∙ c.if-r-ne0.false) in record {
+      bytes_len = t.bytes;
+      pivots_value = (t.ranges, r.decode-x.ensures);
+      sized = rw (stored-n b) (record { states = t.n; sized = t.work; pivoted = t.pivots; asked = t.question });
+    }
 
 pub returns : goal.returns
 unfolding reply_of reply_at
 returns c =
-    let g = c in
-    let k = g in
-    rw (← k.refusal-r.ensures, eq-eqb _ _ k.if-r-ne0.false, ← k.kind.ensures)
-    g.accept.ensures
+    rw (← c.refusal-r.ensures, eq-eqb _ _ c.if-r-ne0.false, ← c.kind.ensures)
+    c.accept.ensures

@@ -27,11 +27,10 @@ returns-then-r-ne0 c =
 pub accept-requires : goal.accept-requires
 unfolding accepted_settings
 accept-requires c =
-    let z = c in
-    let q = ap (λ (r : Refusal). r.number) (sym z.start_refusal-r.ensures) ∙ z.if-r-ne0.false in
+    let q = ap (λ (r : Refusal). r.number) (sym c.start_refusal-r.ensures) ∙ c.if-r-ne0.false in
     let st = accepted _ _ _ _ _ _ q in
     let l = st.limits in
-    let some = z.if-y0-eq0.false in
+    let some = c.if-y0-eq0.false in
     rw c.settings-s.ensures record {
       accepted = record {
         n = (omega arith, st.sizes.n);
@@ -49,16 +48,13 @@ accept-requires c =
 pub returns : goal.returns
 unfolding start_of start_at
 returns c =
-    let c6 = c in
-    let c12 = c6 in
-    let c18 = c12 in
     rw (
-      ne_eqb _ _ c18.if-y0-eq0.false,
-      ← c18.start_refusal-r.ensures,
-      eq-eqb _ _ c12.if-r-ne0.false,
-      ← c12.settings-s.ensures,
-      ← c12.first_step-h.ensures,
-      ← c12.smallest-hmin.ensures,
-      ← c12.inverse_largest-hmxi.ensures,
+      ne_eqb _ _ c.if-y0-eq0.false,
+      ← c.start_refusal-r.ensures,
+      eq-eqb _ _ c.if-r-ne0.false,
+      ← c.settings-s.ensures,
+      ← c.first_step-h.ensures,
+      ← c.smallest-hmin.ensures,
+      ← c.inverse_largest-hmxi.ensures,
     )
-    c6.accept.ensures
+    c.accept.ensures

@@ -9,13 +9,11 @@ use Rattle.refusals.proofs.lists.Goals as goal
 
 pub overflow_mul-n : goal.overflow_mul-n
 overflow_mul-n c =
-    let a = c in
-    omega (arith, mul-le-mul_right a.args.n a.requires)
+    omega (arith, mul-le-mul_right c.args.n c.requires)
 
 pub overflow_add-n : goal.overflow_add-n
 overflow_add-n c =
-    let a = c in
-    omega (arith, mul-le-mul_right a.args.n a.requires)
+    omega (arith, mul-le-mul_right c.args.n c.requires)
 
 pub returns : goal.returns
 unfolding length_refusal in_order

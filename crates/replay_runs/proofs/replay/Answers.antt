@@ -8,6 +8,5 @@ loop-init c =
 
 pub turn-f-requires : goal.turn-f-requires
 turn-f-requires c =
-    let before = c in
-    let h = before.is_over.ensures before.if-is_over.false in
+    let h = c.is_over.ensures c.if-is_over.false in
     omega (arith, h)

@@ -56,86 +56,75 @@ module _ (b p : List ℕ) (x : Session) (q : in_range_of b p ≡ true) (e : x �
 
 pub rtol-requires : goal.rtol-requires
 rtol-requires c =
-    let a = c in
-    let l = few a.args.bytes.now a.args.pivots.now a.args.x a.requires.pivots_value.0 a.requires.pivots_value.1 in
+    let l = few c.args.bytes.now c.args.pivots.now c.args.x c.requires.pivots_value.0 c.requires.pivots_value.1 in
     (search rules, l.0, l.0)
 
 pub atol-requires : goal.atol-requires
 atol-requires c =
-    let a = c in
-    let l = few a.args.bytes.now a.args.pivots.now a.args.x a.requires.pivots_value.0 a.requires.pivots_value.1 in
+    let l = few c.args.bytes.now c.args.pivots.now c.args.x c.requires.pivots_value.0 c.requires.pivots_value.1 in
     (search rules, l.1, l.1)
 
 pub slice_bounds-resume-end : goal.slice_bounds-resume-end
 slice_bounds-resume-end c =
-    let r = c in
-    let a = r in
-    let x = a.args in
+    let x = c.args in
     let b = x.bytes.now in
-    let l = few b x.pivots.now x.x a.requires.pivots_value.0 a.requires.pivots_value.1 in
-    let e = r.rtol.ensures in
+    let l = few b x.pivots.now x.x c.requires.pivots_value.0 c.requires.pivots_value.1 in
+    let e = c.rtol.ensures in
     omega (arith, ap length e ∙ length_over b rtol_at x.x.settings.nrtol empty l.0)
 
 pub slice_bounds-resume-end-2 : goal.slice_bounds-resume-end-2
 slice_bounds-resume-end-2 c =
-    let r = c in
-    let a = r in
-    let x = a.args in
+    let x = c.args in
     let b = x.bytes.now in
-    let l = few b x.pivots.now x.x a.requires.pivots_value.0 a.requires.pivots_value.1 in
-    let e = r.atol.ensures in
+    let l = few b x.pivots.now x.x c.requires.pivots_value.0 c.requires.pivots_value.1 in
+    let e = c.atol.ensures in
     omega (arith, ap length e ∙ length_over b atol_at x.x.settings.natol empty l.1)
 
 pub resume-turn-requires : goal.resume-turn-requires
 resume-turn-requires c =
-    let t = c in
-    let a = t in
-    let x = a.args in
+    let x = c.args in
     let b = x.bytes.now in
-    let q = a.requires.pivots_value in
-    let z = a.requires.sized in
-    let rtol = relative b x.pivots.now x.x q.0 q.1 t.rtol.ensures in
-    let atol = absolute b x.pivots.now x.x q.0 q.1 t.atol.ensures in
+    let q = c.requires.pivots_value in
+    let z = c.requires.sized in
+    let rtol = relative b x.pivots.now x.x q.0 q.1 c.rtol.ensures in
+    let atol = absolute b x.pivots.now x.x q.0 q.1 c.atol.ensures in
     let r = resumes b x.pivots.now q.0 x.work.now z.sized z.pivoted in
     rw (rtol, atol, q.1) record { n_le_max_states = z.states.1; unless_finished = unless (decode_of b).phase r }
 
 pub write_turn-requires : goal.write_turn-requires
 write_turn-requires c =
-    let m = c in
-    let t = m in
-    let a = t in
-    let x = a.args in
+    let x = c.args in
     let b = x.bytes.now in
     let s = (decode_of b).settings in
-    let q = a.requires.pivots_value in
-    let z = a.requires.sized in
+    let q = c.requires.pivots_value in
+    let z = c.requires.sized in
     let r = resumes b x.pivots.now q.0 x.work.now z.sized z.pivoted in
-    let rtol = relative b x.pivots.now x.x q.0 q.1 t.rtol.ensures in
-    let atol = absolute b x.pivots.now x.x q.0 q.1 t.atol.ensures in
-    let turned = rw (rtol, atol, q.1) at m.resume-turn.ensures in
+    let rtol = relative b x.pivots.now x.x q.0 q.1 c.rtol.ensures in
+    let atol = absolute b x.pivots.now x.x q.0 q.1 c.atol.ensures in
+    let turned = rw (rtol, atol, q.1) at c.resume-turn.ensures in
     let g = given s (rtol_of b) (atol_of b) in
     let st = state (decode_of b).common x.work.now x.pivots.now in
     let order = order-after g (decode_of b).phase st x.kind x.numbers.now x.time r.ranges in
     let room = (resume-lent g (decode_of b).phase st x.numbers.now x.time r.lent x.kind).sized in
     let low = ap (λ (l : RunState). l.st.c.nq) turned in
     let long = ap (λ (l : RunState). length l.st.w) turned in
-    rw q.1 record { le_n = (z.states.0, z.states.1, omega (arith, low, order)); n_in_bounds = (omega (arith, long, room), omega (arith, z.asked)); session_length_in_bounds = omega (arith, a.requires.bytes_len) }
+    rw q.1 record {
+      le_n = (z.states.0, z.states.1, omega (arith, low, order));
+      n_in_bounds = (omega (arith, long, room), omega (arith, z.asked));
+      session_length_in_bounds = omega (arith, c.requires.bytes_len);
+    }
 
 pub returns : goal.returns
 unfolding accepted_reply_of
 returns c =
-    let e = c in
-    let m = e in
-    let t = m in
-    let a = t in
-    let x = a.args in
+    let x = c.args in
     let b = x.bytes.now in
     let s = (decode_of b).settings in
-    let q = a.requires.pivots_value in
-    let rtol = relative b x.pivots.now x.x q.0 q.1 t.rtol.ensures in
-    let atol = absolute b x.pivots.now x.x q.0 q.1 t.atol.ensures in
-    let turned = rw (rtol, atol, q.1) at m.resume-turn.ensures in
-    let wrote = rw q.1 at e.write_turn.ensures in
+    let q = c.requires.pivots_value in
+    let rtol = relative b x.pivots.now x.x q.0 q.1 c.rtol.ensures in
+    let atol = absolute b x.pivots.now x.x q.0 q.1 c.atol.ensures in
+    let turned = rw (rtol, atol, q.1) at c.resume-turn.ensures in
+    let wrote = rw q.1 at c.write_turn.ensures in
     let lent : Buffers = record {
       work = x.work.now;
       pivots = x.pivots.now;

@@ -29,10 +29,9 @@ returns-then-n-gt-MAX_STATES c =
 pub returns-then-r-ne0 : goal.returns-then-r-ne0
 unfolding reply_refusal_of or_else
 returns-then-r-ne0 c =
-    let n = c in
     rw (
-      eq-eqb _ _ n.requires.bytes_len,
-      ← n.stored_n-n.ensures,
+      eq-eqb _ _ c.requires.bytes_len,
+      ← c.stored_n-n.ensures,
       ne_eqb _ _ c.if-n-eq0.false,
       le-ltb _ _ c.if-n-gt-MAX_STATES.false,
       ← c.lengths-r.ensures,
@@ -41,16 +40,14 @@ returns-then-r-ne0 c =
 
 pub stored-requires : goal.stored-requires
 stored-requires c =
-    let a = c in
-    record { session_length_in_bounds = search rules; u_value = a.requires.u_value }
+    record { session_length_in_bounds = search rules; u_value = c.requires.u_value }
 
 pub returns : goal.returns
 unfolding reply_refusal_of or_else
 returns c =
-    let n = c in
     rw (
-      eq-eqb _ _ n.requires.bytes_len,
-      ← n.stored_n-n.ensures,
+      eq-eqb _ _ c.requires.bytes_len,
+      ← c.stored_n-n.ensures,
       ne_eqb _ _ c.if-n-eq0.false,
       le-ltb _ _ c.if-n-gt-MAX_STATES.false,
       ← c.lengths-r.ensures,

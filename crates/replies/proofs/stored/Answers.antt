@@ -22,9 +22,8 @@ returns-then-not-in_range c =
 pub returns : goal.returns
 unfolding stored_refusal in_order also_of
 returns c =
-    let f = c in
     rw (
-      sym f.is_finished.ensures ∙ f.if-is_finished.false,
+      sym c.is_finished.ensures ∙ c.if-is_finished.false,
       sym c.in_range.ensures ∙ c.if-not-in_range.false,
     )
     (rw c.none.ensures at c.also.ensures)

@@ -41,13 +41,11 @@ returns-in-DifferenceColumn c = rw c.in-DifferenceColumn.is c.show.ensures
 pub returns-in-Report : goal.returns-in-Report
 unfolding question_of
 returns-in-Report c =
-    let h = c in
-    rw h.in-Report.is
-    (rw h.show-in-Report.ensures at c.snapshot_step.ensures)
+    rw c.in-Report.is
+    (rw c.show-in-Report.ensures at c.snapshot_step.ensures)
 
 pub returns-in-FirstDerivative : goal.returns-in-FirstDerivative
 returns-in-FirstDerivative c =
-    let m = c in
-    let a = m.args in
+    let a = c.args in
     rw c.show-in-FirstDerivative.ensures
-    (sym (plainly a.s a.phase a.c a.work.now _ (opened m.in-FirstDerivative.in-FirstDerivative-own.keys4)))
+    (sym (plainly a.s a.phase a.c a.work.now _ (opened c.in-FirstDerivative.in-FirstDerivative-own.keys4)))

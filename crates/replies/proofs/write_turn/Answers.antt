@@ -13,14 +13,10 @@ returns-then-is_unasked c = rw (sym c.is_unasked.ensures ∙ c.if-is_unasked.tru
 pub returns : goal.returns
 unfolding turn_written_of encode_of
 returns c =
-    let w = c in
-    let f = w in
-    let e = f in
-    let i = e in
     rw (
-      sym i.is_unasked.ensures ∙ i.if-is_unasked.false,
+      sym c.is_unasked.ensures ∙ c.if-is_unasked.false,
       c.answer-2.ensures,
-      w.write_question.ensures,
-      f.encode_floats.ensures,
-      e.encode_counts.ensures,
+      c.write_question.ensures,
+      c.encode_floats.ensures,
+      c.encode_counts.ensures,
     )

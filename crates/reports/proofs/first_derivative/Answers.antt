@@ -21,27 +21,21 @@ weighted-requires c =
 pub returns-in-Refused : goal.returns-in-Refused
 unfolding first_derivative_of weighted_at
 returns-in-Refused c p =
-    let i = c in
-    let e = i in
-    let k = e in
-    let n = k.args.s.n in
+    let n = c.args.s.n in
     let weights : savf_at n - ewt_at n ≡ n = omega arith in
-    let w = rw weights at i.invert_weights.ensures in
-    rw (weights, ← k.take_first.ensures, ← e.ewset.ensures, ← w.0, ← w.1, c.in-Refused.is)
+    let w = rw weights at c.invert_weights.ensures in
+    rw (weights, ← c.take_first.ensures, ← c.ewset.ensures, ← w.0, ← w.1, c.in-Refused.is)
 
 pub returns-in-Inverted : goal.returns-in-Inverted
 unfolding first_derivative_of weighted_at
 returns-in-Inverted c p =
-    let i = c in
-    let e = i in
-    let k = e in
-    let n = k.args.s.n in
+    let n = c.args.s.n in
     let weights : savf_at n - ewt_at n ≡ n = omega arith in
-    let w = rw weights at i.invert_weights.ensures in
+    let w = rw weights at c.invert_weights.ensures in
     let g = rw weights at (c.weighted.ensures p) in
     rw (
-      ← k.take_first.ensures,
-      ← e.ewset.ensures,
+      ← c.take_first.ensures,
+      ← c.ewset.ensures,
       ← w.0,
       ← w.1,
       c.in-Inverted.is,

@@ -8,11 +8,11 @@ use Rattle.reports.proofs.modified.Goals as goal
 
 pub go_on-requires : goal.go_on-requires
 go_on-requires c =
-    let a = c in record {
-      inside = rw c.restart.ensures (inside-restart a.requires.inside);
+    record {
+      inside = rw c.restart.ensures (inside-restart c.requires.inside);
       n_in_bounds = omega (
         arith,
-        a.requires.n_in_bounds,
+        c.requires.n_in_bounds,
         c.work-1.given,
       );
     }
@@ -20,11 +20,10 @@ go_on-requires c =
 pub returns : goal.returns
 unfolding modified_of
 returns c p =
-    let w = c in
     rw (
-      ← w.store.ensures,
-      ← w.set_slope.ensures,
-      ← w.state_weights.ensures,
+      ← c.store.ensures,
+      ← c.set_slope.ensures,
+      ← c.state_weights.ensures,
       ← c.restart.ensures,
     )
     (c.go_on.ensures p)

@@ -11,10 +11,9 @@ returns-then-is_refused c p = rw (← c.is_refused.ensures, c.if-is_refused.true
 pub returns : goal.returns
 unfolding sized_of sized_at
 returns c p =
-    let f = c in
     rw (
       c.set_slope.ensures,
-      f.first_size.ensures,
-      ← f.is_refused.ensures,
-      f.if-is_refused.false,
+      c.first_size.ensures,
+      ← c.is_refused.ensures,
+      c.if-is_refused.false,
     )

@@ -36,27 +36,29 @@ returns-then-given c p =
 
 pub initial_step_size-h-requires : goal.initial_step_size-h-requires
 initial_step_size-h-requires c =
-    let a = c in
-    let n = a.args.s.n in
-    let w = a.args.work.now in
+    let n = c.args.s.n in
+    let w = c.args.work.now in
     let y = length_part 0 n w (omega arith) in
     let f = length_part (savf_at n) n w (omega arith) in
     let e = length_part (ewt_at n) n w (omega arith) in
     let size : n - 0 ≡ n = omega arith in
     let slope : ftem_at n - savf_at n ≡ n = omega arith in
     let weights : savf_at n - ewt_at n ≡ n = omega arith in
-    rw (size, slope, weights, y, f, e) record { list1or_n = a.requires.list1or_n; list1or_n_2 = a.requires.list1or_n_2; f0_in_bounds = omega arith }
+    rw (size, slope, weights, y, f, e) record {
+      list1or_n = c.requires.list1or_n;
+      list1or_n_2 = c.requires.list1or_n_2;
+      f0_in_bounds = omega arith;
+    }
 
 pub returns : goal.returns
 returns c p =
-    let i = c in
-    let x = i.args in
+    let x = c.args in
     let n = x.s.n in
     let first : 0 * n ≡ 0 = omega arith in
     let size : n - 0 ≡ n = omega arith in
     let slope : ftem_at n - savf_at n ≡ n = omega arith in
     let weights : savf_at n - ewt_at n ≡ n = omega arith in
-    let h = rw (size, slope, weights) at i.initial_step_size-h.ensures in
+    let h = rw (size, slope, weights) at c.initial_step_size-h.ensures in
     let given = step-at x.s x.c x.rtol.now x.atol.now x.work.now p false
     c.if-given.false in
     c.sized-2.ensures p ∙ (rw (first, ← h)) ∙ sym given

@@ -34,34 +34,28 @@ returns-then-x-2 c =
 
 pub root_bits-value-requires : goal.root_bits-value-requires
 root_bits-value-requires c =
-    let w = c in
-    is_positive w.args.x w.if-x-2.false c.if-x-3.true
+    is_positive c.args.x c.if-x-2.false c.if-x-3.true
 
 pub float_from_bits-value : goal.float_from_bits-value
 float_from_bits-value c =
-    let t = c in
-    let w = t in
-    let a = w.args in
-    let l = largest a.x a.k (is_positive a.x w.if-x-2.false t.if-x-3.true) in
+    let a = c.args in
+    let l = largest a.x a.k (is_positive a.x c.if-x-2.false c.if-x-3.true) in
     rw c.root_bits-value.ensures (to-infinity (root_bits a.x a.k) (omega (arith, l.finite)))
 
 pub returns-then-x-3 : goal.returns-then-x-3
 returns-then-x-3 c =
-    let t = c in
-    let w = t in
-    let a = w.args in
+    let a = c.args in
     rw (
       accepted a.x a.k (omega arith) (omega arith),
       c.root_bits-value.ensures,
-      ← of_positive a.x a.k w.if-x-2.false t.if-x-3.true,
+      ← of_positive a.x a.k c.if-x-2.false c.if-x-3.true,
     )
 
 pub returns : goal.returns
 returns c =
-    let w = c in
-    let a = w.args in
+    let a = c.args in
     rw (
       accepted a.x a.k (omega arith) (omega arith),
       zero-over-zero,
-      ← of_other a.x a.k w.if-x.false c.if-x-2.false c.if-x-3.false,
+      ← of_other a.x a.k c.if-x.false c.if-x-2.false c.if-x-3.false,
     )

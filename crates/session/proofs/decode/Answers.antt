@@ -12,9 +12,7 @@ use Rattle.session.proofs.decode.Goals as goal
 pub returns : goal.returns
 unfolding decode_of
 returns c =
-    let f = c in
-    let a = f in
-    let b = a.args.bytes.now in
+    let b = c.args.bytes.now in
     c.session.ensures
-    ∙ ap (λ (l : List Float). session_of a.args.u.now l) f.get_floats.ensures
-    ∙ ap (λ (l : List ℕ). session_of l (stored_floats b)) a.requires.1
+    ∙ ap (λ (l : List Float). session_of c.args.u.now l) c.get_floats.ensures
+    ∙ ap (λ (l : List ℕ). session_of l (stored_floats b)) c.requires.1

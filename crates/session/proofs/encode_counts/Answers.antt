@@ -5,5 +5,4 @@ use Rattle.session.proofs.encode_counts.Goals as goal
 
 pub returns : goal.returns
 returns c =
-    let p = c in
-    p.put_counts.ensures ∙ rw p.counts-u.ensures
+    c.put_counts.ensures ∙ rw c.counts-u.ensures

@@ -5,5 +5,4 @@ use Rattle.session.proofs.encode_floats.Goals as goal
 
 pub returns : goal.returns
 returns c =
-    let p = c in
-    p.put_floats.ensures ∙ rw p.floats-f.ensures
+    c.put_floats.ensures ∙ rw c.floats-f.ensures

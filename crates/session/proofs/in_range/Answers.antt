@@ -26,44 +26,39 @@ module _ (b ipiv : List ℕ) (x : Session) (u : List ℕ) (e : x ≡ decode_of b
 
 pub fields-requires : goal.fields-requires
 fields-requires c =
-    let d = c in
-    let a = d.args in
-    read a.bytes.now a.ipiv.now a.x a.u.now d.requires.u_value.1 d.requires.u_value.0
+    let a = c.args in
+    read a.bytes.now a.ipiv.now a.x a.u.now c.requires.u_value.1 c.requires.u_value.0
 
 pub returns-then-not-fields : goal.returns-then-not-fields
 returns-then-not-fields c =
-    let d = c in
-    let a = d.args in
+    let a = c.args in
     rw (
-      whole a.bytes.now a.ipiv.now a.x a.u.now d.requires.u_value.1 d.requires.u_value.0,
+      whole a.bytes.now a.ipiv.now a.x a.u.now c.requires.u_value.1 c.requires.u_value.0,
       sym c.fields.ensures ∙ c.if-not-fields.true,
     )
 
 pub tolerances-requires : goal.tolerances-requires
 tolerances-requires c =
-    let d = c in
-    let a = d.args in
-    let n = (read a.bytes.now a.ipiv.now a.x a.u.now d.requires.u_value.1 d.requires.u_value.0).0 in
+    let a = c.args in
+    let n = (read a.bytes.now a.ipiv.now a.x a.u.now c.requires.u_value.1 c.requires.u_value.0).0 in
     let l = lists-small a.u.now a.x.settings a.x.common n
     (sym c.fields.ensures ∙ c.if-not-fields.false) in
-    (d.requires.session_length_in_bounds, l.0, l.1)
+    (c.requires.session_length_in_bounds, l.0, l.1)
 
 pub returns-then-not-tolerances : goal.returns-then-not-tolerances
 returns-then-not-tolerances c =
-    let d = c in
-    let a = d.args in
+    let a = c.args in
     rw (
-      whole a.bytes.now a.ipiv.now a.x a.u.now d.requires.u_value.1 d.requires.u_value.0,
+      whole a.bytes.now a.ipiv.now a.x a.u.now c.requires.u_value.1 c.requires.u_value.0,
       sym c.fields.ensures ∙ c.if-not-fields.false,
       sym c.tolerances.ensures ∙ c.if-not-tolerances.true,
     )
 
 pub returns : goal.returns
 returns c =
-    let d = c in
-    let a = d.args in
+    let a = c.args in
     rw (
-      whole a.bytes.now a.ipiv.now a.x a.u.now d.requires.u_value.1 d.requires.u_value.0,
+      whole a.bytes.now a.ipiv.now a.x a.u.now c.requires.u_value.1 c.requires.u_value.0,
       sym c.fields.ensures ∙ c.if-not-fields.false,
       sym c.tolerances.ensures ∙ c.if-not-tolerances.false,
     )

@@ -31,27 +31,23 @@ root_digits-q-requires c =
 
 pub overflow_add-field : goal.overflow_add-field
 overflow_add-field c =
-    let s = c in
-    let n = s.normalise.ensures in
-    omega (arith, (odd s.args.bits (omega arith) (omega arith) n s.even-x.ensures).last)
+    let n = c.normalise.ensures in
+    omega (arith, (odd c.args.bits (omega arith) (omega arith) n c.even-x.ensures).last)
 
 pub overflow_mul-result : goal.overflow_mul-result
 overflow_mul-result c =
-    let s = c in
-    let n = s.normalise.ensures in
-    omega (arith, (odd s.args.bits (omega arith) (omega arith) n s.even-x.ensures).last)
+    let n = c.normalise.ensures in
+    omega (arith, (odd c.args.bits (omega arith) (omega arith) n c.even-x.ensures).last)
 
 pub overflow_add-result-2 : goal.overflow_add-result-2
 overflow_add-result-2 c =
-    let s = c in
-    let b = s.args.bits in
-    let n = s.normalise.ensures in
-    let e = s.even-x.ensures in
+    let b = c.args.bits in
+    let n = c.normalise.ensures in
+    let e = c.even-x.ensures in
     let q = c.root_digits-q.ensures in
     omega (arith, (odd b (omega arith) (omega arith) n e).last, (digits b (omega arith) (omega arith) n e q).short)
 
 pub returns : goal.returns
 unfolding sqrt_bits
 returns c =
-    let s = c in
-    rw (c.root_digits-q.ensures, s.even-x.ensures, s.normalise.ensures)
+    rw (c.root_digits-q.ensures, c.even-x.ensures, c.normalise.ensures)

@@ -15,21 +15,18 @@ loop-i-init c = (refl, refl)
 
 pub tolerance-requires : goal.tolerance-requires
 tolerance-requires c =
-    let s = c in
-    serves s.args.rtol.now _ _ (omega arith) s.requires.list1or_n
+    serves c.args.rtol.now _ _ (omega arith) c.requires.list1or_n
 
 pub tolerance-requires-in-loop-i : goal.tolerance-requires-in-loop-i
 tolerance-requires-in-loop-i c =
-    let s = c in
-    serves s.args.atol.now _ _ (omega arith) s.requires.list1or_n_2
+    serves c.args.atol.now _ _ (omega arith) c.requires.list1or_n_2
 
 pub loop-i-preserved : goal.loop-i-preserved
-loop-i-preserved c =
-    let l = c in (
-      simp length-set (omega arith),
-      rw (c.tolerance-in-loop-i.ensures, c.abs.ensures, c.tolerance.ensures)
-          (again _ _ _ _ _ (omega arith) l.loop-i.invariant.1),
-    )
+loop-i-preserved c = (
+  simp length-set (omega arith),
+  rw (c.tolerance-in-loop-i.ensures, c.abs.ensures, c.tolerance.ensures)
+      (again _ _ _ _ _ (omega arith) c.loop-i.invariant.1),
+)
 
 pub returns : goal.returns
 returns c = ended _ _ _ _ _ (omega arith) c.loop-i.invariant.1

@@ -12,4 +12,5 @@ use Rattle.vectors.proofs.ewset.Given as goal
 
 abbrev pub invariant-loop-i : goal.invariant-loop-i
 invariant-loop-i l =
-    (length l.work ≡ length l.initial.work) × (for l.i l.n (ewset_at l.rtol l.atol l.at) l.work ≡ ewset_of l.rtol l.atol l.n l.at l.initial.work)
+    (length l.work ≡ length l.initial.work)
+    × (for l.i l.n (ewset_at l.rtol l.atol l.at) l.work ≡ ewset_of l.rtol l.atol l.n l.at l.initial.work)

@@ -13,11 +13,10 @@ unfolding ewset_like_of
 loop-i-init c = (refl, refl)
 
 pub loop-i-preserved : goal.loop-i-preserved
-loop-i-preserved c =
-    let l = c in (
-      simp length-set (omega arith),
-      rw (c.max.ensures, c.abs.ensures) (again _ _ _ _ _ (omega arith) l.loop-i.invariant.1),
-    )
+loop-i-preserved c = (
+  simp length-set (omega arith),
+  rw (c.max.ensures, c.abs.ensures) (again _ _ _ _ _ (omega arith) c.loop-i.invariant.1),
+)
 
 pub returns : goal.returns
 returns c = ended _ _ _ _ _ (omega arith) c.loop-i.invariant.1

@@ -16,14 +16,14 @@ loop-k-init c = (refl, omega arith, zero_number, refl)
 
 pub loop-k-preserved : goal.loop-k-preserved
 loop-k-preserved c =
-    let s = c in
     let l = c.loop-k in
     let next : 4 * (l.k + 1) ≡ 4 * l.k + 4 = omega arith in (
       l.invariant.0,
       omega arith,
       rw c.four_rows-an.ensures
-          ((max-larger _ _).number ((max-larger _ _).number ((max-larger _ _).number ((max-larger _ _).number l.invariant.2)))),
-      rw (next, c.four_rows-an.ensures) (again-four _ (4 * l.k) s.args.n _ _ (omega arith) l.invariant.3),
+          ((max-larger _ _).number
+          ((max-larger _ _).number ((max-larger _ _).number ((max-larger _ _).number l.invariant.2)))),
+      rw (next, c.four_rows-an.ensures) (again-four _ (4 * l.k) c.args.n _ _ (omega arith) l.invariant.3),
     )
 
 pub loop-i-init : goal.loop-i-init

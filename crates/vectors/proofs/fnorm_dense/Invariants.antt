@@ -14,7 +14,10 @@ use Rattle.vectors.proofs.fnorm_dense.Given as goal
 
 abbrev pub invariant-loop-k : goal.invariant-loop-k
 invariant-loop-k l =
-    (l.k-end ≡ l.n / 4) × (l.k ≤ l.n / 4) × Number l.an × (for (4 * l.k) l.n (fnorm_turn l.n l.a l.w) l.an ≡ (fnorm_of l.n l.a l.w).value)
+    (l.k-end ≡ l.n / 4)
+    × (l.k ≤ l.n / 4)
+    × Number l.an
+    × (for (4 * l.k) l.n (fnorm_turn l.n l.a l.w) l.an ≡ (fnorm_of l.n l.a l.w).value)
 
 abbrev pub invariant-loop-i : goal.invariant-loop-i
 invariant-loop-i l = Number l.an × (for l.i l.n (fnorm_turn l.n l.a l.w) l.an ≡ (fnorm_of l.n l.a l.w).value)

@@ -7,17 +7,14 @@ use Rattle.vectors.proofs.initial_step_size.Goals as goal
 pub returns : goal.returns
 unfolding initial_step_of
 returns c =
-    let n = c in
-    let t = n in
-    let a = t in
     rw (
       c.copysign.ensures,
       c.min-h0.ensures,
       c.sqrt.ensures,
-      n.vmnorm-norm.ensures,
-      t.tolerance_used-tol.ensures,
-      t.max-w0.ensures,
-      a.abs-2.ensures,
-      a.abs.ensures,
-      a.abs-tdist.ensures,
+      c.vmnorm-norm.ensures,
+      c.tolerance_used-tol.ensures,
+      c.max-w0.ensures,
+      c.abs-2.ensures,
+      c.abs.ensures,
+      c.abs-tdist.ensures,
     )

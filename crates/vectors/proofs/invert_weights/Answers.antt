@@ -34,19 +34,20 @@ loop-i-init c = (refl, refl, refl)
 
 pub returns-then-ewt-i : goal.returns-then-ewt-i
 returns-then-ewt-i c =
-    let l = c in
-    let one = refuses l.loop-i.i l.loop-i.ewt c.if-ewt-i.true in
+    let one = refuses c.loop-i.i c.loop-i.ewt c.if-ewt-i.true in
     let whole =
-    sym (stays invert_at (l.loop-i.i + 1) (length l.args.ewt.now) _ (λ k. refl))
-    ∙ onward _ _ _ _ _ _ (omega arith) one l.loop-i.invariant.2
+    sym (stays invert_at (c.loop-i.i + 1) (length c.args.ewt.now) _ (λ k. refl))
+    ∙ onward _ _ _ _ _ _ (omega arith) one c.loop-i.invariant.2
     in
     parts whole
 
 pub loop-i-preserved : goal.loop-i-preserved
 loop-i-preserved c =
-    let l = c in
-    let one = inverts l.loop-i.i l.loop-i.ewt c.if-ewt-i.false in
-    (l.loop-i.invariant.0, simp length-set l.loop-i.invariant.1, onward _ _ _ _ _ _ (omega arith) one l.loop-i.invariant.2)
+    let one = inverts c.loop-i.i c.loop-i.ewt c.if-ewt-i.false in (
+      c.loop-i.invariant.0,
+      simp length-set c.loop-i.invariant.1,
+      onward _ _ _ _ _ _ (omega arith) one c.loop-i.invariant.2,
+    )
 
 pub returns : goal.returns
 returns c = parts (ended _ _ _ _ _ (omega arith) c.loop-i.invariant.2)

@@ -14,13 +14,11 @@ loop-i-init c = (refl, refl)
 
 pub relative-tol-requires : goal.relative-tol-requires
 relative-tol-requires c =
-    let s = c in
-    record { list1or_n = serves s.args.atol.now _ _ (omega arith) s.requires; i_in_bounds = omega arith }
+    record { list1or_n = serves c.args.atol.now _ _ (omega arith) c.requires; i_in_bounds = omega arith }
 
 pub loop-i-preserved : goal.loop-i-preserved
 loop-i-preserved c =
-    let l = c in
-    (l.loop-i.invariant.0, rw c.relative-tol.ensures (again _ _ _ _ _ (omega arith) l.loop-i.invariant.1))
+    (c.loop-i.invariant.0, rw c.relative-tol.ensures (again _ _ _ _ _ (omega arith) c.loop-i.invariant.1))
 
 pub returns : goal.returns
 returns c = ended _ _ _ _ _ (omega arith) c.loop-i.invariant.1

@@ -14,13 +14,11 @@ loop-i-init c = refl
 
 pub tolerance-requires : goal.tolerance-requires
 tolerance-requires c =
-    let s = c in
-    serves s.args.rtol.now _ _ (omega arith) s.requires
+    serves c.args.rtol.now _ _ (omega arith) c.requires
 
 pub loop-i-preserved : goal.loop-i-preserved
 loop-i-preserved c =
-    let l = c in
-    rw (c.max-tol.ensures, c.tolerance.ensures) (again _ _ _ _ _ (omega arith) l.loop-i.invariant)
+    rw (c.max-tol.ensures, c.tolerance.ensures) (again _ _ _ _ _ (omega arith) c.loop-i.invariant)
 
 pub returns : goal.returns
 returns c = ended _ _ _ _ _ (omega arith) c.loop-i.invariant

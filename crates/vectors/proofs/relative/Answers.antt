@@ -5,8 +5,7 @@ use Rattle.vectors.proofs.relative.Goals as goal
 
 pub returns-then-y-i : goal.returns-then-y-i
 returns-then-y-i c =
-    let t = c in
-    rw (t.if-y-i.true, c.max.ensures, c.abs.ensures, t.tolerance.ensures)
+    rw (c.if-y-i.true, c.max.ensures, c.abs.ensures, c.tolerance.ensures)
 
 pub returns : goal.returns
 returns c = rw c.if-y-i.false

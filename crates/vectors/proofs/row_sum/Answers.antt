@@ -12,9 +12,7 @@ loop-j-init c = refl
 
 pub add_entry-sum-requires : goal.add_entry-sum-requires
 add_entry-sum-requires c =
-    let l = c in
-    let s = l in
-    (s.requires.0, omega (arith, within s.args.n s.args.n l.loop-j.j c.loop-j-test.true), omega arith)
+    (c.requires.0, omega (arith, within c.args.n c.args.n c.loop-j.j c.loop-j-test.true), omega arith)
 
 pub loop-j-preserved : goal.loop-j-preserved
 loop-j-preserved c = rw c.add_entry-sum.ensures (again _ _ _ _ _ (omega arith) c.loop-j.invariant)

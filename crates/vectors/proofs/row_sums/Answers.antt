@@ -12,9 +12,7 @@ loop-j-init c = (refl, refl, refl, refl)
 
 pub add_entries-s-requires : goal.add_entries-s-requires
 add_entries-s-requires c =
-    let l = c in
-    let s = l in
-    (s.requires.0, omega (arith, within s.args.n s.args.n l.loop-j.j c.loop-j-test.true), omega arith)
+    (c.requires.0, omega (arith, within c.args.n c.args.n c.loop-j.j c.loop-j-test.true), omega arith)
 
 pub loop-j-preserved : goal.loop-j-preserved
 loop-j-preserved c =

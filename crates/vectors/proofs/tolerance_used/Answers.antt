@@ -7,8 +7,7 @@ use Rattle.vectors.proofs.tolerance_used.Goals as goal
 pub returns-then-tol : goal.returns-then-tol
 unfolding tolerance_used_of
 returns-then-tol c =
-    let l = c in
-    rw (c.clamp.ensures, c.largest_relative.ensures, ← l.largest_rtol-tol.ensures, l.if-tol.true)
+    rw (c.clamp.ensures, c.largest_relative.ensures, ← c.largest_rtol-tol.ensures, c.if-tol.true)
 
 pub returns : goal.returns
 unfolding tolerance_used_of

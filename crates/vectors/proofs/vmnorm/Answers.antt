@@ -19,7 +19,11 @@ loop-k-init c = (refl, refl, omega arith, all-clean, rw top-zero)
 
 pub next_four-m-requires : goal.next_four-m-requires
 next_four-m-requires c =
-    let p = c.loop-k.invariant.3 in record { i_in_bounds = (omega arith, omega arith); a_value = (clean-number _ p.a, clean-number _ p.b); c_value = (clean-number _ p.c, clean-number _ p.d) }
+    let p = c.loop-k.invariant.3 in record {
+      i_in_bounds = (omega arith, omega arith);
+      a_value = (clean-number _ p.a, clean-number _ p.b);
+      c_value = (clean-number _ p.c, clean-number _ p.d);
+    }
 
 pub loop-k-preserved : goal.loop-k-preserved
 loop-k-preserved c =

@@ -11,4 +11,5 @@ use Rattle.words.proofs.get_counts.Given as goal
 
 abbrev pub invariant-loop-i : goal.invariant-loop-i
 invariant-loop-i l =
-    (length l.list ≡ length l.initial.list) × (for l.i l.k (count_at l.bytes l.at) l.list ≡ counts_over l.bytes l.at l.k l.initial.list)
+    (length l.list ≡ length l.initial.list)
+    × (for l.i l.k (count_at l.bytes l.at) l.list ≡ counts_over l.bytes l.at l.k l.initial.list)

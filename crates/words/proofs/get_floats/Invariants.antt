@@ -11,4 +11,5 @@ use Rattle.words.proofs.get_floats.Given as goal
 
 abbrev pub invariant-loop-i : goal.invariant-loop-i
 invariant-loop-i l =
-    (length l.list ≡ length l.initial.list) × (for l.i l.k (float_at l.bytes l.at) l.list ≡ floats_over l.bytes l.at l.k l.initial.list)
+    (length l.list ≡ length l.initial.list)
+    × (for l.i l.k (float_at l.bytes l.at) l.list ≡ floats_over l.bytes l.at l.k l.initial.list)

@@ -30,20 +30,13 @@ bounds-bytes-at-8 c = simp length-set (omega arith)
 pub returns : goal.returns
 unfolding put_word
 returns c =
-    let c7 = c in
-    let c6 = c7 in
-    let c5 = c6 in
-    let c4 = c5 in
-    let c3 = c4 in
-    let c2 = c3 in
-    let c1 = c2 in
     simp (
-      c1.low.ensures,
-      c2.low-2.ensures,
-      c3.low-3.ensures,
-      c4.low-4.ensures,
-      c5.low-5.ensures,
-      c6.low-6.ensures,
-      c7.low-7.ensures,
+      c.low.ensures,
+      c.low-2.ensures,
+      c.low-3.ensures,
+      c.low-4.ensures,
+      c.low-5.ensures,
+      c.low-6.ensures,
+      c.low-7.ensures,
       c.low-8.ensures,
     )

@@ -15,8 +15,11 @@ loop-i-init c = (refl, refl, refl)
 pub loop-i-preserved : goal.loop-i-preserved
 loop-i-preserved c =
     let l = c.loop-i in
-    let e = c.put.ensures in
-    (l.invariant.0, ap length e ∙ length-put _ _ _ ∙ l.invariant.1, onward _ _ _ _ _ _ (omega arith) (sym e) l.invariant.2)
+    let e = c.put.ensures in (
+      l.invariant.0,
+      ap length e ∙ length-put _ _ _ ∙ l.invariant.1,
+      onward _ _ _ _ _ _ (omega arith) (sym e) l.invariant.2,
+    )
 
 pub returns : goal.returns
 returns c = ended _ _ _ _ _ (omega arith) c.loop-i.invariant.2

@@ -13,4 +13,5 @@ use Rattle.words.proofs.put_floats.Given as goal
 
 abbrev pub invariant-loop-i : goal.invariant-loop-i
 invariant-loop-i l =
-    (length l.bytes ≡ length l.initial.bytes) × (for l.i l.k (put_float_at l.at l.list) l.bytes ≡ put_floats_of l.at l.k l.list l.initial.bytes)
+    (length l.bytes ≡ length l.initial.bytes)
+    × (for l.i l.k (put_float_at l.at l.list) l.bytes ≡ put_floats_of l.at l.k l.list l.initial.bytes)

@@ -8,24 +8,22 @@ use Rattle.acceptance.proofs.family.adams_proposal.Goals as goal
 pub returns-then-c-mxordn : goal.returns-then-c-mxordn
 unfolding adams_proposal_of
 returns-then-c-mxordn c =
-    let t = c in
-    let q = t.mxordn-mxordn.ensures in
+    let q = c.mxordn-mxordn.ensures in
     rw (
       c.size.ensures,
       c.cm1.ensures,
       c.cm2.ensures,
-      le-leb _ _ (rw q at t.if-c-mxordn.true),
+      le-leb _ _ (rw q at c.if-c-mxordn.true),
     )
 
 pub returns : goal.returns
 unfolding adams_proposal_of
 returns c =
-    let t = c in
-    let q = t.mxordn-mxordn.ensures in
+    let q = c.mxordn-mxordn.ensures in
     rw (
       c.size-2.ensures,
       c.cm1-2.ensures,
       c.column_size.ensures,
       q,
-      lt-leb _ _ (rw q at t.if-c-mxordn.false),
+      lt-leb _ _ (rw q at c.if-c-mxordn.false),
     )

@@ -8,14 +8,15 @@ use Rattle.acceptance.proofs.family.change_family.Goals as goal
 
 pub stoda_adjust_step_size-requires : goal.stoda_adjust_step_size-requires
 stoda_adjust_step_size-requires c =
-    let a = c in
-    let t = a.requires.le_order in
+    let t = c.requires.le_order in
     rw c.with_family-d.ensures
-    record { step_in_range = lower-range _ a.args.to.order refl refl refl refl t.0 t.1 a.requires.step_in_range; n_in_bounds = t.2 }
+    record {
+      step_in_range = lower-range _ c.args.to.order refl refl refl refl t.0 t.1 c.requires.step_in_range;
+      n_in_bounds = t.2;
+    }
 
 pub returns : goal.returns
 unfolding changed_of
 returns c =
     let scaled = c.stoda_adjust_step_size.ensures in
-    let d = c in
-    rw (scaled.0, scaled.1, d.with_family-d.ensures, d.other.ensures)
+    rw (scaled.0, scaled.1, c.with_family-d.ensures, c.other.ensures)

@@ -51,22 +51,27 @@ overflow_add-order c =
 pub returns-then-dm1-c : goal.returns-then-dm1-c
 unfolding to_adams_of move_if
 returns-then-dm1-c c =
-    let t2 = c in
-    let z = t2 in
-    let w = z in
-    let p = w in
-    let better = rw (w.within_stability-rh1.ensures, w.abs.ensures, w.adams_proposal-p.ensures, z.size-rh2.ensures) at t2.if-rh1-rh2.true in
-    let t3 = c in
-    let r = t3 in
-    let noise = rw (r.root.ensures, r.max.ensures, w.within_stability-rh1.ensures, w.abs.ensures, w.adams_proposal-p.ensures)
-    at t3.if-dm1-c.true in
+    let better = rw (
+      c.within_stability-rh1.ensures,
+      c.abs.ensures,
+      c.adams_proposal-p.ensures,
+      c.size-rh2.ensures,
+    ) at c.if-rh1-rh2.true in
+    let noise = rw (
+      c.root.ensures,
+      c.max.ensures,
+      c.within_stability-rh1.ensures,
+      c.abs.ensures,
+      c.adams_proposal-p.ensures,
+    )
+    at c.if-dm1-c.true in
     rw (
-      le-ltb _ _ p.if-c-gt5.false,
+      le-ltb _ _ c.if-c-gt5.false,
       c.max-then-dm1-c.ensures,
       c.least.ensures,
-      w.within_stability-rh1.ensures,
-      w.abs.ensures,
-      w.adams_proposal-p.ensures,
+      c.within_stability-rh1.ensures,
+      c.abs.ensures,
+      c.adams_proposal-p.ensures,
       better,
       noise,
     )
@@ -74,21 +79,29 @@ returns-then-dm1-c c =
 pub returns-else-dm1-c : goal.returns-else-dm1-c
 unfolding to_adams_of move_if
 returns-else-dm1-c c =
-    let t2 = c in
-    let z = t2 in
-    let w = z in
-    let p = w in
-    let better = rw (w.within_stability-rh1.ensures, w.abs.ensures, w.adams_proposal-p.ensures, z.size-rh2.ensures) at t2.if-rh1-rh2.true in
-    let r = c in
-    let noise = rw (r.root.ensures, r.max.ensures, w.within_stability-rh1.ensures, w.abs.ensures, w.adams_proposal-p.ensures)
+    let better = rw (
+      c.within_stability-rh1.ensures,
+      c.abs.ensures,
+      c.adams_proposal-p.ensures,
+      c.size-rh2.ensures,
+    ) at c.if-rh1-rh2.true in
+    let noise = rw (
+      c.root.ensures,
+      c.max.ensures,
+      c.within_stability-rh1.ensures,
+      c.abs.ensures,
+      c.adams_proposal-p.ensures,
+    )
     at c.if-dm1-c.false in
-    rw (le-ltb _ _ p.if-c-gt5.false, better, noise)
+    rw (le-ltb _ _ c.if-c-gt5.false, better, noise)
 
 pub returns-else-rh1-rh2 : goal.returns-else-rh1-rh2
 unfolding to_adams_of move_if
 returns-else-rh1-rh2 c =
-    let z = c in
-    let w = z in
-    let p = w in
-    let better = rw (w.within_stability-rh1.ensures, w.abs.ensures, w.adams_proposal-p.ensures, z.size-rh2.ensures) at c.if-rh1-rh2.false in
-    rw (le-ltb _ _ p.if-c-gt5.false, better)
+    let better = rw (
+      c.within_stability-rh1.ensures,
+      c.abs.ensures,
+      c.adams_proposal-p.ensures,
+      c.size-rh2.ensures,
+    ) at c.if-rh1-rh2.false in
+    rw (le-ltb _ _ c.if-c-gt5.false, better)

@@ -12,22 +12,15 @@ returns-then-c-gt5 c = rw (lt-leb _ _ c.if-c-gt5.true)
 pub returns-then-p-rh1 : goal.returns-then-p-rh1
 unfolding to_bdf_of move_if
 returns-then-p-rh1 c =
-    let t4 = c in
-    let p = t4.bdf_proposal-p.ensures in
-    let w = t4 in
-    let h = w in
-    let z = h in
-    let t3 = z in
-    let t2 = t3 in
-    let t1 = t2 in
-    let gain = rw (w.within_stability-rh1.ensures, z.size.ensures, h.abs.ensures, p) at t4.if-p-rh1.true in
+    let p = c.bdf_proposal-p.ensures in
+    let gain = rw (c.within_stability-rh1.ensures, c.size.ensures, c.abs.ensures, p) at c.if-p-rh1.true in
     rw (
       c.max-rh.ensures,
       c.least.ensures,
       p,
-      le-leb _ _ t1.if-c-gt5.false,
-      t2.if-dsm-c.true,
-      t3.if-c.true,
+      le-leb _ _ c.if-c-gt5.false,
+      c.if-dsm-c.true,
+      c.if-c.true,
       gain,
     )
 
@@ -35,20 +28,13 @@ pub returns-else-p-rh1 : goal.returns-else-p-rh1
 unfolding to_bdf_of move_if
 returns-else-p-rh1 c =
     let p = c.bdf_proposal-p.ensures in
-    let w = c in
-    let h = w in
-    let z = h in
-    let t3 = z in
-    let t2 = t3 in
-    let t1 = t2 in
-    let gain = rw (w.within_stability-rh1.ensures, z.size.ensures, h.abs.ensures, p) at c.if-p-rh1.false in
-    rw (le-leb _ _ t1.if-c-gt5.false, t2.if-dsm-c.true, t3.if-c.true, gain)
+    let gain = rw (c.within_stability-rh1.ensures, c.size.ensures, c.abs.ensures, p) at c.if-p-rh1.false in
+    rw (le-leb _ _ c.if-c-gt5.false, c.if-dsm-c.true, c.if-c.true, gain)
 
 pub returns-else-c : goal.returns-else-c
 unfolding to_bdf_of move_if
 returns-else-c c =
-    let t2 = c in
-    rw (le-leb _ _ t2.if-c-gt5.false, t2.if-dsm-c.true, c.if-c.false)
+    rw (le-leb _ _ c.if-c-gt5.false, c.if-dsm-c.true, c.if-c.false)
 
 pub returns-else-dsm-c : goal.returns-else-dsm-c
 unfolding to_bdf_of move_if

@@ -10,8 +10,7 @@ use Rattle.acceptance.proofs.order.choose.Goals.{then-f+else-f-2, else-f}
 pub returns-then-f-2 : goal.returns-then-f-2
 unfolding choose_of
 returns-then-f-2 c =
-    let t = c in
-    rw (t.if-f.true, t.if-f-2.true) c.settle.ensures
+    rw (c.if-f.true, c.if-f-2.true) c.settle.ensures
 
 pub returns-then-f-3 : goal.returns-then-f-3
 unfolding choose_of

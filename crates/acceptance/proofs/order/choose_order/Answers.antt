@@ -9,19 +9,17 @@ use Rattle.acceptance.proofs.order.choose_order.Goals as goal
 
 pub choose-requires : goal.choose-requires
 choose-requires c =
-    let a = c in
-    let p = a.requires.le_lmax in
+    let p = c.requires.le_lmax in
     rw c.forget_estimate.ensures
-    record { step_in_range = same-range _ refl refl refl refl a.requires.step_in_range; nq_bound = (p.2, p.1, omega arith) }
+    record {
+      step_in_range = same-range _ refl refl refl refl c.requires.step_in_range;
+      nq_bound = (p.2, p.1, omega arith);
+    }
 
 pub returns : goal.returns
 unfolding choose_order_of
 returns c =
-    let f = c in
-    let l = f in
-    let d = l in
-    let z = d in
-    let u = z.raised_size-up.ensures in
-    let limited = l.limited_factors-f.ensures in
-    rw (f.forget_estimate.ensures, limited, d.lowered_size-down.ensures, z.size-same.ensures, u.0, u.1)
+    let u = c.raised_size-up.ensures in
+    let limited = c.limited_factors-f.ensures in
+    rw (c.forget_estimate.ensures, limited, c.lowered_size-down.ensures, c.size-same.ensures, u.0, u.1)
     at c.choose.ensures

@@ -9,5 +9,4 @@ returns-then-is_bdf c = rw (sym c.is_bdf.ensures ∙ c.if-is_bdf.true)
 
 pub returns : goal.returns
 returns c =
-    let t = c in
-    rw (c.sm1.ensures, c.pdh.ensures, sym t.is_bdf.ensures ∙ t.if-is_bdf.false)
+    rw (c.sm1.ensures, c.pdh.ensures, sym c.is_bdf.ensures ∙ c.if-is_bdf.false)

@@ -12,5 +12,4 @@ returns-then-c-eq1 c = rw (eq-eqb _ _ c.if-c-eq1.true)
 pub returns : goal.returns
 unfolding lower_of
 returns c =
-    let t = c in
-    rw (ne_eqb _ _ t.if-c-eq1.false) c.settle.ensures
+    rw (ne_eqb _ _ c.if-c-eq1.false) c.settle.ensures

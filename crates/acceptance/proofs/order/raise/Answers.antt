@@ -17,15 +17,13 @@ returns-then-up c = rw (ne_eqb _ _ c.if-l-c.false, c.if-up.true)
 
 pub el-requires : goal.el-requires
 el-requires c =
-    let a = c in
-    let p = a.requires.step_in_range in
-    let first = within a.args.s.n a.args.c.nq 0 p.order.0 in
+    let p = c.requires.step_in_range in
+    let first = within c.args.s.n c.args.c.nq 0 p.order.0 in
     (p.n.0, p.table, omega (arith, first), p.used.1, p.order.1)
 
 pub returns : goal.returns
 unfolding raise_of
 returns c =
-    let t = c in
     let column = c.set_column.ensures in
     let el = c.el.ensures in
-    rw (ne_eqb _ _ t.if-l-c.false, t.if-up.false) (rw (column, el) at c.settle.ensures)
+    rw (ne_eqb _ _ c.if-l-c.false, c.if-up.false) (rw (column, el) at c.settle.ensures)

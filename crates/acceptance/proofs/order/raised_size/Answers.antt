@@ -14,9 +14,6 @@ returns-then-l-c c =
 pub returns : goal.returns
 unfolding raised_size_of raised_left_of
 returns c =
-    let d = c in
-    let r = d in
-    let t = r in
-    let left = r.set_raised.ensures in
-    let more = ne_eqb _ _ t.if-l-c.false in
-    (rw (c.size.ensures, c.tesco.ensures, d.norm_at.ensures, left, more), rw (left, more))
+    let left = c.set_raised.ensures in
+    let more = ne_eqb _ _ c.if-l-c.false in
+    (rw (c.size.ensures, c.tesco.ensures, c.norm_at.ensures, left, more), rw (left, more))

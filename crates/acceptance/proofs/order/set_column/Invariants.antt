@@ -11,4 +11,5 @@ use Rattle.acceptance.proofs.order.set_column.Given as goal
 
 abbrev pub invariant-loop-i : goal.invariant-loop-i
 invariant-loop-i l =
-    (length l.work ≡ length l.initial.work) × (for l.i l.n (raise_column_at l.n l.j l.r) l.work ≡ raise_column_of l.n l.j l.r l.initial.work)
+    (length l.work ≡ length l.initial.work)
+    × (for l.i l.n (raise_column_at l.n l.j l.r) l.work ≡ raise_column_of l.n l.j l.r l.initial.work)

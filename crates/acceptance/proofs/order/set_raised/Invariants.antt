@@ -11,4 +11,5 @@ use Rattle.acceptance.proofs.order.set_raised.Given as goal
 
 abbrev pub invariant-loop-i : goal.invariant-loop-i
 invariant-loop-i l =
-    (length l.work ≡ length l.initial.work) × (for l.i l.n (raised_at l.n l.lmax) l.work ≡ raised_work_of l.n l.lmax l.initial.work)
+    (length l.work ≡ length l.initial.work)
+    × (for l.i l.n (raised_at l.n l.lmax) l.work ≡ raised_work_of l.n l.lmax l.initial.work)

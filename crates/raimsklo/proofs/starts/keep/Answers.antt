@@ -8,10 +8,8 @@ use Rattle.raimsklo.proofs.starts.keep.Goals as goal
 pub returns : goal.returns
 unfolding kept_of encode_of
 returns c =
-    let p = c in
-    let f = p in
     rw (
-      p.put_tolerances.ensures,
-      f.encode_floats.ensures,
-      f.encode_counts.ensures,
+      c.put_tolerances.ensures,
+      c.encode_floats.ensures,
+      c.encode_counts.ensures,
     )

@@ -4,5 +4,4 @@ use Rattle.raimsklo.proofs.starts.lay.Goals as goal
 
 pub returns : goal.returns
 returns c =
-    let s = c in
-    rw (s.store.ensures, s.fill.ensures)
+    rw (c.store.ensures, c.fill.ensures)

@@ -13,20 +13,18 @@ loop-i-init c = (refl, refl)
 
 pub returns-then-list-i : goal.returns-then-list-i
 returns-then-list-i c =
-    let l = c in
-    let a = l.args in
-    let one : is_count_at a.list.now a.stored.now a.at l.loop-i.i true ≡ false =
+    let a = c.args in
+    let one : is_count_at a.list.now a.stored.now a.at c.loop-i.i true ≡ false =
     rw (← c.word.ensures, ne_eqb _ _ c.if-list-i.true) in
-    sym (stays (is_count_at a.list.now a.stored.now a.at) (l.loop-i.i + 1) _ false (λ k. refl))
-    ∙ onward _ _ _ _ _ _ (omega arith) one l.loop-i.invariant.1
+    sym (stays (is_count_at a.list.now a.stored.now a.at) (c.loop-i.i + 1) _ false (λ k. refl))
+    ∙ onward _ _ _ _ _ _ (omega arith) one c.loop-i.invariant.1
 
 pub loop-i-preserved : goal.loop-i-preserved
 loop-i-preserved c =
-    let l = c in
-    let a = l.args in
-    let one : is_count_at a.list.now a.stored.now a.at l.loop-i.i true ≡ true =
+    let a = c.args in
+    let one : is_count_at a.list.now a.stored.now a.at c.loop-i.i true ≡ true =
     rw (← c.word.ensures, eq-eqb _ _ c.if-list-i.false) in
-    (l.loop-i.invariant.0, onward _ _ _ _ _ _ (omega arith) one l.loop-i.invariant.1)
+    (c.loop-i.invariant.0, onward _ _ _ _ _ _ (omega arith) one c.loop-i.invariant.1)
 
 pub returns : goal.returns
 returns c = ended _ _ _ _ _ (omega arith) c.loop-i.invariant.1

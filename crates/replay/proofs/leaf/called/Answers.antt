@@ -6,8 +6,4 @@ use Rattle.replay.proofs.leaf.called.Goals as goal
 pub returns : goal.returns
 unfolding called_of
 returns c =
-    let k = c in
-    let l = k in
-    let m = l in
-    let n = m in
-    rw (k.leaf.ensures, l.get_counts.ensures, m.get_floats-2.ensures, n.get_floats.ensures)
+    rw (c.leaf.ensures, c.get_counts.ensures, c.get_floats-2.ensures, c.get_floats.ensures)

@@ -26,11 +26,10 @@ returns-then-b-atol c =
 pub returns : goal.returns
 unfolding leaf_first_step
 returns c =
-    let i = c in
     rw (
-      le-leb _ max_states i.if-n-gt-MAX_STATES.false,
-      le-leb _ max_states i.if-nrtol-gt-MAX_STATES.false,
-      le-leb _ _ i.if-b-atol.false,
+      le-leb _ max_states c.if-n-gt-MAX_STATES.false,
+      le-leb _ max_states c.if-nrtol-gt-MAX_STATES.false,
+      le-leb _ _ c.if-b-atol.false,
       c.to_bits.ensures,
       c.probe_initial_step_size.ensures,
     )

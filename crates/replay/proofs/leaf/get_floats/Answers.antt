@@ -11,11 +11,10 @@ loop-i-init c = (refl, refl, refl)
 
 pub loop-i-preserved : goal.loop-i-preserved
 loop-i-preserved c =
-    let k = c in
-    let l = k.loop-i in (
+    let l = c.loop-i in (
       l.invariant.0,
       simp length-set l.invariant.1,
-      onward _ _ _ _ _ _ (omega arith) (rw (c.from_bits.ensures, k.word.ensures)) l.invariant.2,
+      onward _ _ _ _ _ _ (omega arith) (rw (c.from_bits.ensures, c.word.ensures)) l.invariant.2,
     )
 
 pub returns : goal.returns

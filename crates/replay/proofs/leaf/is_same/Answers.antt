@@ -11,17 +11,11 @@ returns-then-h-gt900000 c = rw (← c.head-h.ensures, lt-leb _ 900000 c.if-h-gt9
 pub returns : goal.returns
 unfolding is_same
 returns c =
-    let k = c in
-    let l = k in
-    let m = l in
-    let n = m in
-    let o = n in
-    let p = o in
     rw (
-      ← p.head-h.ensures,
-      le-leb _ 900000 o.if-h-gt900000.false,
-      ← n.length_of-la.ensures.0,
-      ← m.length_of-lb.ensures.0,
-      ← l.length_of-lm.ensures.0,
+      ← c.head-h.ensures,
+      le-leb _ 900000 c.if-h-gt900000.false,
+      ← c.length_of-la.ensures.0,
+      ← c.length_of-lb.ensures.0,
+      ← c.length_of-lm.ensures.0,
     )
-    k.is_again.ensures
+    c.is_again.ensures

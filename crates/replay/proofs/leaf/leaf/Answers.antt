@@ -11,15 +11,9 @@ returns-then-h-lt3 c = rw (lt-ltb _ 3 c.if-h-lt3.true, c.of_norms.ensures)
 pub returns-then-h-lt10 : goal.returns-then-h-lt10
 unfolding leaf_of
 returns-then-h-lt10 c =
-    let k = c in
-    let l = k in
-    let m = l in
-    rw (le-ltb _ 3 m.if-h-lt3.false, lt-ltb _ 10 l.if-h-lt10.true) k.of_lists.ensures
+    rw (le-ltb _ 3 c.if-h-lt3.false, lt-ltb _ 10 c.if-h-lt10.true) c.of_lists.ensures
 
 pub returns : goal.returns
 unfolding leaf_of
 returns c =
-    let k = c in
-    let l = k in
-    let m = l in
-    rw (le-ltb _ 3 m.if-h-lt3.false, le-ltb _ 10 l.if-h-lt10.false) k.of_records.ensures
+    rw (le-ltb _ 3 c.if-h-lt3.false, le-ltb _ 10 c.if-h-lt10.false) c.of_records.ensures

@@ -12,9 +12,7 @@ returns-then-kind-eq3 c = rw c.if-kind-eq3.true (of_left _ _ c.weights.ensures)
 pub returns-then-kind-eq4 : goal.returns-then-kind-eq4
 unfolding leaf_lists
 returns-then-kind-eq4 c =
-    let k = c in
-    let l = k in
-    rw l.if-kind-eq4.true (of_left _ _ k.probe_ewset_scalar_like.ensures)
+    rw c.if-kind-eq4.true (of_left _ _ c.probe_ewset_scalar_like.ensures)
 
 pub returns-then-kind-eq5 : goal.returns-then-kind-eq5
 unfolding leaf_lists
@@ -25,38 +23,27 @@ returns-then-kind-eq5 c =
 pub returns-then-kind-eq6 : goal.returns-then-kind-eq6
 unfolding leaf_lists
 returns-then-kind-eq6 c =
-    let k = c in
-    let l = k in
-    rw l.if-kind-eq6.true (of-factored _ k.probe_dense_lu_factor.ensures)
+    rw c.if-kind-eq6.true (of-factored _ c.probe_dense_lu_factor.ensures)
 
 pub returns-then-kind-eq7 : goal.returns-then-kind-eq7
 unfolding leaf_lists
 returns-then-kind-eq7 c =
-    let k = c in
-    let l = k in
-    rw l.if-kind-eq7.true (of_left _ _ k.probe_dense_lu_solve.ensures)
+    rw c.if-kind-eq7.true (of_left _ _ c.probe_dense_lu_solve.ensures)
 
 pub returns-then-kind-eq8 : goal.returns-then-kind-eq8
 unfolding leaf_lists
 returns-then-kind-eq8 c =
-    let k = c in
-    let l = k in
-    rw l.if-kind-eq8.true (of-columns _ _ k.probe_predict_columns.ensures)
+    rw c.if-kind-eq8.true (of-columns _ _ c.probe_predict_columns.ensures)
 
 pub returns : goal.returns
 unfolding leaf_lists
 returns c =
-    let six = c in
-    let five = six in
-    let four = five in
-    let three = four in
-    let two = three in
     rw (
-      ne_eqb _ 3 two.if-kind-eq3.false,
-      ne_eqb _ 4 two.if-kind-eq4.false,
-      ne_eqb _ 5 three.if-kind-eq5.false,
-      ne_eqb _ 6 four.if-kind-eq6.false,
-      ne_eqb _ 7 five.if-kind-eq7.false,
-      ne_eqb _ 8 six.if-kind-eq8.false,
+      ne_eqb _ 3 c.if-kind-eq3.false,
+      ne_eqb _ 4 c.if-kind-eq4.false,
+      ne_eqb _ 5 c.if-kind-eq5.false,
+      ne_eqb _ 6 c.if-kind-eq6.false,
+      ne_eqb _ 7 c.if-kind-eq7.false,
+      ne_eqb _ 8 c.if-kind-eq8.false,
     )
     (of-columns _ _ c.probe_retract_columns.ensures)

@@ -11,6 +11,4 @@ returns-then-b-lt11 c = rw (lt-leb _ _ c.if-b-lt11.true)
 pub returns : goal.returns
 unfolding leaf_snapshot
 returns c =
-    let k = c in
-    let l = k in
-    rw (le-leb _ _ l.if-b-lt11.false) k.probe_snapshot_step.ensures
+    rw (le-leb _ _ c.if-b-lt11.false) c.probe_snapshot_step.ensures

@@ -11,6 +11,4 @@ returns-then-b-nrtol c = rw (lt-leb _ _ c.if-b-nrtol.true)
 pub returns : goal.returns
 unfolding leaf_weights
 returns c =
-    let k = c in
-    let l = k in
-    rw (le-leb _ _ l.if-b-nrtol.false) k.probe_ewset.ensures
+    rw (le-leb _ _ c.if-b-nrtol.false) c.probe_ewset.ensures

@@ -6,10 +6,8 @@ use Rattle.replay.proofs.number.counted.Goals as goal
 
 pub returns-then-to_bits-cases : goal.returns-then-to_bits-cases
 returns-then-to_bits-cases c =
-    let w = c in
-    (rw (← w.number-ours.ensures, ← w.to_bits.ensures, eq-eqb _ _ c.if-to_bits-cases.true), omega arith)
+    (rw (← c.number-ours.ensures, ← c.to_bits.ensures, eq-eqb _ _ c.if-to_bits-cases.true), omega arith)
 
 pub returns : goal.returns
 returns c =
-    let w = c in
-    (rw (← w.number-ours.ensures, ← w.to_bits.ensures, ne_eqb _ _ c.if-to_bits-cases.false), omega arith)
+    (rw (← c.number-ours.ensures, ← c.to_bits.ensures, ne_eqb _ _ c.if-to_bits-cases.false), omega arith)

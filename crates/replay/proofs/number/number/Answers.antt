@@ -31,17 +31,12 @@ returns-then-kind-eq5 c = rw c.if-kind-eq5.true c.probe_cm2.ensures
 pub returns : goal.returns
 unfolding case_number
 returns c =
-    let five = c in
-    let four = five in
-    let three = four in
-    let two = three in
-    let one = two in
     rw (
-      ne_eqb _ 0 one.if-kind-eq0.false,
-      ne_eqb _ 1 one.if-kind-eq1.false,
-      ne_eqb _ 2 two.if-kind-eq2.false,
-      ne_eqb _ 3 three.if-kind-eq3.false,
-      ne_eqb _ 4 four.if-kind-eq4.false,
-      ne_eqb _ 5 five.if-kind-eq5.false,
+      ne_eqb _ 0 c.if-kind-eq0.false,
+      ne_eqb _ 1 c.if-kind-eq1.false,
+      ne_eqb _ 2 c.if-kind-eq2.false,
+      ne_eqb _ 3 c.if-kind-eq3.false,
+      ne_eqb _ 4 c.if-kind-eq4.false,
+      ne_eqb _ 5 c.if-kind-eq5.false,
     )
     c.probe_sm1.ensures

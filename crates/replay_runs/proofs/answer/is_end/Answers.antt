@@ -10,10 +10,9 @@ returns-then-not-is_float c = rw (← c.is_float.ensures, c.if-not-is_float.true
 pub returns-then-not-are_three : goal.returns-then-not-are_three
 unfolding is_stored_end
 returns-then-not-are_three c =
-    let k = c in
     rw (
-      ← k.is_float.ensures,
-      k.if-not-is_float.false,
+      ← c.is_float.ensures,
+      c.if-not-is_float.false,
       ← c.are_three.ensures,
       c.if-not-are_three.true,
     )
@@ -21,12 +20,10 @@ returns-then-not-are_three c =
 pub returns : goal.returns
 unfolding is_stored_end
 returns c =
-    let k = c in
-    let j = k in
     rw (
-      ← j.is_float.ensures,
-      j.if-not-is_float.false,
-      ← k.are_three.ensures,
-      k.if-not-are_three.false,
+      ← c.is_float.ensures,
+      c.if-not-is_float.false,
+      ← c.are_three.ensures,
+      c.if-not-are_three.false,
     )
     c.are_three-2.ensures

@@ -10,9 +10,8 @@ returns-then-not-is_count c = rw (← c.is_count.ensures, c.if-not-is_count.true
 pub returns : goal.returns
 unfolding is_stored_refusal
 returns c =
-    let k1 = c in
     rw (
-      ← k1.is_count.ensures,
-      k1.if-not-is_count.false,
+      ← c.is_count.ensures,
+      c.if-not-is_count.false,
     )
     c.is_float.ensures

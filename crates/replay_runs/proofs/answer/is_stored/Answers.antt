@@ -14,10 +14,9 @@ returns-then-not-is_count c = rw (← c.is_count.ensures, c.if-not-is_count.true
 pub returns-then-r-lt100 : goal.returns-then-r-lt100
 unfolding is_stored_answer
 returns-then-r-lt100 c =
-    let k = c in
     rw (
-      ← k.is_count.ensures,
-      k.if-not-is_count.false,
+      ← c.is_count.ensures,
+      c.if-not-is_count.false,
       lt-ltb _ _ c.if-r-lt100.true,
     )
     c.is_refusal.ensures
@@ -25,13 +24,12 @@ returns-then-r-lt100 c =
 pub returns-then-r-lt103 : goal.returns-then-r-lt103
 unfolding is_stored_answer
 returns-then-r-lt103 c =
-    let l = c in
-    let k = l in
+    let k = c in
     let a = k.args in
     rw (
       ← k.is_count.ensures,
       k.if-not-is_count.false,
-      le-ltb _ _ l.if-r-lt100.false,
+      le-ltb _ _ c.if-r-lt100.false,
       lt-ltb _ _ c.if-r-lt103.true,
     )
     (c.is_question.ensures
@@ -41,14 +39,13 @@ pub returns-then-r-eq103 : goal.returns-then-r-eq103
 unfolding is_stored_answer
 returns-then-r-eq103 c =
     let e = c.reported-end in
-    let m = c in
-    let k = m in
+    let k = c in
     let a = k.args in
     rw (
       ← k.is_count.ensures,
       k.if-not-is_count.false,
-      le-ltb _ _ m.if-r-lt100.false,
-      le-ltb _ _ m.if-r-lt103.false,
+      le-ltb _ _ c.if-r-lt100.false,
+      le-ltb _ _ c.if-r-lt103.false,
       eq-eqb _ _ c.if-r-eq103.true,
       ← c.limited.ensures.0,
       ← e.ensures.0,
@@ -59,13 +56,11 @@ returns-then-r-eq103 c =
 pub returns : goal.returns
 unfolding is_stored_answer
 returns c =
-    let l = c in
-    let k = l in
     rw (
-      ← k.is_count.ensures,
-      k.if-not-is_count.false,
-      le-ltb _ _ l.if-r-lt100.false,
-      le-ltb _ _ l.if-r-lt103.false,
+      ← c.is_count.ensures,
+      c.if-not-is_count.false,
+      le-ltb _ _ c.if-r-lt100.false,
+      le-ltb _ _ c.if-r-lt103.false,
       ne_eqb _ _ c.if-r-eq103.false,
     )
     c.is_end.ensures

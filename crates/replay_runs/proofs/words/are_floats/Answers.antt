@@ -39,18 +39,16 @@ loop-i-init c = (refl, rw (sub-zero _))
 
 pub returns-then-not-is_float : goal.returns-then-not-is_float
 returns-then-not-is_float c =
-    let l = c in
     let f = c.is_float in
     let one = f.ensures in
-    stopped _ _ _ l.loop-i.i _ (omega arith) (sym one ∙ c.if-not-is_float.true) l.loop-i.invariant.1
+    stopped _ _ _ c.loop-i.i _ (omega arith) (sym one ∙ c.if-not-is_float.true) c.loop-i.invariant.1
 
 pub loop-i-preserved : goal.loop-i-preserved
 loop-i-preserved c =
-    let l = c in
     let f = c.is_float in
     let one = f.ensures in (
-      l.loop-i.invariant.0,
-      onward _ _ _ l.loop-i.i _ (omega arith) (sym one ∙ c.if-not-is_float.false) l.loop-i.invariant.1,
+      c.loop-i.invariant.0,
+      onward _ _ _ c.loop-i.i _ (omega arith) (sym one ∙ c.if-not-is_float.false) c.loop-i.invariant.1,
     )
 
 pub returns : goal.returns

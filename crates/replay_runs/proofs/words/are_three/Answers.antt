@@ -10,10 +10,9 @@ returns-then-not-is_count c = rw (← c.is_count.ensures, c.if-not-is_count.true
 pub returns-then-not-is_count-2 : goal.returns-then-not-is_count-2
 unfolding are_stored_three
 returns-then-not-is_count-2 c =
-    let k = c in
     rw (
-      ← k.is_count.ensures,
-      k.if-not-is_count.false,
+      ← c.is_count.ensures,
+      c.if-not-is_count.false,
       ← c.is_count-2.ensures,
       c.if-not-is_count-2.true,
     )
@@ -21,12 +20,10 @@ returns-then-not-is_count-2 c =
 pub returns : goal.returns
 unfolding are_stored_three
 returns c =
-    let k = c in
-    let j = k in
     rw (
-      ← j.is_count.ensures,
-      j.if-not-is_count.false,
-      ← k.is_count-2.ensures,
-      k.if-not-is_count-2.false,
+      ← c.is_count.ensures,
+      c.if-not-is_count.false,
+      ← c.is_count-2.ensures,
+      c.if-not-is_count-2.false,
     )
     c.is_count-3.ensures

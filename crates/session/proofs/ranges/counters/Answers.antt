@@ -12,12 +12,9 @@ returns-then-c-mxncf c = rw (le-ltb _ _ (rw c.mxncf.ensures at c.if-c-mxncf.true
 pub returns-then-c-s : goal.returns-then-c-s
 unfolding counters_in_range
 returns-then-c-s c =
-    let t1 = c in
-    rw (lt-ltb _ _ (rw t1.mxncf.ensures at t1.if-c-mxncf.false), le-ltb _ _ c.if-c-s.true)
+    rw (lt-ltb _ _ (rw c.mxncf.ensures at c.if-c-mxncf.false), le-ltb _ _ c.if-c-s.true)
 
 pub returns : goal.returns
 unfolding counters_in_range
 returns c =
-    let t2 = c in
-    let t1 = t2 in
-    rw (lt-ltb _ _ (rw t1.mxncf.ensures at t1.if-c-mxncf.false), lt-ltb _ _ t2.if-c-s.false)
+    rw (lt-ltb _ _ (rw c.mxncf.ensures at c.if-c-mxncf.false), lt-ltb _ _ c.if-c-s.false)

@@ -13,13 +13,8 @@ returns-then-ipiv-i-2 c = rw (run-of-four, lt-ltb _ _ c.if-ipiv-i.false, le-ltb 
 
 pub returns-then-ipiv-i-3 : goal.returns-then-ipiv-i-3
 returns-then-ipiv-i-3 c =
-    let t2 = c in
-    let t1 = t2 in
-    rw (run-of-four, lt-ltb _ _ t1.if-ipiv-i.false, lt-ltb _ _ t2.if-ipiv-i-2.false, le-ltb _ _ c.if-ipiv-i-3.true)
+    rw (run-of-four, lt-ltb _ _ c.if-ipiv-i.false, lt-ltb _ _ c.if-ipiv-i-2.false, le-ltb _ _ c.if-ipiv-i-3.true)
 
 pub returns : goal.returns
 returns c =
-    let t3 = c in
-    let t2 = t3 in
-    let t1 = t2 in
-    rw (run-of-four, lt-ltb _ _ t1.if-ipiv-i.false, lt-ltb _ _ t2.if-ipiv-i-2.false, lt-ltb _ _ t3.if-ipiv-i-3.false)
+    rw (run-of-four, lt-ltb _ _ c.if-ipiv-i.false, lt-ltb _ _ c.if-ipiv-i-2.false, lt-ltb _ _ c.if-ipiv-i-3.false)

@@ -17,25 +17,18 @@ returns-then-c-s-ne0 c = rw (lt-ltb _ _ c.if-c.false, ne_eqb _ _ c.if-c-s-ne0.tr
 
 pub overflow_mul-c : goal.overflow_mul-c
 overflow_mul-c c =
-    let a = c in
-    omega (arith, small_product a.args.c.nq a.args.s.n a.requires.2 a.requires.1)
+    omega (arith, small_product c.args.c.nq c.args.s.n c.requires.2 c.requires.1)
 
 pub returns-then-c-s : goal.returns-then-c-s
 unfolding orders_in_range
 returns-then-c-s c =
-    let t2 = c in
-    let t1 = t2 in
-    rw (lt-ltb _ _ t1.if-c.false, eq-eqb _ _ t2.if-c-s-ne0.false, lt-leb _ _ c.if-c-s.true)
+    rw (lt-ltb _ _ c.if-c.false, eq-eqb _ _ c.if-c-s-ne0.false, lt-leb _ _ c.if-c-s.true)
 
 pub overflow_mul-result : goal.overflow_mul-result
 overflow_mul-result c =
-    let a = c in
-    omega (arith, a.requires.1)
+    omega (arith, c.requires.1)
 
 pub returns : goal.returns
 unfolding orders_in_range
 returns c =
-    let t3 = c in
-    let t2 = t3 in
-    let t1 = t2 in
-    rw (lt-ltb _ _ t1.if-c.false, eq-eqb _ _ t2.if-c-s-ne0.false, le-leb _ _ t3.if-c-s.false)
+    rw (lt-ltb _ _ c.if-c.false, eq-eqb _ _ c.if-c-s-ne0.false, le-leb _ _ c.if-c-s.false)

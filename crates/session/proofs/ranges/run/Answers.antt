@@ -19,19 +19,17 @@ returns-then-u-i c =
 
 pub returns-then-u-i-2 : goal.returns-then-u-i-2
 returns-then-u-i-2 c =
-    let d = c in
-    let v = d.loop-i.invariant in
+    let v = c.loop-i.invariant in
     every-fails _ _ _ _ (omega arith)
-    (rw (le-leb _ _ (rw v.0 at d.if-u-i.false), lt-leb _ _ (rw v.1 at c.if-u-i-2.true))) v.2
+    (rw (le-leb _ _ (rw v.0 at c.if-u-i.false), lt-leb _ _ (rw v.1 at c.if-u-i-2.true))) v.2
 
 pub loop-i-preserved : goal.loop-i-preserved
 loop-i-preserved c =
-    let d = c in
-    let v = d.loop-i.invariant in (
+    let v = c.loop-i.invariant in (
       v.0,
       v.1,
       every-again _ _ _ _ (omega arith)
-          (rw (le-leb _ _ (rw v.0 at d.if-u-i.false), le-leb _ _ (rw v.1 at c.if-u-i-2.false))) v.2,
+          (rw (le-leb _ _ (rw v.0 at c.if-u-i.false), le-leb _ _ (rw v.1 at c.if-u-i-2.false))) v.2,
     )
 
 pub returns : goal.returns

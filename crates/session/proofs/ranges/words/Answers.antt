@@ -22,8 +22,7 @@ halves u = every-parts (word_in_range u) half count_words (omega arith)
 
 pub run-requires : goal.run-requires
 run-requires c =
-    let h = c in
-    (h.lowest-low.ensures, h.highest-high.ensures, omega arith, omega arith)
+    (c.lowest-low.ensures, c.highest-high.ensures, omega arith, omega arith)
 
 pub returns-then-not-run : goal.returns-then-not-run
 returns-then-not-run c =
@@ -33,10 +32,8 @@ returns-then-not-run c =
 
 pub run-requires-2 : goal.run-requires-2
 run-requires-2 c =
-    let h = c in
-    (h.lowest-low.ensures, h.highest-high.ensures, omega arith, omega arith)
+    (c.lowest-low.ensures, c.highest-high.ensures, omega arith, omega arith)
 
 pub returns : goal.returns
 returns c =
-    let f = c in
-    rw (halves _, sym f.run.ensures ∙ f.if-not-run.false) c.run-2.ensures
+    rw (halves _, sym c.run.ensures ∙ c.if-not-run.false) c.run-2.ensures
