@@ -11,11 +11,13 @@ pub test_family-requires : goal.test_family-requires
 unfolding corrected_of
 test_family-requires c =
     let a = c in
-    let p = a.requires.1 in
-    rw c.correct-d.ensures.0 (
-      same-range _ refl refl refl refl a.requires.step_in_range,
-      ((p.0.0, p.0.1), (p.1.0, p.1.1, p.1.2, p.1.3, omega arith)),
-    )
+    let m = a.requires.le_mxordn in
+    let l = a.requires.le_lmax in
+    rw c.correct-d.ensures.0 record {
+      step_in_range = same-range _ refl refl refl refl a.requires.step_in_range;
+      le_mxordn = (m.0, m.1);
+      le_lmax = (l.0, l.1, l.2, l.3, omega arith);
+    }
 
 pub returns : goal.returns
 unfolding accept_of

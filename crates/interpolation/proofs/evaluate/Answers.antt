@@ -69,7 +69,7 @@ last_column-requires c =
     rw (size, length_part (6 + nq * n) n b.args.cont.now fits) (omega (arith, b.requires.2))
 
 pub loop-jb-init : goal.loop-jb-init
-loop-jb-init c = (refl, omega arith, omega (arith, c.last_column.auto.0), refl)
+loop-jb-init c = (refl, omega arith, omega (arith, c.last_column.auto.yi), refl)
 
 pub overflow_mul-a : goal.overflow_mul-a
 overflow_mul-a c =
@@ -147,7 +147,7 @@ loop-jb-preserved c =
     let size : 6 + j * b.n + b.n - (6 + j * b.n) ≡ b.n = omega arith in
     let turned = rw size at t.horner.ensures in
     let rest = onward _ _ _ _ _ _ (omega arith) (sym turned) l.loop-jb.invariant.3 in
-    (omega arith, omega arith, omega (arith, t.horner.auto.0), rest)
+    (omega arith, omega arith, omega (arith, t.horner.auto.yi), rest)
 
 pub returns : goal.returns
 unfolding evaluate_of

@@ -11,7 +11,7 @@ stoda_adjust_step_size-requires c =
     let a = c in
     let t = a.requires.le_order in
     rw c.with_family-d.ensures
-    (lower-range _ a.args.to.order refl refl refl refl t.0 t.1 a.requires.step_in_range, t.2)
+    record { step_in_range = lower-range _ a.args.to.order refl refl refl refl t.0 t.1 a.requires.step_in_range; n_in_bounds = t.2 }
 
 pub returns : goal.returns
 unfolding changed_of

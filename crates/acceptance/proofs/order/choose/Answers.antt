@@ -2,13 +2,10 @@
 -- Assumes nothing.
 use mathlib.Core.Path.{◌≡◌}
 use mathlib.Core.Bool.{false}
-use mathlib.Core.Logic.{⊎_elim}
 use borrow.Author.Rules.{rules}
 use Rattle.acceptance.specs.Order.{same_largest, choose_of}
 use Rattle.acceptance.proofs.order.choose.Goals as goal
-
-less : (c : goal.Joined-f) → same_largest c.args.f ≡ false
-less c = ⊎_elim (λ w. rw (w.0.taken, w.2.left)) (λ w. rw w.left) c.if-f.branch
+use Rattle.acceptance.proofs.order.choose.Goals.{then-f+else-f-2, else-f}
 
 pub returns-then-f-2 : goal.returns-then-f-2
 unfolding choose_of
@@ -19,11 +16,21 @@ returns-then-f-2 c =
 pub returns-then-f-3 : goal.returns-then-f-3
 unfolding choose_of
 returns-then-f-3 c =
-    let t = c in
-    rw (less t, t.if-f-3.true) c.raise.ensures
+    let less : same_largest c.args.f ≡ false =
+    elim c.if-f.branch [
+      | then-f+else-f-2 w ↦ rw (w.if-f.true, w.if-f-2.false)
+      | else-f w ↦ rw w.if-f.false
+    ]
+    in
+    rw (less, c.if-f-3.true) c.raise.ensures
 
 pub returns : goal.returns
 unfolding choose_of
 returns c =
-    let t = c in
-    rw (less t, t.if-f-3.false) c.lower.ensures
+    let less : same_largest c.args.f ≡ false =
+    elim c.if-f.branch [
+      | then-f+else-f-2 w ↦ rw (w.if-f.true, w.if-f-2.false)
+      | else-f w ↦ rw w.if-f.false
+    ]
+    in
+    rw (less, c.if-f-3.false) c.lower.ensures

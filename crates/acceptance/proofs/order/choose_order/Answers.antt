@@ -12,7 +12,7 @@ choose-requires c =
     let a = c in
     let p = a.requires.le_lmax in
     rw c.forget_estimate.ensures
-    (same-range _ refl refl refl refl a.requires.step_in_range, (p.2, p.1, omega arith))
+    record { step_in_range = same-range _ refl refl refl refl a.requires.step_in_range; nq_bound = (p.2, p.1, omega arith) }
 
 pub returns : goal.returns
 unfolding choose_order_of

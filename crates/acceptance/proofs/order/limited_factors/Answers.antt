@@ -3,7 +3,6 @@
 use Prim.Native.Nat.{◌+◌}
 use mathlib.Core.Path.{sym, ◌≡◌, ◌∙◌}
 use mathlib.Core.Bool.{cond}
-use mathlib.Core.Logic.{⊎_elim}
 use lib.Dec.{ltb}
 use borrow.Author.Rules.{rules}
 use borrow.Author.Tests.{lt-ltb, le-ltb}
@@ -15,6 +14,7 @@ use Rattle.acceptance.specs.declared.order.Factors.{Factors}
 use Rattle.history.specs.Steps.{pdh_of}
 use Rattle.acceptance.specs.Order.{limited_factors_of}
 use Rattle.acceptance.proofs.order.limited_factors.Goals as goal
+use Rattle.acceptance.proofs.order.limited_factors.Goals.{then-c, else-c}
 
 -- with the factor of the order above within its limit, where there is one
 abbrev limited_above : Common → Factors → Factors
@@ -24,15 +24,6 @@ limited_above c f = record {
   down = f.down;
 }
 
-above : (c : goal.Joined-c)
-    → let a = c.args in c.if-c.r ≡ limited_above a.c a.f
-above c =
-    let d = c.pdh-d.ensures in
-    ⊎_elim
-    (λ w. w.4 ∙ rw (w.3.ensures, w.2.ensures, d, lt-ltb _ _ w.0.taken))
-    (λ w. w.1 ∙ rw (le-ltb _ _ w.0.left))
-    c.if-c.branch
-
 pub returns-then-is_bdf : goal.returns-then-is_bdf
 unfolding limited_factors_of
 returns-then-is_bdf c = rw (sym c.is_bdf.ensures ∙ c.if-is_bdf.true)
@@ -40,33 +31,39 @@ returns-then-is_bdf c = rw (sym c.is_bdf.ensures ∙ c.if-is_bdf.true)
 pub returns-then-c-gt1 : goal.returns-then-c-gt1
 unfolding limited_factors_of
 returns-then-c-gt1 c =
-    let s = c in
-    let t = s in
-    let m = t in
-    let j = m in
-    let b = j in
+    let d = c.pdh-d.ensures in
+    let above : c.if-c.r ≡ limited_above c.args.c c.args.f =
+    elim c.if-c.branch [
+      | then-c w ↦ w.r-is ∙ rw (w.min.ensures, w.sm1.ensures, d, lt-ltb _ _ w.if-c.true)
+      | else-c w ↦ w.r-is ∙ rw (le-ltb _ _ w.if-c.false)
+    ]
+    in
     rw (
       c.min-then-c-gt1.ensures,
-      s.sm1-then-c-gt1.ensures,
-      m.min-2.ensures,
-      m.sm1-2.ensures,
-      above j,
-      j.pdh-d.ensures,
-      sym b.is_bdf.ensures ∙ b.if-is_bdf.false,
-      lt-ltb _ _ t.if-c-gt1.true,
+      c.sm1-then-c-gt1.ensures,
+      c.min-2.ensures,
+      c.sm1-2.ensures,
+      above,
+      c.pdh-d.ensures,
+      sym c.is_bdf.ensures ∙ c.if-is_bdf.false,
+      lt-ltb _ _ c.if-c-gt1.true,
     )
 
 pub returns-else-c-gt1 : goal.returns-else-c-gt1
 unfolding limited_factors_of
 returns-else-c-gt1 c =
-    let m = c in
-    let j = m in
-    let b = j in
+    let d = c.pdh-d.ensures in
+    let above : c.if-c.r ≡ limited_above c.args.c c.args.f =
+    elim c.if-c.branch [
+      | then-c w ↦ w.r-is ∙ rw (w.min.ensures, w.sm1.ensures, d, lt-ltb _ _ w.if-c.true)
+      | else-c w ↦ w.r-is ∙ rw (le-ltb _ _ w.if-c.false)
+    ]
+    in
     rw (
-      m.min-2.ensures,
-      m.sm1-2.ensures,
-      above j,
-      j.pdh-d.ensures,
-      sym b.is_bdf.ensures ∙ b.if-is_bdf.false,
+      c.min-2.ensures,
+      c.sm1-2.ensures,
+      above,
+      c.pdh-d.ensures,
+      sym c.is_bdf.ensures ∙ c.if-is_bdf.false,
       le-ltb _ _ c.if-c-gt1.false,
     )

@@ -9,13 +9,13 @@ use Rattle.acceptance.proofs.order.settle.Goals as goal
 
 pub returns-then-is_held : goal.returns-then-is_held
 unfolding settle_of
-returns-then-is_held c = rw (sym c.is_held_lem.ensures ∙ c.if-is_held.true)
+returns-then-is_held c = rw (sym c.is_held.ensures ∙ c.if-is_held.true)
 
 pub returns-then-p : goal.returns-then-p
 unfolding settle_of
 returns-then-p c =
     let t = c in
-    rw (sym t.is_held_lem.ensures ∙ t.if-is_held.false, c.if-p.true)
+    rw (sym t.is_held.ensures ∙ t.if-is_held.false, c.if-p.true)
 
 pub returns-then-p-c : goal.returns-then-p-c
 unfolding settle_of
@@ -31,7 +31,7 @@ returns-then-p-c c =
       scaled.1,
       m.max-rh.ensures,
       h.least.ensures,
-      sym t1.is_held_lem.ensures ∙ t1.if-is_held.false,
+      sym t1.is_held.ensures ∙ t1.if-is_held.false,
       t2.if-p.false,
       eq-eqb _ _ t3.if-p-c.true,
     )
@@ -41,7 +41,7 @@ stoda_adjust_step_size-requires-2 c =
     let r = c in
     let a = r in
     let p = a.requires.le_order in
-    rw r.stoda_reset-f.ensures (reset-range _ p.0 p.1 a.requires.step_in_range, p.2)
+    rw r.stoda_reset-f.ensures record { step_in_range = reset-range _ p.0 p.1 a.requires.step_in_range; n_in_bounds = p.2 }
 
 pub returns : goal.returns
 unfolding settle_of
@@ -58,7 +58,7 @@ returns c =
       c.stoda_reset-f.ensures,
       m.max-rh.ensures,
       h.least.ensures,
-      sym t1.is_held_lem.ensures ∙ t1.if-is_held.false,
+      sym t1.is_held.ensures ∙ t1.if-is_held.false,
       t2.if-p.false,
       ne_eqb _ _ t3.if-p-c.false,
     )
