@@ -7,10 +7,15 @@ def constants():
 // A session is a row of words of eight bytes: counts, flags and states, then floats, then MAX_STATES slots for each of
 // the two tolerance lists.
 pub const COUNT_WORDS: usize = {len(COUNTS)};
+
 pub const FLOAT_WORDS: usize = {len(FLOATS)};
+
 pub const RTOL_AT: usize = COUNT_WORDS + FLOAT_WORDS;
+
 pub const ATOL_AT: usize = RTOL_AT + MAX_STATES;
+
 pub const SESSION_WORDS: usize = ATOL_AT + MAX_STATES;
+
 pub const SESSION_LENGTH: usize = 8 * SESSION_WORDS;
 """
 
@@ -19,76 +24,71 @@ def session_words():
     return f"""\
 -- How many words a session has, and at which the two tolerance lists begin. docs/SESSION.md says which field is
 -- which word. Made by tools/record.py from the structs of src/lib.rt.
-use Prim.Native.Nat.{{ℕ, _+_, _*_}}
-use Rattle·common·specs.specs.Limits.{{maxStates}}
+use Rattle.std.specs.Prelude.{{ℕ, ◌+◌, ◌*◌}}
+use Rattle.common.specs.Limits.{{max_states}}
 
 -- counts, flags and states, which stand first
-abbrev pub countWords : ℕ
-countWords = {len(COUNTS)}
+abbrev pub count_words : ℕ
+count_words = {len(COUNTS)}
 
 -- floats, which stand behind them
-abbrev pub floatWords : ℕ
-floatWords = {len(FLOATS)}
+abbrev pub float_words : ℕ
+float_words = {len(FLOATS)}
 
-abbrev pub rtolAt : ℕ
-rtolAt = countWords + floatWords
+abbrev pub rtol_at : ℕ
+rtol_at = count_words + float_words
 
-abbrev pub atolAt : ℕ
-atolAt = rtolAt + maxStates
+abbrev pub atol_at : ℕ
+atol_at = rtol_at + max_states
 
-abbrev pub sessionWords : ℕ
-sessionWords = atolAt + maxStates
+abbrev pub session_words : ℕ
+session_words = atol_at + max_states
 
 -- in bytes
-abbrev pub sessionLength : ℕ
-sessionLength = 8 * sessionWords
+abbrev pub session_length : ℕ
+session_length = 8 * session_words
 """
 
 
 def setter(field):
-    parts = [f"{f.name} = v;" if f is field else f"{f.name} = c .{f.name};" for f in COMMON_FIELDS]
-    return (f"abbrev pub with-{field.name} : {TYPES[field.kind]} → Common → Common\n"
-            f"with-{field.name} v c = record {{\n{wrapped([*parts, '}'], '  ', 121)}\n")
+    rows = record_of((f.name, "v" if f is field else f"c.{f.name}") for f in COMMON_FIELDS)
+    return f"""\
+abbrev pub with_{field.name} : {TYPES[field.kind]} → Common → Common
+with_{field.name} v c = {rows}
+"""
 
 
 def setters():
     text = """\
 -- The record of a run, by its fields: a setter for each field of Common that a run changes (antt has no record
 -- update); a start fixes hmin and hmxi. Made by tools/record.py from the structs of src/lib.rt.
-use mathlib.Core.Bool.{Bool, true, false}
-use Prim.Native.Nat.{ℕ}
-use lib.Ieee.{Float}
-use Rattle·common·specs.specs.declared.MethodFamily.{MethodFamily}
-use Rattle·common·specs.specs.declared.MethodFamily.the-variants.{Adams, Bdf}
-use Rattle·common·specs.specs.declared.Common.{Common}
+use Rattle.std.specs.Prelude.{Bool, true, false, ℕ, Float}
+use Rattle.common.specs.declared.MethodFamily.{MethodFamily}
+use Rattle.common.specs.declared.MethodFamily.TheVariants.{Adams, Bdf}
+use Rattle.common.specs.declared.Common.{Common}
 
-abbrev pub isBdf : MethodFamily → Bool
-isBdf Adams = false
-isBdf Bdf = true
+abbrev pub is_bdf : MethodFamily → Bool
+is_bdf Adams = false
+is_bdf Bdf = true
 
 """
     return text + "\n".join(setter(f) for f in COMMON_FIELDS if f.name not in FIXED)
 
 
 def initial():
-    parts = [f"{f.name} = {f.initial[1]};" for f in COMMON_FIELDS]
     return f"""\
 -- The record at the start. Made by tools/record.py from the structs of src/lib.rt and what it says of each field.
-use mathlib.Core.Bool.{{true, false}}
-use Prim.Native.Nat.{{_+_, max}}
-use lib.Ieee.{{Float}}
-use Rattle·numbers.specs.Float.{{zeroF, oneF, d0·7}}
-use Rattle·common·specs.specs.declared.MethodFamily.the-variants.{{Adams}}
-use Rattle·common·specs.specs.declared.Settings.{{Settings}}
-use Rattle·common·specs.specs.declared.Common.{{Common}}
-use Rattle·common·specs.specs.Limits.{{mxordnOf, mxordsOf}}
-use Rattle·common·specs.specs.Rules.{{icount20}}
+use Rattle.std.specs.Prelude.{{true, false, ◌+◌, max, Float}}
+use Rattle.numbers.specs.Float.{{zero_f, one_f, d0_7}}
+use Rattle.common.specs.declared.MethodFamily.TheVariants.{{Adams}}
+use Rattle.common.specs.declared.Settings.{{Settings}}
+use Rattle.common.specs.declared.Common.{{Common}}
+use Rattle.common.specs.Limits.{{mxordn_of, mxords_of}}
+use Rattle.common.specs.Rules.{{icount20}}
 
 -- h is the first step where it is given; the first derivative is asked for
-unfoldable pub initialOf : Settings → Float → Float → Float → Float → Common
-initialOf s x0 h hmin hmxi = record {{
-{wrapped(parts, "  ", 112)}
-}}
+unfoldable pub initial_of : Settings → Float → Float → Float → Float → Common
+initial_of s x0 h hmin hmxi = {record_of((f.name, f.initial[1]) for f in COMMON_FIELDS)}
 """
 
 
@@ -97,7 +97,7 @@ def functions():
     start = lines((f"{f.name}: {f.initial[0]}," for f in COMMON_FIELDS), "        ")
     return f"""// The record with another family.
 pub fn with_family(c: Common, meth: MethodFamily) -> Common
-    ensures {{ λ r. ⌜ r ≡ with-meth meth c ⌝ }}
+    ensures {{ result ≡ with_meth meth c }}
 {{
     Common {{
 {family}    }}
@@ -105,7 +105,7 @@ pub fn with_family(c: Common, meth: MethodFamily) -> Common
 
 // The record at the start, with the first step where it is given; the first derivative is asked for.
 pub fn initial(s: Settings, x0: f64, h: f64, hmin: f64, hmxi: f64) -> Common
-    ensures {{ λ r. ⌜ r ≡ initialOf s x0 h hmin hmxi ⌝ }}
+    ensures {{ result ≡ initial_of s x0 h hmin hmxi }}
 {{
     let a = mxordn(s);
     let b = mxords(s);

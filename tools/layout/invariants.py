@@ -11,29 +11,28 @@ def parameters(changed=None):
 
 
 def put_law(field):
-    known = lambda f: f"{f.name} = p;" if f is field else f"{f.name} = f .{f.name};"
-    return f"""  pub put-{field.name} : Floats
-{wrapped(parameters(field), "      ")}
-  put-{field.name} = record {{
-{wrapped([known(f) for f in FLOAT_FIELDS], "      ")}
-  }}
+    known = record_of(((f.name, "p" if f is field else f"f.{f.name}") for f in FLOAT_FIELDS), "    ")
+    return f"""    pub put-{field.name} : Floats
+{wrapped(parameters(field), "        ")}
+    put-{field.name} = {known}
 """
 
 
 def records():
-    initial = lambda f: f"{f.name} = {GIVEN.get(f.initial[1], 'literal _')};"
+    same = lambda x: ((f.name, f"{x}.{f.name}") for f in FLOAT_FIELDS)
+    initial = ((f.name, GIVEN.get(f.initial[1], "literal _")) for f in FLOAT_FIELDS)
     puts = "\n".join(put_law(f) for f in FLOAT_FIELDS if f.name not in FIXED)
     return f"""\
 -- That the floats of the record `Common` are of the format, said of the floats one by one, so that it stands as it is
 -- where another field is set; one law for the setter of each float; a session's floats and those of its record; and the
 -- record at the start. Made by tools/record.py from the structs of crates/common/src/lib.rt. Assumes nothing.
 use lib.Ieee.{{Float}}
-use Rattle·common.specs.declared.Settings.{{Settings}}
-use Rattle·common.specs.declared.Common.{{Common}}
-use Rattle·common.specs.Initial.{{initialOf}}
-use Rattle·questions.specs.declared.Session.{{Session}}
-use Rattle·session.proofs.Fits.{{Fit, FloatsFit}}
-use Rattle·invariants·proofs.proofs.Floats.{{literal}}
+use Rattle.common.specs.declared.Settings.{{Settings}}
+use Rattle.common.specs.declared.Common.{{Common}}
+use Rattle.common.specs.Initial.{{initial_of}}
+use Rattle.questions.specs.declared.Session.{{Session}}
+use Rattle.session.proofs.Fits.{{Fit, FloatsFit}}
+use Rattle.invariants.proofs.Floats.{{literal}}
 
 pub record Floats (
 {wrapped(parameters(), "    ")}
@@ -41,34 +40,27 @@ pub record Floats (
 {lines((f"pub {f.name} : Fit {f.name}₀" for f in FLOAT_FIELDS), "  ")}
 abbrev pub CommonFits : Common → Type 0
 CommonFits c =
-{wrapped(["Floats"] + [f"(c .{f.name})" for f in FLOAT_FIELDS], "    ")}
+{wrapped(["Floats"] + [f"c.{f.name}" for f in FLOAT_FIELDS], "    ")}
 
 module _ {{
 {wrapped(parameters(), "    ")}
     v : Float}}
-  (p : Fit v)
-  (f : Floats
+    (p : Fit v)
+    (f : Floats
 {wrapped(parameters(), "    ")})
   where
 {puts}
-pub commons : (x : Session) → FloatsFit x → CommonFits (x .common)
-commons x f = record {{
-{wrapped([f"{f.name} = f .{f.name};" for f in FLOAT_FIELDS], "  ")}
-}}
+pub commons : (x : Session) → FloatsFit x → CommonFits x.common
+commons x f = {record_of(same("f"))}
 
-pub floats : (x : Session) → Fit (x .settings .xend) → Fit (x .settings .direction) → CommonFits (x .common)
+pub floats : (x : Session) → Fit x.settings.xend → Fit x.settings.direction → CommonFits x.common
     → FloatsFit x
-floats x xend direction c = record {{
-  xend = xend; direction = direction;
-{wrapped([f"{f.name} = c .{f.name};" for f in FLOAT_FIELDS], "  ")}
-}}
+floats x xend direction c = {record_of([("xend", "xend"), ("direction", "direction"), *same("c")])}
 
 pub initial-fits : (s : Settings) (x0 h hmin hmxi : Float) → Fit x0 → Fit h → Fit hmin → Fit hmxi
-    → CommonFits (initialOf s x0 h hmin hmxi)
-unfolding initialOf
-initial-fits s x0 h hmin hmxi p q m i = record {{
-{wrapped([initial(f) for f in FLOAT_FIELDS], "  ")}
-}}
+    → CommonFits (initial_of s x0 h hmin hmxi)
+unfolding initial_of
+initial-fits s x0 h hmin hmxi p q m i = {record_of(initial)}
 """
 
 

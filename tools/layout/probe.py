@@ -2,17 +2,17 @@
 from .table import *
 
 STATE = {"bool": "{} == 1", "MethodFamily": "meth", "usize": "{}", "f64": "{}"}
-STATE_OF = {"bool": "eqb ({}) 1", "MethodFamily": "lentFamily ({})", "usize": "{}", "f64": "{}"}
+STATE_OF = {"bool": "eqb ({}) 1", "MethodFamily": "lent_family ({})", "usize": "{}", "f64": "{}"}
 
 
 def lent(field, end):
     if field.name in PROBED_FLOATS:
         place = PROBED_FLOATS.index(field.name)
-        return STATE[field.kind].format(f"floats[{place}]") if end == 0 else f"getD fs {place} nan"
+        return STATE[field.kind].format(f"floats[{place}]") if end == 0 else f"get_or fs {place} nan"
     if field.name in PROBED_COUNTS:
         place = PROBED_COUNTS.index(field.name)
         return (STATE[field.kind].format(f"counts[{place}]") if end == 0
-                else STATE_OF[field.kind].format(f"getD cs {place} 0"))
+                else STATE_OF[field.kind].format(f"get_or cs {place} 0"))
     return BLANK[field.kind][end]
 
 
@@ -23,8 +23,8 @@ def in_order(fields):
 
 def function(name, record, fields, first=""):
     return f"""fn {name}(floats: &[f64], counts: &[usize]) -> {record}
-    requires {{ ⌜ (length (now floats) ≡ {len(PROBED_FLOATS)}) × (length (now counts) ≡ {len(PROBED_COUNTS)}) ⌝ }}
-    ensures {{ λ r. ⌜ r ≡ lent{record} (now (floats .entry)) (now (counts .entry)) ⌝ }}
+    requires {{ (length floats.now ≡ {len(PROBED_FLOATS)}) × (length counts.now ≡ {len(PROBED_COUNTS)}) }}
+    ensures {{ result ≡ lent_{name} floats.now counts.now }}
 {{
 {first}    {record} {{
 {lines((f"{f.name}: {lent(f, 0)}," for f in fields), "        ")}    }}
@@ -32,11 +32,10 @@ def function(name, record, fields, first=""):
 """
 
 
-def definition(record, fields):
-    return f"""unfoldable pub lent{record} : List Float → List ℕ → {record}
-lent{record} fs cs = record {{
-{wrapped([f"{f.name} = {lent(f, 1)};" for f in fields], "  ")}
-}}
+def definition(name, record, fields):
+    return f"""unfoldable pub lent_{name} : List Float → List ℕ → {record}
+lent_{name} fs cs = {record_of((f.name, lent(f, 1)) for f in fields)}
+
 """
 
 
@@ -45,5 +44,5 @@ def make(put):
     common = in_order(COMMON_FIELDS)
     put(f"{PROBE}/src/steps.rt", function("settings", "Settings", SETTINGS_FIELDS) + "\n"
         + function("common", "Common", common, family), "the record from the numbers that are lent")
-    put(f"{PROBE}/specs/Lent.antt", definition("Settings", SETTINGS_FIELDS) + "\n"
-        + definition("Common", common), "the record from the numbers that are lent")
+    put(f"{PROBE}/specs/Lent.antt", definition("settings", "Settings", SETTINGS_FIELDS)
+        + definition("common", "Common", common), "the record from the numbers that are lent")

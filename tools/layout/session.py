@@ -8,18 +8,14 @@ FLOAT_ARRAY = "[f64; common::FLOAT_WORDS]"
 # A field of Common from its word, in code and in the definitions; and the number of a field.
 STATE = {"bool": "{} == 1", "MethodFamily": "family({})", "usize": "{}", "f64": "{}"}
 NUMBER = {"bool": "flag_number({})", "MethodFamily": "family_number({})", "usize": "{}", "f64": "{}"}
-STATE_OF = {"bool": "flagOf ({})", "MethodFamily": "familyOf ({})", "usize": "{}", "f64": "{}"}
-NUMBER_OF = {"bool": "flagNumber ({})", "MethodFamily": "familyNumber ({})", "Phase": "phaseNumber ({})", "usize": "{}",
+STATE_OF = {"bool": "flag_of ({})", "MethodFamily": "family_of ({})", "usize": "{}", "f64": "{}"}
+NUMBER_OF = {"bool": "flag_number {}", "MethodFamily": "family_number {}", "Phase": "phase_number {}", "usize": "{}",
              "f64": "{}"}
 
 SETTINGS = [f for f in WORDS if f.record == "settings"]
 RECORD = [f for f in WORDS if f.record == "common"]
 # The counts of a run, which 13 keeps below 2^62.
 COUNTED = [f for f in RECORD if f.bounds == COUNT]
-
-
-def made(parts):
-    return wrapped(parts, "      ", 116)
 
 
 # ---- src/fields.rt
@@ -36,7 +32,7 @@ def table(name, end):
 
 def accessor(name):
     return f"""pub fn {name}() -> {COUNT_ARRAY}
-    ensures {{ λ r. ⌜ r ≡ {name} ⌝ }}
+    ensures {{ result ≡ {name} }}
 {{
     {name.upper()}
 }}
@@ -50,17 +46,12 @@ def source():
     record = sorted(RECORD, key=lambda f: not f.is_float)
     return f"""// A session's fields as words and back, and the ranges of 13 that one word says.
 // {FROM}
-ghost use mathlib.Core.Path.{{_≡_}};
-ghost use Rattle·session·specs.specs.Fields.{{countsOf, floatsOf, settingsOf, floatsAloneOf, commonOf, sessionOf}};
-ghost use Rattle·session·specs.specs.Fields.{{lowest, highest}};
+ghost use Rattle.std.specs.Prelude.{{◌≡◌}};
+ghost use Rattle.session.specs.Fields.{{counts_of, floats_of, settings_of, floats_alone_of, common_of, session_of}};
+ghost use Rattle.session.specs.Fields.{{lowest, highest}};
 
-use crate::states::family;
-use crate::states::family_number;
-use crate::states::flag_number;
-use crate::states::phase_number;
-use common::Common;
-use common::MethodFamily;
-use common::Settings;
+use crate::states::{{family, family_number, flag_number, phase_number}};
+use common::{{Common, MethodFamily, Settings}};
 use questions::Session;
 
 // The least value of each count. A table is answered whole, to be bound once: an index into the constant writes all of
@@ -72,7 +63,7 @@ use questions::Session;
 {accessor("highest")}
 // The counts of a session, flags and states among them.
 pub fn counts(x: Session) -> {COUNT_ARRAY}
-    ensures {{ λ r. ⌜ r ≡ countsOf x ⌝ }}
+    ensures {{ result ≡ counts_of x }}
 {{
     let s = x.settings;
     let c = x.common;
@@ -84,7 +75,7 @@ pub fn counts(x: Session) -> {COUNT_ARRAY}
 
 // The floats of a session.
 pub fn floats(x: Session) -> {FLOAT_ARRAY}
-    ensures {{ λ r. ⌜ r ≡ floatsOf x ⌝ }}
+    ensures {{ result ≡ floats_of x }}
 {{
     let s = x.settings;
     let c = x.common;
@@ -93,7 +84,7 @@ pub fn floats(x: Session) -> {FLOAT_ARRAY}
 }}
 
 fn settings(u: &{COUNT_ARRAY}, f: &{FLOAT_ARRAY}) -> Settings
-    ensures {{ λ r. ⌜ r ≡ settingsOf (now (u .entry)) (now (f .entry)) ⌝ }}
+    ensures {{ result ≡ settings_of u.now f.now }}
 {{
     Settings {{
 {one(f"{f.name}: " + STATE[f.kind].format(place(f)) for f in SETTINGS_FIELDS)}    }}
@@ -101,14 +92,14 @@ fn settings(u: &{COUNT_ARRAY}, f: &{FLOAT_ARRAY}) -> Settings
 
 // The record with its floats alone: a record of all fields, each from an array, takes long to check.
 fn floats_alone(f: &{FLOAT_ARRAY}) -> Common
-    ensures {{ λ r. ⌜ r ≡ floatsAloneOf (now (f .entry)) ⌝ }}
+    ensures {{ result ≡ floats_alone_of f.now }}
 {{
     Common {{
 {one(f"{f.name}: " + (place(f) if f.is_float else BLANK[f.kind][0]) for f in record)}    }}
 }}
 
 fn common(u: &{COUNT_ARRAY}, f: &{FLOAT_ARRAY}) -> Common
-    ensures {{ λ r. ⌜ r ≡ commonOf (now (u .entry)) (now (f .entry)) ⌝ }}
+    ensures {{ result ≡ common_of u.now f.now }}
 {{
     let c = floats_alone(f);
     Common {{
@@ -116,7 +107,7 @@ fn common(u: &{COUNT_ARRAY}, f: &{FLOAT_ARRAY}) -> Common
 }}
 
 pub fn session(u: &{COUNT_ARRAY}, f: &{FLOAT_ARRAY}) -> Session
-    ensures {{ λ r. ⌜ r ≡ sessionOf (now (u .entry)) (now (f .entry)) ⌝ }}
+    ensures {{ result ≡ session_of u.now f.now }}
 {{
     let s = settings(u, f);
     let c = common(u, f);
@@ -133,78 +124,68 @@ pub fn session(u: &{COUNT_ARRAY}, f: &{FLOAT_ARRAY}) -> Session
 
 
 def entry(f):
-    return f"getD f {f.word - len(COUNTS)} nan" if f.is_float else f"getD u {f.word} 0"
+    return f"get_or f {f.word - len(COUNTS)} nan" if f.is_float else f"get_or u {f.word} 0"
 
 
 def listed(end):
     """A table of bounds, an entry a line, each with its field's name behind it."""
-    values = [SPEC.get(f.bounds[end], f.bounds[end]) for f in COUNTS]
-    width = max(len(value) for value in values) + 1
-    rows = [f"    {'' if k == 0 else '∷ '}{value.ljust(width + (2 if k == 0 else 0))}-- {f.name}"
-            for k, (value, f) in enumerate(zip(values, COUNTS))]
-    return "\n".join(rows) + "\n    ∷ []\n"
+    rows = [f"{'' if k == 0 else '∷ '}{SPEC.get(f.bounds[end], f.bounds[end])}  -- {f.name}"
+            for k, f in enumerate(COUNTS)]
+    return lines(rows, "    ") + "    ∷ []"
 
 
 def definitions():
-    of = lambda f: f"{f.name} = {STATE_OF[f.kind].format(entry(f))};"
-    count = lambda f: "meth = family;" if f.name == "meth" else of(f)
-    with_counts = lambda f: f"{f.name} = c .{f.name};" if f.is_float else count(f)
+    of = lambda f: (f.name, STATE_OF[f.kind].format(entry(f)))
+    count = lambda f: ("meth", "family") if f.name == "meth" else of(f)
+    with_counts = lambda f: (f.name, f"c.{f.name}") if f.is_float else count(f)
     return f"""\
 -- A session's fields as words and back, and the ranges of 13 that one word says. The order is that of docs/SESSION.md.
 -- {FROM}
-use mathlib.Core.Bool.{{false}}
-use mathlib.Core.List.{{List, [], _∷_}}
-use Prim.Native.Nat.{{ℕ}}
-use lib.ListN.{{getD}}
-use lib.Ieee.{{Float, nan}}
-use Rattle·common.specs.declared.MethodFamily.{{MethodFamily}}
-use Rattle·common.specs.declared.MethodFamily.the-variants.{{Adams}}
-use Rattle·common.specs.declared.Settings.{{Settings}}
-use Rattle·common.specs.declared.Common.{{Common}}
-use Rattle·common.specs.Limits.{{maxStates}}
-use Rattle·questions.specs.declared.Session.{{Session}}
-use Rattle·session·specs.specs.States.{{flagNumber, flagOf, familyNumber, familyOf, phaseNumber, phaseOf}}
+use Rattle.std.specs.Prelude.{{false, List, [], ◌∷◌, ℕ, get_or, Float}}
+use Rattle.std.specs.Float.{{nan}}
+use Rattle.common.specs.declared.MethodFamily.{{MethodFamily}}
+use Rattle.common.specs.declared.MethodFamily.TheVariants.{{Adams}}
+use Rattle.common.specs.declared.Settings.{{Settings}}
+use Rattle.common.specs.declared.Common.{{Common}}
+use Rattle.common.specs.Limits.{{max_states}}
+use Rattle.questions.specs.declared.Session.{{Session}}
+use Rattle.session.specs.States.{{flag_number, flag_of, family_number, family_of, phase_number, phase_of}}
 
 -- ---- the counts, flags and states among them, and the floats
 
-abbrev pub countsOf : Session → List ℕ
-countsOf x =
+abbrev pub counts_of : Session → List ℕ
+counts_of x =
 {row(NUMBER_OF[f.kind].format(f.path) for f in COUNTS)}
 
-abbrev pub floatsOf : Session → List Float
-floatsOf x =
+abbrev pub floats_of : Session → List Float
+floats_of x =
 {row(f.path for f in FLOATS)}
 
 -- ---- the record from its counts u and its floats f
 
-abbrev pub settingsOf : List ℕ → List Float → Settings
-settingsOf u f = record {{
-{made(of(f) for f in SETTINGS)}
-}}
+abbrev pub settings_of : List ℕ → List Float → Settings
+settings_of u f = {record_of(of(f) for f in SETTINGS)}
 
 -- the floats alone
-abbrev pub floatsAloneOf : List Float → Common
-floatsAloneOf f = record {{
-{made(of(f) if f.is_float else f"{f.name} = {BLANK[f.kind][1]};" for f in RECORD)}
-}}
+abbrev pub floats_alone_of : List Float → Common
+floats_alone_of f = {record_of(of(f) if f.is_float else (f.name, BLANK[f.kind][1]) for f in RECORD)}
 
 -- a record with its family and its counts replaced
-abbrev pub withCounts : MethodFamily → List ℕ → Common → Common
-withCounts family u c = record {{
-{made(with_counts(f) for f in RECORD)}
-}}
+abbrev pub with_counts : MethodFamily → List ℕ → Common → Common
+with_counts family u c = {record_of(with_counts(f) for f in RECORD)}
 
-abbrev pub commonOf : List ℕ → List Float → Common
-commonOf u f = withCounts (familyOf ({entry(BY_NAME["meth"])})) u (floatsAloneOf f)
+abbrev pub common_of : List ℕ → List Float → Common
+common_of u f = with_counts (family_of ({entry(BY_NAME["meth"])})) u (floats_alone_of f)
 
-abbrev pub sessionOf : List ℕ → List Float → Session
-sessionOf u f = record {{ settings = settingsOf u f; common = commonOf u f; phase = phaseOf ({entry(COUNTS[0])}) }}
+abbrev pub session_of : List ℕ → List Float → Session
+session_of u f = record {{ settings = settings_of u f; common = common_of u f; phase = phase_of ({entry(COUNTS[0])}) }}
 
 -- ---- least and greatest value of each count; 2^64 - 1 is no limit
 
 unfoldable pub lowest : List ℕ
 lowest =
 {listed(0)}
+
 unfoldable pub highest : List ℕ
 highest =
 {listed(1)}
@@ -215,14 +196,13 @@ highest =
 
 
 def names():
-    each = "".join(f"abbrev pub {f.name}Word : List ℕ → ℕ\n{f.name}Word b = word b {f.word}\n" for f in COUNTS)
+    each = "\n".join(f"abbrev pub {f.name}_word : List ℕ → ℕ\n{f.name}_word b = word b {f.word}\n" for f in COUNTS)
     return f"""\
 -- The counts of a session by the names of docs/SESSION.md: the number that stands in the bytes b, whatever it is.
 -- icount is kept with 1,000,000 added, kflag as the number of error failures, a flag as 0 or 1.
 -- {FROM}
-use mathlib.Core.List.{{List}}
-use Prim.Native.Nat.{{ℕ}}
-use Rattle·words.specs.Words.{{word}}
+use Rattle.std.specs.Prelude.{{List, ℕ}}
+use Rattle.words.specs.Words.{{word}}
 
 {each}"""
 
@@ -230,22 +210,22 @@ use Rattle·words.specs.Words.{{word}}
 def ranges():
     """Accepted and Counts: what the same rows say of the record of a run."""
     settings = [f for f in SETTINGS if f.name in RANGES and f.kind == "usize"]
-    limit = lambda f: f"s .{f.name} ≤ {SPEC.get(f.bounds[1], f.bounds[1])}"
-    accepted = lambda f: limit(f) if f.bounds[0] == "0" else f"({f.bounds[0]} ≤ s .{f.name}) × ({limit(f)})"
+    limit = lambda f: f"s.{f.name} ≤ {SPEC.get(f.bounds[1], f.bounds[1])}"
+    accepted = lambda f: limit(f) if f.bounds[0] == "0" else f"({f.bounds[0]} ≤ s.{f.name}) × ({limit(f)})"
     return f"""-- settings as start accepts
 pub record Accepted (s : Settings) : Type 0 where
 {lines((f"pub {f.name} : {accepted(f)}" for f in settings), "  ")}
 -- the counts, each at most a bound
 pub record Counts (c : Common) (b : ℕ) : Type 0 where
-{lines((f"pub {f.name} : c .{f.name} ≤ b" for f in COUNTED), "  ")}"""
+{lines((f"pub {f.name} : c.{f.name} ≤ b" for f in COUNTED), "  ")}
+"""
 
 
 def wider():
     """Counts within a bound are within a wider one."""
     return f"""pub counts-wider : {{c : Common}} {{a b : ℕ}} → a ≤ b → Counts c a → Counts c b
-counts-wider h k = record {{
-{wrapped([f"{f.name} = omega (arith, k .{f.name});" for f in COUNTED], "  ")}
-}}
+counts-wider h k = {record_of((f.name, f"omega (arith, k.{f.name})") for f in COUNTED)}
+
 """
 
 

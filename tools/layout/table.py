@@ -4,7 +4,7 @@ A new field goes to the end of its group in its struct (floats, counts, flags), 
 RANGES if it is a count, and one in INITIAL if a start gives it another value than 0, false or Adams. After a run of
 tools/record.py what is left is its range in words (crates/session/specs/WordRanges.antt, which is not made: it says
 what RANGES must be) and its use: in the code and the definition that set it, in the lists of what a move may change
-(`attempted`, `testsMoved`), for a float its law `put-..` where it is set, for a count that it stays in its range.
+(`attempted`, `tests_moved`), for a float its law `put-..` where it is set, for a count that it stays in its range.
 """
 import re
 
@@ -59,7 +59,7 @@ RANGES = {
 }
 # A bound by its name, in code and in the definitions.
 CODE = {"MAX_STATES": "common::MAX_STATES"}
-SPEC = {"MAX_STATES": "maxStates"}
+SPEC = {"MAX_STATES": "max_states"}
 # The range in words, where it is no plain row of RANGES.
 RANGE_WORDS = {
     "phase": "a number of the table of phases",
@@ -85,18 +85,18 @@ INITIAL = {
     "tn": ("x0", "x0"),
     "h": ("h", "h"),
     "told": ("x0", "x0"),
-    "el0": ("1.0", "oneF"),
-    "convrate": ("0.7", "d0·7"),
+    "el0": ("1.0", "one_f"),
+    "convrate": ("0.7", "d0_7"),
     "nq": ("1", "1"),
-    "lmax": ("lmax", "max (mxordnOf s) (mxordsOf s) + 1"),
-    "nqnyh": ("s.n", "s .n"),
+    "lmax": ("lmax", "max (mxordn_of s) (mxords_of s) + 1"),
+    "nqnyh": ("s.n", "s.n"),
     "ialth": ("2", "2"),
     "icount": ("1000020", "icount20"),
     "nfe": ("1", "1"),
     "setup": ("true", "true"),
 }
 BLANK = {
-    "f64": ("0.0", "zeroF"),
+    "f64": ("0.0", "zero_f"),
     "usize": ("0", "0"),
     "bool": ("false", "false"),
     "MethodFamily": ("MethodFamily::Adams", "Adams"),
@@ -127,7 +127,7 @@ class Field:
 
     @property
     def path(self):
-        return f"x .{self.name}" if self.record == "session" else f"x .{self.record} .{self.name}"
+        return f"x.{self.name}" if self.record == "session" else f"x.{self.record}.{self.name}"
 
     @property
     def bounds(self):
@@ -184,19 +184,24 @@ def phases():
 # ---- text
 
 
-def wrapped(parts, indent, width=118, sep=" "):
+def wrapped(parts, indent, width=118):
     rows, row = [], indent
     for part in parts:
         if len(row) + len(part) + 1 > width and row.strip():
             rows.append(row.rstrip())
             row = indent
-        row += part + sep
+        row += part + " "
     rows.append(row.rstrip())
     return "\n".join(rows)
 
 
 def lines(parts, indent):
     return "".join(f"{indent}{part}\n" for part in parts)
+
+
+def record_of(parts, indent=""):
+    """A record of antt from names and values, a field a line; its last line stands at the indent."""
+    return "record {\n" + lines((f"{name} = {value};" for name, value in parts), indent + "  ") + indent + "}"
 
 
 def row(parts):

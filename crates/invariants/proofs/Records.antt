@@ -32,8 +32,8 @@ pub record Floats (
 
 abbrev pub CommonFits : Common → Type 0
 CommonFits c =
-    Floats c.hmin c.hmxi c.tn c.h c.hu c.told c.rc c.el0 c.conit c.rmax c.pdest
-    c.pdlast c.pdnorm c.convrate c.pnorm c.rate c.delp
+    Floats c.hmin c.hmxi c.tn c.h c.hu c.told c.rc c.el0 c.conit c.rmax c.pdest c.pdlast c.pdnorm c.convrate c.pnorm
+    c.rate c.delp
 
 module _ {
     hmin₀ hmxi₀ tn₀ h₀ hu₀ told₀ rc₀ el0₀ conit₀ rmax₀ pdest₀ pdlast₀ pdnorm₀ convrate₀ pnorm₀ rate₀ delp₀

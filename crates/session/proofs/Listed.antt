@@ -61,17 +61,17 @@ pub counts-small : (x : Session) → CountsFit x → (i : ℕ) → get_or (count
 counts-small x f i =
     entry {P = λ (w : ℕ). w < 2 ^ 64} 0 (lit< tt)
     (phase-small x.phase ▸ f.n ▸ f.maxsteps ▸ f.mxordn ▸ f.mxords ▸ f.maxcor ▸ f.msbp ▸ f.mxncf ▸
-    flag_small x.settings.supplied ▸ flag_small x.settings.given ▸ f.nrtol ▸ f.natol ▸
-    family-small x.common.meth ▸ f.nq ▸ f.lmax ▸ f.nqnyh ▸ f.ialth ▸ f.icount ▸ f.table ▸ f.nslp ▸
-    f.nst ▸ f.nfe ▸ f.nje ▸ f.nlu ▸ f.rejected ▸ f.total ▸ f.count ▸ f.kflag ▸ f.ncf ▸ f.m ▸ f.column ▸
-    flag_small x.common.due ▸ flag_small x.common.jcur ▸ flag_small x.common.setup ▸ none)
+    flag_small x.settings.supplied ▸ flag_small x.settings.given ▸ f.nrtol ▸ f.natol ▸ family-small x.common.meth ▸
+    f.nq ▸ f.lmax ▸ f.nqnyh ▸ f.ialth ▸ f.icount ▸ f.table ▸ f.nslp ▸ f.nst ▸ f.nfe ▸ f.nje ▸ f.nlu ▸ f.rejected ▸
+    f.total ▸ f.count ▸ f.kflag ▸ f.ncf ▸ f.m ▸ f.column ▸ flag_small x.common.due ▸ flag_small x.common.jcur ▸
+    flag_small x.common.setup ▸ none)
     i
 
 pub floats-fit : (x : Session) → FloatsFit x → (i : ℕ) → Fit (get_or (floats_of x) i zero_f)
 floats-fit x f i =
     entry {P = Fit} zero_f zero-fits
-    (f.xend ▸ f.direction ▸ f.hmin ▸ f.hmxi ▸ f.tn ▸ f.h ▸ f.hu ▸ f.told ▸ f.rc ▸ f.el0 ▸ f.conit ▸
-    f.rmax ▸ f.pdest ▸ f.pdlast ▸ f.pdnorm ▸ f.convrate ▸ f.pnorm ▸ f.rate ▸ f.delp ▸ none)
+    (f.xend ▸ f.direction ▸ f.hmin ▸ f.hmxi ▸ f.tn ▸ f.h ▸ f.hu ▸ f.told ▸ f.rc ▸ f.el0 ▸ f.conit ▸ f.rmax ▸
+    f.pdest ▸ f.pdlast ▸ f.pdnorm ▸ f.convrate ▸ f.pnorm ▸ f.rate ▸ f.delp ▸ none)
     i
 
 -- whether the run is over or not
@@ -128,11 +128,11 @@ record-back x =
 
 abbrev pub words_of : List ℕ → List ℕ
 words_of b =
-    phase_word b ∷ n_word b ∷ maxsteps_word b ∷ mxordn_word b ∷ mxords_word b ∷ maxcor_word b ∷ msbp_word b ∷ mxncf_word b
-    ∷ supplied_word b ∷ given_word b ∷ nrtol_word b ∷ natol_word b ∷ meth_word b ∷ nq_word b ∷ lmax_word b ∷ nqnyh_word b
-    ∷ ialth_word b ∷ icount_word b ∷ table_word b ∷ nslp_word b ∷ nst_word b ∷ nfe_word b ∷ nje_word b ∷ nlu_word b
-    ∷ rejected_word b ∷ total_word b ∷ count_word b ∷ kflag_word b ∷ ncf_word b ∷ m_word b ∷ column_word b ∷ due_word b
-    ∷ jcur_word b ∷ setup_word b ∷ []
+    phase_word b ∷ n_word b ∷ maxsteps_word b ∷ mxordn_word b ∷ mxords_word b ∷ maxcor_word b ∷ msbp_word b
+    ∷ mxncf_word b ∷ supplied_word b ∷ given_word b ∷ nrtol_word b ∷ natol_word b ∷ meth_word b ∷ nq_word b
+    ∷ lmax_word b ∷ nqnyh_word b ∷ ialth_word b ∷ icount_word b ∷ table_word b ∷ nslp_word b ∷ nst_word b
+    ∷ nfe_word b ∷ nje_word b ∷ nlu_word b ∷ rejected_word b ∷ total_word b ∷ count_word b ∷ kflag_word b
+    ∷ ncf_word b ∷ m_word b ∷ column_word b ∷ due_word b ∷ jcur_word b ∷ setup_word b ∷ []
 
 pub words-listed : (b : List ℕ) → stored_counts b ≡ words_of b
 unfolding counts_over times
@@ -238,18 +238,17 @@ module _ (b : List ℕ) where
     unfolding lowest highest
     words-between o =
         upto r.phase ▹ r.n ▹ r.maxsteps ▹ r.mxordn ▹ r.mxords ▹ r.maxcor ▹ upto r.msbp ▹ upto r.mxncf
-        ▹ upto r.supplied ▹ upto r.given ▹ upto o.nrtol ▹ upto o.natol ▹ r.meth ▹ r.nq ▹ r.lmax
-        ▹ upto o.nqnyh ▹ (r.ialth.0, upto-64 r.ialth.1) ▹ r.icount ▹ upto r.table
-        ▹ upto (upto-62 r.nslp) ▹ upto (upto-62 r.nst) ▹ upto (upto-62 r.nfe) ▹ upto (upto-62 r.nje)
-        ▹ upto (upto-62 r.nlu) ▹ upto (upto-62 r.rejected) ▹ upto (upto-62 r.total)
-        ▹ upto (upto-62 r.count) ▹ upto r.kflag ▹ upto o.ncf ▹ upto o.m ▹ upto o.column
+        ▹ upto r.supplied ▹ upto r.given ▹ upto o.nrtol ▹ upto o.natol ▹ r.meth ▹ r.nq ▹ r.lmax ▹ upto o.nqnyh
+        ▹ (r.ialth.0, upto-64 r.ialth.1) ▹ r.icount ▹ upto r.table ▹ upto (upto-62 r.nslp) ▹ upto (upto-62 r.nst)
+        ▹ upto (upto-62 r.nfe) ▹ upto (upto-62 r.nje) ▹ upto (upto-62 r.nlu) ▹ upto (upto-62 r.rejected)
+        ▹ upto (upto-62 r.total) ▹ upto (upto-62 r.count) ▹ upto r.kflag ▹ upto o.ncf ▹ upto o.m ▹ upto o.column
         ▹ upto r.due ▹ upto r.jcur ▹ upto r.setup ▹ between_none
 
     pub words_back : (f : List Float) → counts_of (session_of (words_of b) f) ≡ words_of b
     words_back f =
         phase-known _ r.phase ◃ refl ◃ refl ◃ refl ◃ refl ◃ refl ◃ refl ◃ refl ◃ flag-known _ r.supplied
-        ◃ flag-known _ r.given ◃ refl ◃ refl ◃ family-known _ r.meth.0 r.meth.1 ◃ refl ◃ refl ◃ refl
-        ◃ refl ◃ refl ◃ refl ◃ refl ◃ refl ◃ refl ◃ refl ◃ refl ◃ refl ◃ refl ◃ refl ◃ refl ◃ refl ◃ refl ◃ refl
+        ◃ flag-known _ r.given ◃ refl ◃ refl ◃ family-known _ r.meth.0 r.meth.1 ◃ refl ◃ refl ◃ refl ◃ refl ◃ refl
+        ◃ refl ◃ refl ◃ refl ◃ refl ◃ refl ◃ refl ◃ refl ◃ refl ◃ refl ◃ refl ◃ refl ◃ refl ◃ refl
         ◃ flag-known _ r.due ◃ flag-known _ r.jcur ◃ flag-known _ r.setup ◃ refl
 
 pub record-between : (x : Session) → CountsFit x → Ranges x.settings x.common
@@ -262,10 +261,9 @@ record-between x f r =
     let t = r.counters in
     phase-from x.phase ▹ (s.n.0, s.n.1) ▹ (s.maxsteps.0, s.maxsteps.1) ▹ (s.mxordn.0, s.mxordn.1)
     ▹ (s.mxords.0, s.mxords.1) ▹ (s.maxcor.0, s.maxcor.1) ▹ upto s.msbp ▹ upto s.mxncf
-    ▹ flag-from x.settings.supplied ▹ flag-from x.settings.given ▹ upto (upto-64 f.nrtol)
-    ▹ upto (upto-64 f.natol) ▹ family-from x.common.meth ▹ (o.nq.0, o.nq.1) ▹ (o.lmax.0, o.lmax.1)
-    ▹ upto (upto-64 f.nqnyh) ▹ (t.ialth, upto-64 f.ialth) ▹ (t.icount.0, t.icount.1) ▹ upto o.table
-    ▹ upto k.nslp ▹ upto k.nst ▹ upto k.nfe ▹ upto k.nje ▹ upto k.nlu ▹ upto k.rejected
-    ▹ upto k.total ▹ upto k.count ▹ upto t.kflag ▹ upto (upto-64 f.ncf) ▹ upto (upto-64 f.m)
-    ▹ upto (upto-64 f.column) ▹ flag-from x.common.due ▹ flag-from x.common.jcur
+    ▹ flag-from x.settings.supplied ▹ flag-from x.settings.given ▹ upto (upto-64 f.nrtol) ▹ upto (upto-64 f.natol)
+    ▹ family-from x.common.meth ▹ (o.nq.0, o.nq.1) ▹ (o.lmax.0, o.lmax.1) ▹ upto (upto-64 f.nqnyh)
+    ▹ (t.ialth, upto-64 f.ialth) ▹ (t.icount.0, t.icount.1) ▹ upto o.table ▹ upto k.nslp ▹ upto k.nst ▹ upto k.nfe
+    ▹ upto k.nje ▹ upto k.nlu ▹ upto k.rejected ▹ upto k.total ▹ upto k.count ▹ upto t.kflag ▹ upto (upto-64 f.ncf)
+    ▹ upto (upto-64 f.m) ▹ upto (upto-64 f.column) ▹ flag-from x.common.due ▹ flag-from x.common.jcur
     ▹ flag-from x.common.setup ▹ between_none

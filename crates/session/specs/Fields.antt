@@ -24,10 +24,9 @@ counts_of x =
 
 abbrev pub floats_of : Session → List Float
 floats_of x =
-    x.settings.xend ∷ x.settings.direction ∷ x.common.hmin ∷ x.common.hmxi ∷ x.common.tn ∷ x.common.h
-    ∷ x.common.hu ∷ x.common.told ∷ x.common.rc ∷ x.common.el0 ∷ x.common.conit ∷ x.common.rmax
-    ∷ x.common.pdest ∷ x.common.pdlast ∷ x.common.pdnorm ∷ x.common.convrate ∷ x.common.pnorm
-    ∷ x.common.rate ∷ x.common.delp ∷ []
+    x.settings.xend ∷ x.settings.direction ∷ x.common.hmin ∷ x.common.hmxi ∷ x.common.tn ∷ x.common.h ∷ x.common.hu
+    ∷ x.common.told ∷ x.common.rc ∷ x.common.el0 ∷ x.common.conit ∷ x.common.rmax ∷ x.common.pdest
+    ∷ x.common.pdlast ∷ x.common.pdnorm ∷ x.common.convrate ∷ x.common.pnorm ∷ x.common.rate ∷ x.common.delp ∷ []
 
 -- ---- the record from its counts u and its floats f
 

@@ -22,7 +22,7 @@ returns-in-Singular c =
     let r = x in
     let a = r.args in
     let n = a.s.n in
-    let sol = solve_of n (matrix_at n) a.ipiv.now (y_at n) r.bdf_residual.new.0 in
+    let sol = solve_of n (matrix_at n) a.ipiv.now (y_at n) r.bdf_residual.new.work in
     let no = ok-singular sol.ok (sym x.dense_lu_solve.ensures.1 ∙ c.in-Singular.is) in
     rw (← r.bdf_residual.ensures, no, x.dense_lu_solve.ensures.0)
 
@@ -37,7 +37,7 @@ returns-in-Done c =
     let r = x in
     let a = r.args in
     let n = a.s.n in
-    let sol = solve_of n (matrix_at n) a.ipiv.now (y_at n) r.bdf_residual.new.0 in
+    let sol = solve_of n (matrix_at n) a.ipiv.now (y_at n) r.bdf_residual.new.work in
     let yes = ok-done sol.ok (sym x.dense_lu_solve.ensures.1 ∙ t.in-Done.is) in
     rw (
       ← r.bdf_residual.ensures,

@@ -33,7 +33,7 @@ pub tested-requires : goal.tested-requires
 tested-requires c =
     let a = c in
     let k = in-range-known a.args.s a.args.c a.args.x.del a.requires.step_in_range a.requires.maxcor_bound.1 in
-    rw c.known_rate.ensures (k.0, (a.requires.maxcor_bound.0, k.1))
+    rw c.known_rate.ensures record { step_in_range = k.0; maxcor_bound = (a.requires.maxcor_bound.0, k.1) }
 
 pub returns : goal.returns
 unfolding judge_of known_rate_of

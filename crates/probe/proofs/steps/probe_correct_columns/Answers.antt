@@ -16,7 +16,7 @@ correct_columns-requires c =
     let b = c in
     let a = b in
     let t = usable-by a.is_usable.ensures a.if-is_usable.true in
-    rw (b.common.ensures, a.settings.ensures) (t.range, t.long)
+    rw (b.common.ensures, a.settings.ensures) record { step_in_range = t.range; n_in_bounds = t.long }
 
 pub returns-then-is_usable : goal.returns-then-is_usable
 unfolding correct_left
