@@ -1,32 +1,32 @@
 -- `judge` meets its contract: each way returns what `judge_of` picks under the tests that led there.
 -- Assumes nothing.
 use mathlib.Core.Path.{sym, ◌∙◌}
-use mathlib.Core.Logic.{⊎_elim}
 use borrow.Author.Rules.{rules}
 use borrow.Author.Tests.{not-true, not-false, eq-eqb, ne_eqb}
 use Rattle.corrector.specs.Verdict.{known_rate_of, judge_of}
 use Rattle.corrector.proofs.Shared.{in-range-known}
 use Rattle.corrector.proofs.judge.Goals as goal
+use Rattle.corrector.proofs.judge.Goals.{then-c-eq0+else-not-is_bdf, else-c-eq0}
 
 pub returns-then-not-solved : goal.returns-then-not-solved
 unfolding judge_of
 returns-then-not-solved c =
     let i = c in
-    rw (not-true i.args.x.solved i.if-not-solved.true) c.give_up.ensures
+    rw (i.if-not-solved.true) c.give_up.ensures
 
 pub returns-then-del-pnorm : goal.returns-then-del-pnorm
 unfolding judge_of
 returns-then-del-pnorm c =
     let i = c in
-    rw (not-false i.args.x.solved i.if-not-solved.false, c.if-del-pnorm.true) c.converged.ensures
+    rw (i.if-not-solved.false, c.if-del-pnorm.true) c.converged.ensures
 
 pub returns-then-not-is_bdf : goal.returns-then-not-is_bdf
 unfolding judge_of
 returns-then-not-is_bdf c =
     let first = c in
     let far = first in
-    let solved = not-false far.args.x.solved far.if-not-solved.false in
-    let family = sym c.is_bdf.ensures ∙ not-true _ c.if-not-is_bdf.true in
+    let solved = far.if-not-solved.false in
+    let family = sym c.is_bdf.ensures ∙ c.if-not-is_bdf.true in
     rw (solved, far.if-del-pnorm.false, eq-eqb _ _ first.if-c-eq0.true, family) c.further.ensures
 
 pub tested-requires : goal.tested-requires
@@ -40,9 +40,9 @@ unfolding judge_of known_rate_of
 returns c =
     let later = c in
     let far = later in
-    let solved = not-false far.args.x.solved far.if-not-solved.false in
+    let solved = far.if-not-solved.false in
     rw (solved, far.if-del-pnorm.false, c.tested.ensures, c.known_rate.ensures)
-    (⊎_elim
-    (λ w. rw (eq-eqb _ _ w.0.taken, sym w.1.ensures ∙ not-false _ w.2.left))
-    (λ w. rw (ne_eqb _ _ w.left))
-    later.if-c-eq0.branch)
+    (elim later.if-c-eq0.branch [
+      | then-c-eq0+else-not-is_bdf w ↦ rw (eq-eqb _ _ w.if-c-eq0.true, sym w.is_bdf.ensures ∙ w.if-not-is_bdf.false)
+      | else-c-eq0 w ↦ rw (ne_eqb _ _ w.if-c-eq0.false)
+    ])

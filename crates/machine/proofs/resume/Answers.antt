@@ -18,7 +18,7 @@ pub returns-then-not-is_asked : goal.returns-then-not-is_asked
 returns-then-not-is_asked c =
     let i = c in
     let x = i.args in
-    sym (resume-unasked _ _ _ _ _ _ (sym i.is_asked.ensures ∙ not-true _ c.if-not-is_asked.taken))
+    sym (resume-unasked _ _ _ _ _ _ (sym i.is_asked.ensures ∙ c.if-not-is_asked.taken))
 
 pub first_derivative-requires : goal.first_derivative-requires
 first_derivative-requires c =
@@ -27,7 +27,7 @@ first_derivative-requires c =
     let a = e in
     let x = a.args in
     let i = e in
-    let yes = sym i.is_asked.ensures ∙ not-false _ i.if-not-is_asked.left in
+    let yes = sym i.is_asked.ensures ∙ i.if-not-is_asked.left in
     let r = held Phase.FirstDerivative _ t a.pre.1 in
     let l = derivative-length _ _ x.kind (asked_in Phase.FirstDerivative x.kind _ _ t yes) in
     record { le_n = r.ranges.settings.n.0; list1or_n = r.relative; list1or_n_2 = r.absolute; f_len = l; n_in_bounds = omega (arith, r.lent.sized) }
@@ -39,7 +39,7 @@ after_first_report-requires c =
     let a = e in
     let x = a.args in
     let i = e in
-    let yes = sym i.is_asked.ensures ∙ not-false _ i.if-not-is_asked.left in
+    let yes = sym i.is_asked.ensures ∙ i.if-not-is_asked.left in
     let r = held Phase.FirstReport _ t a.pre.1 in
     let l = answer-length _ _ x.kind (asked_in Phase.FirstReport x.kind _ _ t yes) in
     record { inside = inside-ranges r.ranges; y_len = l; n_in_bounds = omega (arith, r.lent.sized) }
@@ -51,7 +51,7 @@ first_modified-requires c =
     let a = e in
     let x = a.args in
     let i = e in
-    let yes = sym i.is_asked.ensures ∙ not-false _ i.if-not-is_asked.left in
+    let yes = sym i.is_asked.ensures ∙ i.if-not-is_asked.left in
     let r = held Phase.FirstModified _ t a.pre.1 in
     let l = derivative-length _ _ x.kind (asked_in Phase.FirstModified x.kind _ _ t yes) in
     record { inside = inside-ranges r.ranges; f_len = l; n_in_bounds = omega (arith, r.lent.sized) }
@@ -63,7 +63,7 @@ opened_reply-requires c =
     let a = e in
     let x = a.args in
     let i = e in
-    let yes = sym i.is_asked.ensures ∙ not-false _ i.if-not-is_asked.left in
+    let yes = sym i.is_asked.ensures ∙ i.if-not-is_asked.left in
     let r = held Phase.Opened _ t a.pre.1 in
     let l = derivative-length _ _ x.kind (asked_in Phase.Opened x.kind _ _ t yes) in
     record { inside = inside-ranges r.ranges; nje_bound = omega (arith, r.ranges.counts.nje); list1or_n = r.relative; list1or_n_2 = r.absolute; f_len = l; lent = r.lent }
@@ -75,7 +75,7 @@ jacobian_reply-requires c =
     let a = e in
     let x = a.args in
     let i = e in
-    let yes = sym i.is_asked.ensures ∙ not-false _ i.if-not-is_asked.left in
+    let yes = sym i.is_asked.ensures ∙ i.if-not-is_asked.left in
     let r = held Phase.JacobianAsked _ t a.pre.1 in
     let l = jacobian-length _ _ x.kind (asked_in Phase.JacobianAsked x.kind _ _ t yes) in
     record { inside = inside-ranges r.ranges; nlu_bound = omega (arith, r.ranges.counts.nlu); list1or_n = r.relative; list1or_n_2 = r.absolute; f_len = l; lent = r.lent }
@@ -87,7 +87,7 @@ column_reply-requires c =
     let a = e in
     let x = a.args in
     let i = e in
-    let yes = sym i.is_asked.ensures ∙ not-false _ i.if-not-is_asked.left in
+    let yes = sym i.is_asked.ensures ∙ i.if-not-is_asked.left in
     let r = held Phase.DifferenceColumn _ t a.pre.1 in
     let l = derivative-length _ _ x.kind (asked_in Phase.DifferenceColumn x.kind _ _ t yes) in
     record { inside = inside-ranges r.ranges; nlu_bound = omega (arith, r.ranges.counts.nlu); list1or_n = r.relative; list1or_n_2 = r.absolute; f_len = l; lent = r.lent }
@@ -99,7 +99,7 @@ further_reply-requires c =
     let a = e in
     let x = a.args in
     let i = e in
-    let yes = sym i.is_asked.ensures ∙ not-false _ i.if-not-is_asked.left in
+    let yes = sym i.is_asked.ensures ∙ i.if-not-is_asked.left in
     let r = held Phase.FurtherDerivative _ t a.pre.1 in
     let l = derivative-length _ _ x.kind (asked_in Phase.FurtherDerivative x.kind _ _ t yes) in
     record { inside = inside-ranges r.ranges; list1or_n = r.relative; list1or_n_2 = r.absolute; f_len = l; lent = r.lent }
@@ -111,7 +111,7 @@ restep_reply-requires c =
     let a = e in
     let x = a.args in
     let i = e in
-    let yes = sym i.is_asked.ensures ∙ not-false _ i.if-not-is_asked.left in
+    let yes = sym i.is_asked.ensures ∙ i.if-not-is_asked.left in
     let r = held Phase.Restep _ t a.pre.1 in
     let l = derivative-length _ _ x.kind (asked_in Phase.Restep x.kind _ _ t yes) in
     record { inside = inside-ranges r.ranges; f_len = l; n_in_bounds = omega (arith, r.lent.sized) }
@@ -123,7 +123,7 @@ after_report-requires c =
     let a = e in
     let x = a.args in
     let i = e in
-    let yes = sym i.is_asked.ensures ∙ not-false _ i.if-not-is_asked.left in
+    let yes = sym i.is_asked.ensures ∙ i.if-not-is_asked.left in
     let r = held Phase.Report _ t a.pre.1 in
     let l = answer-length _ _ x.kind (asked_in Phase.Report x.kind _ _ t yes) in
     record { inside = inside-ranges r.ranges; y_len = l; n_in_bounds = omega (arith, r.lent.sized) }
@@ -135,7 +135,7 @@ modified-requires c =
     let a = e in
     let x = a.args in
     let i = e in
-    let yes = sym i.is_asked.ensures ∙ not-false _ i.if-not-is_asked.left in
+    let yes = sym i.is_asked.ensures ∙ i.if-not-is_asked.left in
     let r = held Phase.Modified _ t a.pre.1 in
     let l = derivative-length _ _ x.kind (asked_in Phase.Modified x.kind _ _ t yes) in
     record { inside = inside-ranges r.ranges; f_len = l; n_in_bounds = omega (arith, r.lent.sized) }
@@ -145,7 +145,7 @@ unfolding resume_at
 returns-in-FirstDerivative c =
     let e = c in
     let i = e in
-    let yes = sym i.is_asked.ensures ∙ not-false _ i.if-not-is_asked.left in
+    let yes = sym i.is_asked.ensures ∙ i.if-not-is_asked.left in
     c.first_derivative.ensures _
     ∙ sym (resume-asked _ _ _ _ _ _ Phase.FirstDerivative e.in-FirstDerivative.is yes)
 
@@ -155,7 +155,7 @@ returns-in-Report-kind c =
     let e = c in
     let i = e in
     let x = e.args in
-    let yes = sym i.is_asked.ensures ∙ not-false _ i.if-not-is_asked.left in
+    let yes = sym i.is_asked.ensures ∙ i.if-not-is_asked.left in
     let g = given x.x.settings x.rtol.now x.atol.now in
     let st = state x.x.common x.work.now x.ipiv.now in
     c.after_first_report.ensures _
@@ -169,7 +169,7 @@ returns-in-Derivative c =
     let e = c in
     let i = e in
     let x = e.args in
-    let yes = sym i.is_asked.ensures ∙ not-false _ i.if-not-is_asked.left in
+    let yes = sym i.is_asked.ensures ∙ i.if-not-is_asked.left in
     let g = given x.x.settings x.rtol.now x.atol.now in
     let st = state x.x.common x.work.now x.ipiv.now in
     ap (λ (p : Phase). unasked p st) e.in-FirstReport.is
@@ -181,7 +181,7 @@ unfolding resume_at
 returns-in-FirstModified c =
     let e = c in
     let i = e in
-    let yes = sym i.is_asked.ensures ∙ not-false _ i.if-not-is_asked.left in
+    let yes = sym i.is_asked.ensures ∙ i.if-not-is_asked.left in
     c.first_modified_run.ensures _
     ∙ sym (resume-asked _ _ _ _ _ _ Phase.FirstModified e.in-FirstModified.is yes)
 
@@ -190,7 +190,7 @@ unfolding resume_at
 returns-in-Opened c =
     let e = c in
     let i = e in
-    let yes = sym i.is_asked.ensures ∙ not-false _ i.if-not-is_asked.left in
+    let yes = sym i.is_asked.ensures ∙ i.if-not-is_asked.left in
     c.opened_reply.ensures
     ∙ sym (resume-asked _ _ _ _ _ _ Phase.Opened e.in-Opened.is yes)
 
@@ -199,7 +199,7 @@ unfolding resume_at
 returns-in-JacobianAsked c =
     let e = c in
     let i = e in
-    let yes = sym i.is_asked.ensures ∙ not-false _ i.if-not-is_asked.left in
+    let yes = sym i.is_asked.ensures ∙ i.if-not-is_asked.left in
     c.jacobian_reply.ensures
     ∙ sym (resume-asked _ _ _ _ _ _ Phase.JacobianAsked e.in-JacobianAsked.is yes)
 
@@ -208,7 +208,7 @@ unfolding resume_at
 returns-in-DifferenceColumn c =
     let e = c in
     let i = e in
-    let yes = sym i.is_asked.ensures ∙ not-false _ i.if-not-is_asked.left in
+    let yes = sym i.is_asked.ensures ∙ i.if-not-is_asked.left in
     c.column_reply.ensures
     ∙ sym (resume-asked _ _ _ _ _ _ Phase.DifferenceColumn e.in-DifferenceColumn.is yes)
 
@@ -217,7 +217,7 @@ unfolding resume_at
 returns-in-FurtherDerivative c =
     let e = c in
     let i = e in
-    let yes = sym i.is_asked.ensures ∙ not-false _ i.if-not-is_asked.left in
+    let yes = sym i.is_asked.ensures ∙ i.if-not-is_asked.left in
     c.further_reply.ensures
     ∙ sym (resume-asked _ _ _ _ _ _ Phase.FurtherDerivative e.in-FurtherDerivative.is yes)
 
@@ -226,7 +226,7 @@ unfolding resume_at
 returns-in-Restep c =
     let e = c in
     let i = e in
-    let yes = sym i.is_asked.ensures ∙ not-false _ i.if-not-is_asked.left in
+    let yes = sym i.is_asked.ensures ∙ i.if-not-is_asked.left in
     c.restep_reply.ensures _
     ∙ sym (resume-asked _ _ _ _ _ _ Phase.Restep e.in-Restep.is yes)
 
@@ -236,7 +236,7 @@ returns-in-Report-kind-2 c =
     let e = c in
     let i = e in
     let x = e.args in
-    let yes = sym i.is_asked.ensures ∙ not-false _ i.if-not-is_asked.left in
+    let yes = sym i.is_asked.ensures ∙ i.if-not-is_asked.left in
     let g = given x.x.settings x.rtol.now x.atol.now in
     let st = state x.x.common x.work.now x.ipiv.now in
     c.after_report.ensures _
@@ -250,7 +250,7 @@ returns-in-Derivative-kind c =
     let e = c in
     let i = e in
     let x = e.args in
-    let yes = sym i.is_asked.ensures ∙ not-false _ i.if-not-is_asked.left in
+    let yes = sym i.is_asked.ensures ∙ i.if-not-is_asked.left in
     let g = given x.x.settings x.rtol.now x.atol.now in
     let st = state x.x.common x.work.now x.ipiv.now in
     ap (λ (p : Phase). unasked p st) e.in-Report.is
@@ -262,7 +262,7 @@ unfolding resume_at
 returns-in-Modified c =
     let e = c in
     let i = e in
-    let yes = sym i.is_asked.ensures ∙ not-false _ i.if-not-is_asked.left in
+    let yes = sym i.is_asked.ensures ∙ i.if-not-is_asked.left in
     c.modified.ensures _
     ∙ sym (resume-asked _ _ _ _ _ _ Phase.Modified e.in-Modified.is yes)
 
@@ -272,7 +272,7 @@ returns-in-Finished c =
     let e = c in
     let i = e in
     let x = e.args in
-    let yes = sym i.is_asked.ensures ∙ not-false _ i.if-not-is_asked.left in
+    let yes = sym i.is_asked.ensures ∙ i.if-not-is_asked.left in
     let st = state x.x.common x.work.now x.ipiv.now in
     ap (λ (p : Phase). unasked p st) e.in-Finished.is
     ∙ sym (resume-asked _ _ _ _ _ _ Phase.Finished e.in-Finished.is yes)

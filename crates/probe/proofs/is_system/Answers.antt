@@ -18,7 +18,7 @@ unfolding is_system
 returns-then-not-is_matrix c =
     let m = c in
     let a = m.args in
-    rw (le-leb a.a a.len (omega arith), ← m.is_matrix.ensures, not-true m.is_matrix.result c.if-not-is_matrix.true)
+    rw (le-leb a.a a.len (omega arith), ← m.is_matrix.ensures, c.if-not-is_matrix.true)
 
 pub returns-then-a-n : goal.returns-then-a-n
 unfolding is_system
@@ -28,7 +28,7 @@ returns-then-a-n c =
     rw (
       le-leb a.a a.len (omega arith),
       ← m.is_matrix.ensures,
-      not-false m.is_matrix.result c.if-not-is_matrix.false,
+      c.if-not-is_matrix.false,
       lt-leb (a.b + a.n) a.a (omega arith),
     )
 
@@ -40,7 +40,7 @@ returns-then-a-n-2 c =
     rw (
       le-leb a.a a.len (omega arith),
       ← m.is_matrix.ensures,
-      not-false m.is_matrix.result c.if-not-is_matrix.false,
+      c.if-not-is_matrix.false,
       lt-leb (a.b + a.n) a.a (omega arith),
     )
 
@@ -52,6 +52,6 @@ returns c =
     rw (
       le-leb a.a a.len (omega arith),
       ← m.is_matrix.ensures,
-      not-false m.is_matrix.result c.if-not-is_matrix.false,
+      c.if-not-is_matrix.false,
       le-leb (a.b + a.n) a.a (omega arith),
     )

@@ -7,7 +7,7 @@ use Rattle.probe.proofs.is_weighed.Goals as goal
 
 pub returns-then-not-is_list : goal.returns-then-not-is_list
 unfolding is_weighed
-returns-then-not-is_list c = rw (← c.is_list.ensures, not-true c.is_list.result c.if-not-is_list.true)
+returns-then-not-is_list c = rw (← c.is_list.ensures, c.if-not-is_list.true)
 
 pub returns-then-not-is_list-2 : goal.returns-then-not-is_list-2
 unfolding is_weighed
@@ -15,9 +15,9 @@ returns-then-not-is_list-2 c =
     let w = c in
     rw (
       ← w.is_list.ensures,
-      not-false w.is_list.result w.if-not-is_list.false,
+      w.if-not-is_list.false,
       ← c.is_list-2.ensures,
-      not-true c.is_list-2.result c.if-not-is_list-2.true,
+      c.if-not-is_list-2.true,
     )
 
 pub returns : goal.returns
@@ -27,8 +27,8 @@ returns c =
     let w = v in
     rw (
       ← w.is_list.ensures,
-      not-false w.is_list.result w.if-not-is_list.false,
+      w.if-not-is_list.false,
       ← v.is_list-2.ensures,
-      not-false v.is_list-2.result v.if-not-is_list-2.false,
+      v.if-not-is_list-2.false,
     )
     c.is_behind.ensures

@@ -9,12 +9,12 @@ use Rattle.probe.proofs.probe_dense_lu_factor.Goals as goal
 
 pub returns-then-not-is_matrix : goal.returns-then-not-is_matrix
 unfolding factor_left
-returns-then-not-is_matrix c = rw (← c.is_matrix.ensures, not-true c.is_matrix.result c.if-not-is_matrix.true)
+returns-then-not-is_matrix c = rw (← c.is_matrix.ensures, c.if-not-is_matrix.true)
 
 pub dense_lu_factor-requires : goal.dense_lu_factor-requires
 dense_lu_factor-requires c =
     let m = c in
-    matrix-fits _ _ _ (sym m.is_matrix.ensures ∙ not-false m.is_matrix.result c.if-not-is_matrix.false)
+    matrix-fits _ _ _ (sym m.is_matrix.ensures ∙ c.if-not-is_matrix.false)
 
 pub returns-in-Done : goal.returns-in-Done
 unfolding factor_left
@@ -24,7 +24,7 @@ returns-in-Done c =
     let e = f.dense_lu_factor.ensures in
     rw (
       ← m.is_matrix.ensures,
-      not-false m.is_matrix.result f.if-not-is_matrix.false,
+      f.if-not-is_matrix.false,
       ← e.2,
       c.in-Done.is,
       e.0,
@@ -39,7 +39,7 @@ returns-in-Singular c =
     let e = f.dense_lu_factor.ensures in
     rw (
       ← m.is_matrix.ensures,
-      not-false m.is_matrix.result f.if-not-is_matrix.false,
+      f.if-not-is_matrix.false,
       ← e.2,
       c.in-Singular.is,
       e.0,

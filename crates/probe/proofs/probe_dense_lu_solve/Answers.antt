@@ -19,19 +19,19 @@ solved s =
     let m = p in
     rw (
       ← m.is_system.ensures,
-      not-false m.is_system.result p.if-not-is_system.false,
+      p.if-not-is_system.false,
       ← p.are_pivots.ensures.0,
-      not-false p.are_pivots.result s.if-not-are_pivots.false,
+      s.if-not-are_pivots.false,
       ← s.dense_lu_solve.ensures.1,
     )
 
 pub returns-then-not-is_system : goal.returns-then-not-is_system
 unfolding solve_left
-returns-then-not-is_system c = rw (← c.is_system.ensures, not-true c.is_system.result c.if-not-is_system.true)
+returns-then-not-is_system c = rw (← c.is_system.ensures, c.if-not-is_system.true)
 
 pub are_pivots-requires : goal.are_pivots-requires
 are_pivots-requires c =
-    (system-fits _ _ _ _ _ (sym c.is_system.ensures ∙ not-false _ c.if-not-is_system.false)).2
+    (system-fits _ _ _ _ _ (sym c.is_system.ensures ∙ c.if-not-is_system.false)).2
 
 pub returns-then-not-are_pivots : goal.returns-then-not-are_pivots
 unfolding solve_left
@@ -39,17 +39,17 @@ returns-then-not-are_pivots c =
     let m = c in
     rw (
       ← m.is_system.ensures,
-      not-false m.is_system.result c.if-not-is_system.false,
+      c.if-not-is_system.false,
       ← c.are_pivots.ensures.0,
-      not-true c.are_pivots.result c.if-not-are_pivots.true,
+      c.if-not-are_pivots.true,
     )
 
 pub dense_lu_solve-requires : goal.dense_lu_solve-requires
 dense_lu_solve-requires c =
     let p = c in
     let m = p in
-    let fits = system-fits _ _ _ _ _ (sym m.is_system.ensures ∙ not-false _ p.if-not-is_system.false) in
-    record { n_bound = fits; by_index = p.are_pivots.ensures.1 (not-false _ c.if-not-are_pivots.false) }
+    let fits = system-fits _ _ _ _ _ (sym m.is_system.ensures ∙ p.if-not-is_system.false) in
+    record { n_bound = fits; by_index = p.are_pivots.ensures.1 (c.if-not-are_pivots.false) }
 
 pub returns-in-Done : goal.returns-in-Done
 returns-in-Done c =

@@ -17,7 +17,7 @@ pub returns-then-not-is_list : goal.returns-then-not-is_list
 unfolding initial_step_or_nan
 returns-then-not-is_list c =
     let l = c in
-    let short = not-true l.is_list.result c.if-not-is_list.true in
+    let short = c.if-not-is_list.true in
     rw (le-leb _ _ l.if-w-f0.false, ← l.is_list.ensures, short, c.not_a_number-then-not-is_list.ensures)
 
 pub initial_step_size-requires : goal.initial_step_size-requires
@@ -25,7 +25,7 @@ initial_step_size-requires c =
     let m = c in
     let l = m in
     let a = l.args in
-    let listed = sym l.is_list.ensures ∙ not-false l.is_list.result m.if-not-is_list.false in
+    let listed = sym l.is_list.ensures ∙ m.if-not-is_list.false in
     let rtol = list-serves (length a.y.now) a.rtol.now listed in
     let atol = list-serves (length a.y.now) a.atol.now (sym m.is_list-2.ensures ∙ c.if-is_list.true) in
     record { list1or_n = rtol; list1or_n_2 = atol; f0_in_bounds = l.if-w-f0.false }
@@ -38,7 +38,7 @@ returns-then-is_list c =
     rw (
       le-leb _ _ l.if-w-f0.false,
       ← l.is_list.ensures,
-      not-false l.is_list.result m.if-not-is_list.false,
+      m.if-not-is_list.false,
       ← m.is_list-2.ensures,
       c.if-is_list.true,
     )
@@ -52,7 +52,7 @@ returns c =
     rw (
       le-leb _ _ l.if-w-f0.false,
       ← l.is_list.ensures,
-      not-false l.is_list.result m.if-not-is_list.false,
+      m.if-not-is_list.false,
       ← m.is_list-2.ensures,
       c.if-is_list.false,
       c.not_a_number-2.ensures,

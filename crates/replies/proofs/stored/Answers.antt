@@ -15,7 +15,7 @@ unfolding stored_refusal in_order also_of
 returns-then-not-in_range c =
     rw (
       sym c.is_finished.ensures ∙ c.if-is_finished.false,
-      sym c.in_range.ensures ∙ not-true _ c.if-not-in_range.true,
+      sym c.in_range.ensures ∙ c.if-not-in_range.true,
     )
     c.plain-then-not-in_range.ensures
 
@@ -25,6 +25,6 @@ returns c =
     let f = c in
     rw (
       sym f.is_finished.ensures ∙ f.if-is_finished.false,
-      sym c.in_range.ensures ∙ not-false _ c.if-not-in_range.false,
+      sym c.in_range.ensures ∙ c.if-not-in_range.false,
     )
     (rw c.none.ensures at c.also.ensures)

@@ -45,7 +45,7 @@ initial_step_size-h-requires c =
     let size : n - 0 ≡ n = omega arith in
     let slope : ftem_at n - savf_at n ≡ n = omega arith in
     let weights : savf_at n - ewt_at n ≡ n = omega arith in
-    rw (size, slope, weights, y, f, e) (a.requires.list1or_n, (a.requires.list1or_n_2, omega arith))
+    rw (size, slope, weights, y, f, e) record { list1or_n = a.requires.list1or_n; list1or_n_2 = a.requires.list1or_n_2; f0_in_bounds = omega arith }
 
 pub returns : goal.returns
 returns c p =

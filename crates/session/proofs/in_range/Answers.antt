@@ -36,7 +36,7 @@ returns-then-not-fields c =
     let a = d.args in
     rw (
       whole a.bytes.now a.ipiv.now a.x a.u.now d.requires.u_value.1 d.requires.u_value.0,
-      sym c.fields.ensures ∙ not-true _ c.if-not-fields.true,
+      sym c.fields.ensures ∙ c.if-not-fields.true,
     )
 
 pub tolerances-requires : goal.tolerances-requires
@@ -45,7 +45,7 @@ tolerances-requires c =
     let a = d.args in
     let n = (read a.bytes.now a.ipiv.now a.x a.u.now d.requires.u_value.1 d.requires.u_value.0).0 in
     let l = lists-small a.u.now a.x.settings a.x.common n
-    (sym c.fields.ensures ∙ not-false _ c.if-not-fields.false) in
+    (sym c.fields.ensures ∙ c.if-not-fields.false) in
     (d.requires.session_length_in_bounds, l.0, l.1)
 
 pub returns-then-not-tolerances : goal.returns-then-not-tolerances
@@ -54,8 +54,8 @@ returns-then-not-tolerances c =
     let a = d.args in
     rw (
       whole a.bytes.now a.ipiv.now a.x a.u.now d.requires.u_value.1 d.requires.u_value.0,
-      sym c.fields.ensures ∙ not-false _ c.if-not-fields.false,
-      sym c.tolerances.ensures ∙ not-true _ c.if-not-tolerances.true,
+      sym c.fields.ensures ∙ c.if-not-fields.false,
+      sym c.tolerances.ensures ∙ c.if-not-tolerances.true,
     )
 
 pub returns : goal.returns
@@ -64,7 +64,7 @@ returns c =
     let a = d.args in
     rw (
       whole a.bytes.now a.ipiv.now a.x a.u.now d.requires.u_value.1 d.requires.u_value.0,
-      sym c.fields.ensures ∙ not-false _ c.if-not-fields.false,
-      sym c.tolerances.ensures ∙ not-false _ c.if-not-tolerances.false,
+      sym c.fields.ensures ∙ c.if-not-fields.false,
+      sym c.tolerances.ensures ∙ c.if-not-tolerances.false,
     )
     c.pivots_below.ensures

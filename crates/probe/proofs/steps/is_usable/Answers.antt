@@ -22,7 +22,7 @@ returns-then-not-are_limits c =
       eq-eqb _ _ w.if-floats-ne11.false,
       eq-eqb _ _ w.if-counts-ne14.false,
       ← l.are_limits.ensures,
-      not-true l.are_limits.result c.if-not-are_limits.true,
+      c.if-not-are_limits.true,
     )
 
 pub returns : goal.returns
@@ -34,6 +34,6 @@ returns c =
       eq-eqb _ _ w.if-floats-ne11.false,
       eq-eqb _ _ w.if-counts-ne14.false,
       ← l.are_limits.ensures,
-      not-false l.are_limits.result c.if-not-are_limits.false,
+      c.if-not-are_limits.false,
     )
     c.in_range.ensures

@@ -14,14 +14,14 @@ use Rattle.probe.proofs.steps.probe_snapshot_step.Goals as goal
 
 fits : (i : goal.Else-not-is_usable) → let a = i.args in
     Usable a.floats.now a.counts.now (length a.work.now)
-fits i = usable-by i.is_usable.ensures (not-false _ i.if-not-is_usable.false)
+fits i = usable-by i.is_usable.ensures (i.if-not-is_usable.false)
 
 few : (s : goal.After-settings-s) → s.settings-s.result.n ≤ max_states
 few s = rw s.settings-s.ensures (fits s).range.n.1
 
 pub returns-then-not-is_usable : goal.returns-then-not-is_usable
 unfolding snapshot_left
-returns-then-not-is_usable c = rw (← c.is_usable.ensures, not-true c.is_usable.result c.if-not-is_usable.true)
+returns-then-not-is_usable c = rw (← c.is_usable.ensures, c.if-not-is_usable.true)
 
 pub settings-s-requires : goal.settings-s-requires
 settings-s-requires c = (fits c).lists
@@ -40,7 +40,7 @@ returns-then-question-s c =
     let a = c.args in
     let n = (lent_settings a.floats.now a.counts.now).n in
     let short : length a.question.now < question_length n = rw (← s.settings-s.ensures) c.if-question-s.true in
-    rw (← w.is_usable.ensures, not-false w.is_usable.result s.if-not-is_usable.false, lt-leb _ _ short)
+    rw (← w.is_usable.ensures, s.if-not-is_usable.false, lt-leb _ _ short)
 
 pub common-requires : goal.common-requires
 common-requires c = (fits c).lists
@@ -69,7 +69,7 @@ returns c =
     let long : question_length n ≤ length a.question.now = rw (← s.settings-s.ensures) b.if-question-s.false in
     rw (
       ← w.is_usable.ensures,
-      not-false w.is_usable.result s.if-not-is_usable.false,
+      s.if-not-is_usable.false,
       le-leb _ _ long,
       d.snapshot_step.ensures,
       b.common.ensures,

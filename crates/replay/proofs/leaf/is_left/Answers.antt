@@ -9,7 +9,7 @@ pub returns-then-not-are_floats : goal.returns-then-not-are_floats
 unfolding is_left
 returns-then-not-are_floats c =
     let m = c in
-    rw (← m.are_floats.ensures, not-true m.are_floats.result c.if-not-are_floats.true)
+    rw (← m.are_floats.ensures, c.if-not-are_floats.true)
 
 pub returns-then-not-are_floats-2 : goal.returns-then-not-are_floats-2
 unfolding is_left
@@ -18,9 +18,9 @@ returns-then-not-are_floats-2 c =
     let k = c in
     rw (
       ← k.are_floats.ensures,
-      not-false k.are_floats.result c.if-not-are_floats.false,
+      c.if-not-are_floats.false,
       ← m.are_floats-2.ensures,
-      not-true m.are_floats-2.result c.if-not-are_floats-2.true,
+      c.if-not-are_floats-2.true,
     )
 
 pub returns : goal.returns
@@ -30,8 +30,8 @@ returns c =
     let k = m in
     rw (
       ← k.are_floats.ensures,
-      not-false k.are_floats.result m.if-not-are_floats.false,
+      m.if-not-are_floats.false,
       ← m.are_floats-2.ensures,
-      not-false m.are_floats-2.result c.if-not-are_floats-2.false,
+      c.if-not-are_floats-2.false,
     )
     c.are_counts.ensures

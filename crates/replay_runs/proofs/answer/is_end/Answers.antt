@@ -8,7 +8,7 @@ use Rattle.replay_runs.proofs.answer.is_end.Goals as goal
 
 pub returns-then-not-is_float : goal.returns-then-not-is_float
 unfolding is_stored_end
-returns-then-not-is_float c = rw (← c.is_float.ensures, not-true c.is_float.result c.if-not-is_float.true)
+returns-then-not-is_float c = rw (← c.is_float.ensures, c.if-not-is_float.true)
 
 pub returns-then-not-are_three : goal.returns-then-not-are_three
 unfolding is_stored_end
@@ -16,9 +16,9 @@ returns-then-not-are_three c =
     let k = c in
     rw (
       ← k.is_float.ensures,
-      not-false k.is_float.result k.if-not-is_float.false,
+      k.if-not-is_float.false,
       ← c.are_three.ensures,
-      not-true c.are_three.result c.if-not-are_three.true,
+      c.if-not-are_three.true,
     )
 
 pub returns : goal.returns
@@ -28,8 +28,8 @@ returns c =
     let j = k in
     rw (
       ← j.is_float.ensures,
-      not-false j.is_float.result j.if-not-is_float.false,
+      j.if-not-is_float.false,
       ← k.are_three.ensures,
-      not-false k.are_three.result k.if-not-are_three.false,
+      k.if-not-are_three.false,
     )
     c.are_three-2.ensures

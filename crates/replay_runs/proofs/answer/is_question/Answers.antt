@@ -8,7 +8,7 @@ use Rattle.replay_runs.proofs.answer.is_question.Goals as goal
 
 pub returns-then-not-is_timed : goal.returns-then-not-is_timed
 unfolding is_stored_question
-returns-then-not-is_timed c = rw (← c.is_timed.ensures, not-true c.is_timed.result c.if-not-is_timed.true)
+returns-then-not-is_timed c = rw (← c.is_timed.ensures, c.if-not-is_timed.true)
 
 pub returns-then-not-is_float : goal.returns-then-not-is_float
 unfolding is_stored_question
@@ -16,9 +16,9 @@ returns-then-not-is_float c =
     let k1 = c in
     rw (
       ← k1.is_timed.ensures,
-      not-false k1.is_timed.result k1.if-not-is_timed.false,
+      k1.if-not-is_timed.false,
       ← c.is_float.ensures,
-      not-true c.is_float.result c.if-not-is_float.true,
+      c.if-not-is_float.true,
     )
 
 pub returns : goal.returns
@@ -28,8 +28,8 @@ returns c =
     let k1 = k2 in
     rw (
       ← k1.is_timed.ensures,
-      not-false k1.is_timed.result k1.if-not-is_timed.false,
+      k1.if-not-is_timed.false,
       ← k2.is_float.ensures,
-      not-false k2.is_float.result k2.if-not-is_float.false,
+      k2.if-not-is_float.false,
     )
     c.are_floats.ensures

@@ -8,7 +8,7 @@ use Rattle.replay_runs.proofs.answer.is_refusal.Goals as goal
 
 pub returns-then-not-is_count : goal.returns-then-not-is_count
 unfolding is_stored_refusal
-returns-then-not-is_count c = rw (← c.is_count.ensures, not-true c.is_count.result c.if-not-is_count.true)
+returns-then-not-is_count c = rw (← c.is_count.ensures, c.if-not-is_count.true)
 
 pub returns : goal.returns
 unfolding is_stored_refusal
@@ -16,6 +16,6 @@ returns c =
     let k1 = c in
     rw (
       ← k1.is_count.ensures,
-      not-false k1.is_count.result k1.if-not-is_count.false,
+      k1.if-not-is_count.false,
     )
     c.is_float.ensures

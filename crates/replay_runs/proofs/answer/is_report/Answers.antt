@@ -8,7 +8,7 @@ use Rattle.replay_runs.proofs.answer.is_report.Goals as goal
 
 pub returns-then-not-is_float : goal.returns-then-not-is_float
 unfolding is_stored_report
-returns-then-not-is_float c = rw (← c.is_float.ensures, not-true c.is_float.result c.if-not-is_float.true)
+returns-then-not-is_float c = rw (← c.is_float.ensures, c.if-not-is_float.true)
 
 pub returns-then-not-is_float-2 : goal.returns-then-not-is_float-2
 unfolding is_stored_report
@@ -16,9 +16,9 @@ returns-then-not-is_float-2 c =
     let k1 = c in
     rw (
       ← k1.is_float.ensures,
-      not-false k1.is_float.result k1.if-not-is_float.false,
+      k1.if-not-is_float.false,
       ← c.is_float-2.ensures,
-      not-true c.is_float-2.result c.if-not-is_float-2.true,
+      c.if-not-is_float-2.true,
     )
 
 pub returns-then-not-is_count : goal.returns-then-not-is_count
@@ -28,11 +28,11 @@ returns-then-not-is_count c =
     let k1 = k2 in
     rw (
       ← k1.is_float.ensures,
-      not-false k1.is_float.result k1.if-not-is_float.false,
+      k1.if-not-is_float.false,
       ← k2.is_float-2.ensures,
-      not-false k2.is_float-2.result k2.if-not-is_float-2.false,
+      k2.if-not-is_float-2.false,
       ← c.is_count.ensures,
-      not-true c.is_count.result c.if-not-is_count.true,
+      c.if-not-is_count.true,
     )
 
 pub returns-then-not-is_count-2 : goal.returns-then-not-is_count-2
@@ -43,13 +43,13 @@ returns-then-not-is_count-2 c =
     let k1 = k2 in
     rw (
       ← k1.is_float.ensures,
-      not-false k1.is_float.result k1.if-not-is_float.false,
+      k1.if-not-is_float.false,
       ← k2.is_float-2.ensures,
-      not-false k2.is_float-2.result k2.if-not-is_float-2.false,
+      k2.if-not-is_float-2.false,
       ← k3.is_count.ensures,
-      not-false k3.is_count.result k3.if-not-is_count.false,
+      k3.if-not-is_count.false,
       ← c.is_count-2.ensures,
-      not-true c.is_count-2.result c.if-not-is_count-2.true,
+      c.if-not-is_count-2.true,
     )
 
 pub returns : goal.returns
@@ -61,12 +61,12 @@ returns c =
     let k1 = k2 in
     rw (
       ← k1.is_float.ensures,
-      not-false k1.is_float.result k1.if-not-is_float.false,
+      k1.if-not-is_float.false,
       ← k2.is_float-2.ensures,
-      not-false k2.is_float-2.result k2.if-not-is_float-2.false,
+      k2.if-not-is_float-2.false,
       ← k3.is_count.ensures,
-      not-false k3.is_count.result k3.if-not-is_count.false,
+      k3.if-not-is_count.false,
       ← k4.is_count-2.ensures,
-      not-false k4.is_count-2.result k4.if-not-is_count-2.false,
+      k4.if-not-is_count-2.false,
     )
     c.are_floats.ensures

@@ -11,7 +11,7 @@ use Rattle.replay_runs.proofs.answer.is_stored.Goals as goal
 
 pub returns-then-not-is_count : goal.returns-then-not-is_count
 unfolding is_stored_answer
-returns-then-not-is_count c = rw (← c.is_count.ensures, not-true c.is_count.result c.if-not-is_count.true)
+returns-then-not-is_count c = rw (← c.is_count.ensures, c.if-not-is_count.true)
 
 pub returns-then-r-lt100 : goal.returns-then-r-lt100
 unfolding is_stored_answer
@@ -19,7 +19,7 @@ returns-then-r-lt100 c =
     let k = c in
     rw (
       ← k.is_count.ensures,
-      not-false k.is_count.result k.if-not-is_count.false,
+      k.if-not-is_count.false,
       lt-ltb _ _ c.if-r-lt100.true,
     )
     c.is_refusal.ensures
@@ -32,7 +32,7 @@ returns-then-r-lt103 c =
     let a = k.args in
     rw (
       ← k.is_count.ensures,
-      not-false k.is_count.result k.if-not-is_count.false,
+      k.if-not-is_count.false,
       le-ltb _ _ l.if-r-lt100.false,
       lt-ltb _ _ c.if-r-lt103.true,
     )
@@ -48,7 +48,7 @@ returns-then-r-eq103 c =
     let a = k.args in
     rw (
       ← k.is_count.ensures,
-      not-false k.is_count.result k.if-not-is_count.false,
+      k.if-not-is_count.false,
       le-ltb _ _ m.if-r-lt100.false,
       le-ltb _ _ m.if-r-lt103.false,
       eq-eqb _ _ c.if-r-eq103.true,
@@ -65,7 +65,7 @@ returns c =
     let k = l in
     rw (
       ← k.is_count.ensures,
-      not-false k.is_count.result k.if-not-is_count.false,
+      k.if-not-is_count.false,
       le-ltb _ _ l.if-r-lt100.false,
       le-ltb _ _ l.if-r-lt103.false,
       ne_eqb _ _ c.if-r-eq103.false,

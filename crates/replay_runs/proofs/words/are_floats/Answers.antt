@@ -43,7 +43,7 @@ returns-then-not-is_float c =
     let l = c in
     let f = c.is_float in
     let one = f.ensures in
-    stopped _ _ _ l.loop-i.i _ (omega arith) (sym one ∙ not-true f.result c.if-not-is_float.true) l.loop-i.invariant.1
+    stopped _ _ _ l.loop-i.i _ (omega arith) (sym one ∙ c.if-not-is_float.true) l.loop-i.invariant.1
 
 pub loop-i-preserved : goal.loop-i-preserved
 loop-i-preserved c =
@@ -51,7 +51,7 @@ loop-i-preserved c =
     let f = c.is_float in
     let one = f.ensures in (
       l.loop-i.invariant.0,
-      onward _ _ _ l.loop-i.i _ (omega arith) (sym one ∙ not-false f.result c.if-not-is_float.false) l.loop-i.invariant.1,
+      onward _ _ _ l.loop-i.i _ (omega arith) (sym one ∙ c.if-not-is_float.false) l.loop-i.invariant.1,
     )
 
 pub returns : goal.returns

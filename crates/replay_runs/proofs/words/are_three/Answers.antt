@@ -8,7 +8,7 @@ use Rattle.replay_runs.proofs.words.are_three.Goals as goal
 
 pub returns-then-not-is_count : goal.returns-then-not-is_count
 unfolding are_stored_three
-returns-then-not-is_count c = rw (← c.is_count.ensures, not-true c.is_count.result c.if-not-is_count.true)
+returns-then-not-is_count c = rw (← c.is_count.ensures, c.if-not-is_count.true)
 
 pub returns-then-not-is_count-2 : goal.returns-then-not-is_count-2
 unfolding are_stored_three
@@ -16,9 +16,9 @@ returns-then-not-is_count-2 c =
     let k = c in
     rw (
       ← k.is_count.ensures,
-      not-false k.is_count.result k.if-not-is_count.false,
+      k.if-not-is_count.false,
       ← c.is_count-2.ensures,
-      not-true c.is_count-2.result c.if-not-is_count-2.true,
+      c.if-not-is_count-2.true,
     )
 
 pub returns : goal.returns
@@ -28,8 +28,8 @@ returns c =
     let j = k in
     rw (
       ← j.is_count.ensures,
-      not-false j.is_count.result j.if-not-is_count.false,
+      j.if-not-is_count.false,
       ← k.is_count-2.ensures,
-      not-false k.is_count-2.result k.if-not-is_count-2.false,
+      k.if-not-is_count-2.false,
     )
     c.is_count-3.ensures

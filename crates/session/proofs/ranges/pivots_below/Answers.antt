@@ -16,14 +16,14 @@ loop-k-init c = (omega arith, refl)
 pub returns-then-not-four_below : goal.returns-then-not-four_below
 returns-then-not-four_below c =
     let f = c in
-    let t = sym f.four_below.ensures ∙ not-true _ c.if-not-four_below.true in
+    let t = sym f.four_below.ensures ∙ c.if-not-four_below.true in
     run-fails _ 4 _ _ _ (omega arith) t f.loop-k.invariant.1
 
 pub loop-k-preserved : goal.loop-k-preserved
 loop-k-preserved c =
     let f = c in
     let l = f.loop-k in
-    let t = sym f.four_below.ensures ∙ not-false _ c.if-not-four_below.false in
+    let t = sym f.four_below.ensures ∙ c.if-not-four_below.false in
     let q : 4 * (l.k + 1) ≡ 4 * l.k + 4 = omega arith in
     (omega arith, rw q (run-again _ 4 _ _ _ (omega arith) t l.invariant.1))
 
