@@ -19,12 +19,13 @@ use Rattle.rules.specs.Rules.{start}
 use Rattle.rules.specs.Steps.{Step}
 use Rattle.rules.specs.Demands.{InEveryRun, AfterAll, NamedAt, Demand3At, replies_of, Demand1}
 use Rattle.rules.specs.Counts.{step_most, most_of, Counted, CountedAt}
+use Rattle.rules.proofs.Tracks.{Both}
 use Rattle.rules.proofs.Run.{start-whole}
 use Rattle.rules.proofs.Paths.{throughout-map, fed-holds, ended-within}
 use Rattle.rules.proofs.Few.{start-within}
 
 pub demand-3-tree : InEveryRun Demand3At
-demand-3-tree g a acc = throughout-map (λ p xs h. h.0) (start g a) [] (start-whole g acc a)
+demand-3-tree g a acc = throughout-map {P = Both g} (λ p xs h. h.0) (start g a) [] (start-whole g acc a)
 
 pub demand-3 : AfterAll Demand3At
 demand-3 g a acc rs = fed-holds (Demand3At g) g.s.n (start g a) [] (demand-3-tree g a acc) rs
@@ -46,7 +47,7 @@ demand-1 g a acc rs asked few =
 -- ---- the counts of a session
 
 pub counts-kept-tree : InEveryRun CountedAt
-counts-kept-tree g a acc = throughout-map (λ p xs h. h.1) (start g a) [] (start-whole g acc a)
+counts-kept-tree g a acc = throughout-map {P = Both g} (λ p xs h. h.1) (start g a) [] (start-whole g acc a)
 
 pub counts-kept : AfterAll CountedAt
 counts-kept g a acc rs = fed-holds (CountedAt g) g.s.n (start g a) [] (counts-kept-tree g a acc) rs

@@ -9,6 +9,7 @@ use native.Mathlib.Omega.{arith}
 use denote.Enum.Declared.{tag_of}
 use types.Run.{OneOf, miss}
 use borrow.Author.Rules.{rules}
+use borrow.Enum.Refused.{opened}
 use Rattle.between_steps.specs.declared.Kind.{Kind}
 use Rattle.between_steps.specs.declared.Kind.TheVariants.{Derivative, Jacobian, Report}
 use Rattle.between_steps.specs.Replies.{is_derivative, is_jacobian, is_answer}
@@ -81,26 +82,26 @@ returns-in-Jacobian c = rw (c.in-JacobianAsked.is, c.in-Jacobian.is)
 pub returns-in-Derivative : goal.returns-in-Derivative
 returns-in-Derivative c =
     let a = c.args in
-    rw c.in-JacobianAsked.is (sym (no-jacobian a.len a.n a.kind c.in-Derivative.keys2))
+    rw c.in-JacobianAsked.is (sym (no-jacobian a.len a.n a.kind (opened c.in-Derivative.in-Derivative-own.keys2)))
 
 pub returns-in-Report : goal.returns-in-Report
 returns-in-Report c =
     let a = c.args in
-    rw (answers a.len a.n a.phase a.kind c.in-FirstDerivative.keys3, c.in-Report.is)
+    rw (answers a.len a.n a.phase a.kind (opened c.in-FirstDerivative.in-FirstDerivative-own.keys3), c.in-Report.is)
 
 pub returns-in-Derivative-kind : goal.returns-in-Derivative-kind
 returns-in-Derivative-kind c =
     let a = c.args in
-    let waits = answers a.len a.n a.phase a.kind c.in-FirstDerivative.keys3 in
-    sym (waits ∙ no_answer a.len a.n a.kind c.in-Derivative-kind.keys2)
+    let waits = answers a.len a.n a.phase a.kind (opened c.in-FirstDerivative.in-FirstDerivative-own.keys3) in
+    sym (waits ∙ no_answer a.len a.n a.kind (opened c.in-Derivative-kind.in-Derivative-kind-own.keys2))
 
 pub returns-in-Derivative-kind-2 : goal.returns-in-Derivative-kind-2
 returns-in-Derivative-kind-2 c =
     let a = c.args in
-    rw (derivatives a.len a.n a.phase a.kind c.in-FirstDerivative.keys4, c.in-Derivative-kind-2.is)
+    rw (derivatives a.len a.n a.phase a.kind (opened c.in-FirstDerivative.in-FirstDerivative-own.keys4), c.in-Derivative-kind-2.is)
 
 pub returns-in-Jacobian-kind : goal.returns-in-Jacobian-kind
 returns-in-Jacobian-kind c =
     let a = c.args in
-    let waits = derivatives a.len a.n a.phase a.kind c.in-FirstDerivative.keys4 in
-    sym (waits ∙ no-derivative a.len a.n a.kind c.in-Jacobian-kind.keys2)
+    let waits = derivatives a.len a.n a.phase a.kind (opened c.in-FirstDerivative.in-FirstDerivative-own.keys4) in
+    sym (waits ∙ no-derivative a.len a.n a.kind (opened c.in-Jacobian-kind.in-Jacobian-kind-own.keys2))

@@ -3,6 +3,7 @@
 use mathlib.Core.Path.{sym, ap, ◌∙◌}
 use native.Mathlib.Omega.{arith}
 use borrow.Author.Rules.{rules}
+use borrow.Enum.Refused.{opened}
 use borrow.Author.Tests.{not-true, not-false}
 use Rattle.common.specs.State.{given, state}
 use Rattle.between_steps.specs.declared.Kind.{Kind}
@@ -18,7 +19,7 @@ pub returns-then-not-is_asked : goal.returns-then-not-is_asked
 returns-then-not-is_asked c =
     let i = c in
     let x = i.args in
-    sym (resume-unasked _ _ _ _ _ _ (sym i.is_asked.ensures ∙ c.if-not-is_asked.taken))
+    sym (resume-unasked _ _ _ _ _ _ (sym i.is_asked.ensures ∙ c.if-not-is_asked.true))
 
 pub first_derivative-requires : goal.first_derivative-requires
 first_derivative-requires c =
@@ -27,8 +28,8 @@ first_derivative-requires c =
     let a = e in
     let x = a.args in
     let i = e in
-    let yes = sym i.is_asked.ensures ∙ i.if-not-is_asked.left in
-    let r = held Phase.FirstDerivative _ t a.pre.1 in
+    let yes = sym i.is_asked.ensures ∙ i.if-not-is_asked.false in
+    let r = held Phase.FirstDerivative _ t a.requires.1 in
     let l = derivative-length _ _ x.kind (asked_in Phase.FirstDerivative x.kind _ _ t yes) in
     record { le_n = r.ranges.settings.n.0; list1or_n = r.relative; list1or_n_2 = r.absolute; f_len = l; n_in_bounds = omega (arith, r.lent.sized) }
 
@@ -39,8 +40,8 @@ after_first_report-requires c =
     let a = e in
     let x = a.args in
     let i = e in
-    let yes = sym i.is_asked.ensures ∙ i.if-not-is_asked.left in
-    let r = held Phase.FirstReport _ t a.pre.1 in
+    let yes = sym i.is_asked.ensures ∙ i.if-not-is_asked.false in
+    let r = held Phase.FirstReport _ t a.requires.1 in
     let l = answer-length _ _ x.kind (asked_in Phase.FirstReport x.kind _ _ t yes) in
     record { inside = inside-ranges r.ranges; y_len = l; n_in_bounds = omega (arith, r.lent.sized) }
 
@@ -51,8 +52,8 @@ first_modified-requires c =
     let a = e in
     let x = a.args in
     let i = e in
-    let yes = sym i.is_asked.ensures ∙ i.if-not-is_asked.left in
-    let r = held Phase.FirstModified _ t a.pre.1 in
+    let yes = sym i.is_asked.ensures ∙ i.if-not-is_asked.false in
+    let r = held Phase.FirstModified _ t a.requires.1 in
     let l = derivative-length _ _ x.kind (asked_in Phase.FirstModified x.kind _ _ t yes) in
     record { inside = inside-ranges r.ranges; f_len = l; n_in_bounds = omega (arith, r.lent.sized) }
 
@@ -63,8 +64,8 @@ opened_reply-requires c =
     let a = e in
     let x = a.args in
     let i = e in
-    let yes = sym i.is_asked.ensures ∙ i.if-not-is_asked.left in
-    let r = held Phase.Opened _ t a.pre.1 in
+    let yes = sym i.is_asked.ensures ∙ i.if-not-is_asked.false in
+    let r = held Phase.Opened _ t a.requires.1 in
     let l = derivative-length _ _ x.kind (asked_in Phase.Opened x.kind _ _ t yes) in
     record { inside = inside-ranges r.ranges; nje_bound = omega (arith, r.ranges.counts.nje); list1or_n = r.relative; list1or_n_2 = r.absolute; f_len = l; lent = r.lent }
 
@@ -75,8 +76,8 @@ jacobian_reply-requires c =
     let a = e in
     let x = a.args in
     let i = e in
-    let yes = sym i.is_asked.ensures ∙ i.if-not-is_asked.left in
-    let r = held Phase.JacobianAsked _ t a.pre.1 in
+    let yes = sym i.is_asked.ensures ∙ i.if-not-is_asked.false in
+    let r = held Phase.JacobianAsked _ t a.requires.1 in
     let l = jacobian-length _ _ x.kind (asked_in Phase.JacobianAsked x.kind _ _ t yes) in
     record { inside = inside-ranges r.ranges; nlu_bound = omega (arith, r.ranges.counts.nlu); list1or_n = r.relative; list1or_n_2 = r.absolute; f_len = l; lent = r.lent }
 
@@ -87,8 +88,8 @@ column_reply-requires c =
     let a = e in
     let x = a.args in
     let i = e in
-    let yes = sym i.is_asked.ensures ∙ i.if-not-is_asked.left in
-    let r = held Phase.DifferenceColumn _ t a.pre.1 in
+    let yes = sym i.is_asked.ensures ∙ i.if-not-is_asked.false in
+    let r = held Phase.DifferenceColumn _ t a.requires.1 in
     let l = derivative-length _ _ x.kind (asked_in Phase.DifferenceColumn x.kind _ _ t yes) in
     record { inside = inside-ranges r.ranges; nlu_bound = omega (arith, r.ranges.counts.nlu); list1or_n = r.relative; list1or_n_2 = r.absolute; f_len = l; lent = r.lent }
 
@@ -99,8 +100,8 @@ further_reply-requires c =
     let a = e in
     let x = a.args in
     let i = e in
-    let yes = sym i.is_asked.ensures ∙ i.if-not-is_asked.left in
-    let r = held Phase.FurtherDerivative _ t a.pre.1 in
+    let yes = sym i.is_asked.ensures ∙ i.if-not-is_asked.false in
+    let r = held Phase.FurtherDerivative _ t a.requires.1 in
     let l = derivative-length _ _ x.kind (asked_in Phase.FurtherDerivative x.kind _ _ t yes) in
     record { inside = inside-ranges r.ranges; list1or_n = r.relative; list1or_n_2 = r.absolute; f_len = l; lent = r.lent }
 
@@ -111,8 +112,8 @@ restep_reply-requires c =
     let a = e in
     let x = a.args in
     let i = e in
-    let yes = sym i.is_asked.ensures ∙ i.if-not-is_asked.left in
-    let r = held Phase.Restep _ t a.pre.1 in
+    let yes = sym i.is_asked.ensures ∙ i.if-not-is_asked.false in
+    let r = held Phase.Restep _ t a.requires.1 in
     let l = derivative-length _ _ x.kind (asked_in Phase.Restep x.kind _ _ t yes) in
     record { inside = inside-ranges r.ranges; f_len = l; n_in_bounds = omega (arith, r.lent.sized) }
 
@@ -123,8 +124,8 @@ after_report-requires c =
     let a = e in
     let x = a.args in
     let i = e in
-    let yes = sym i.is_asked.ensures ∙ i.if-not-is_asked.left in
-    let r = held Phase.Report _ t a.pre.1 in
+    let yes = sym i.is_asked.ensures ∙ i.if-not-is_asked.false in
+    let r = held Phase.Report _ t a.requires.1 in
     let l = answer-length _ _ x.kind (asked_in Phase.Report x.kind _ _ t yes) in
     record { inside = inside-ranges r.ranges; y_len = l; n_in_bounds = omega (arith, r.lent.sized) }
 
@@ -135,8 +136,8 @@ modified-requires c =
     let a = e in
     let x = a.args in
     let i = e in
-    let yes = sym i.is_asked.ensures ∙ i.if-not-is_asked.left in
-    let r = held Phase.Modified _ t a.pre.1 in
+    let yes = sym i.is_asked.ensures ∙ i.if-not-is_asked.false in
+    let r = held Phase.Modified _ t a.requires.1 in
     let l = derivative-length _ _ x.kind (asked_in Phase.Modified x.kind _ _ t yes) in
     record { inside = inside-ranges r.ranges; f_len = l; n_in_bounds = omega (arith, r.lent.sized) }
 
@@ -145,7 +146,7 @@ unfolding resume_at
 returns-in-FirstDerivative c =
     let e = c in
     let i = e in
-    let yes = sym i.is_asked.ensures ∙ i.if-not-is_asked.left in
+    let yes = sym i.is_asked.ensures ∙ i.if-not-is_asked.false in
     c.first_derivative.ensures _
     ∙ sym (resume-asked _ _ _ _ _ _ Phase.FirstDerivative e.in-FirstDerivative.is yes)
 
@@ -155,7 +156,7 @@ returns-in-Report-kind c =
     let e = c in
     let i = e in
     let x = e.args in
-    let yes = sym i.is_asked.ensures ∙ i.if-not-is_asked.left in
+    let yes = sym i.is_asked.ensures ∙ i.if-not-is_asked.false in
     let g = given x.x.settings x.rtol.now x.atol.now in
     let st = state x.x.common x.work.now x.ipiv.now in
     c.after_first_report.ensures _
@@ -169,11 +170,11 @@ returns-in-Derivative c =
     let e = c in
     let i = e in
     let x = e.args in
-    let yes = sym i.is_asked.ensures ∙ i.if-not-is_asked.left in
+    let yes = sym i.is_asked.ensures ∙ i.if-not-is_asked.false in
     let g = given x.x.settings x.rtol.now x.atol.now in
     let st = state x.x.common x.work.now x.ipiv.now in
     ap (λ (p : Phase). unasked p st) e.in-FirstReport.is
-    ∙ sym (first-unasked g st x.reply.now x.time x.kind c.in-Derivative.keys2)
+    ∙ sym (first-unasked g st x.reply.now x.time x.kind (opened c.in-Derivative.in-Derivative-own.keys2))
     ∙ sym (resume-asked _ _ _ _ _ _ Phase.FirstReport e.in-FirstReport.is yes)
 
 pub returns-in-FirstModified : goal.returns-in-FirstModified
@@ -181,7 +182,7 @@ unfolding resume_at
 returns-in-FirstModified c =
     let e = c in
     let i = e in
-    let yes = sym i.is_asked.ensures ∙ i.if-not-is_asked.left in
+    let yes = sym i.is_asked.ensures ∙ i.if-not-is_asked.false in
     c.first_modified_run.ensures _
     ∙ sym (resume-asked _ _ _ _ _ _ Phase.FirstModified e.in-FirstModified.is yes)
 
@@ -190,7 +191,7 @@ unfolding resume_at
 returns-in-Opened c =
     let e = c in
     let i = e in
-    let yes = sym i.is_asked.ensures ∙ i.if-not-is_asked.left in
+    let yes = sym i.is_asked.ensures ∙ i.if-not-is_asked.false in
     c.opened_reply.ensures
     ∙ sym (resume-asked _ _ _ _ _ _ Phase.Opened e.in-Opened.is yes)
 
@@ -199,7 +200,7 @@ unfolding resume_at
 returns-in-JacobianAsked c =
     let e = c in
     let i = e in
-    let yes = sym i.is_asked.ensures ∙ i.if-not-is_asked.left in
+    let yes = sym i.is_asked.ensures ∙ i.if-not-is_asked.false in
     c.jacobian_reply.ensures
     ∙ sym (resume-asked _ _ _ _ _ _ Phase.JacobianAsked e.in-JacobianAsked.is yes)
 
@@ -208,7 +209,7 @@ unfolding resume_at
 returns-in-DifferenceColumn c =
     let e = c in
     let i = e in
-    let yes = sym i.is_asked.ensures ∙ i.if-not-is_asked.left in
+    let yes = sym i.is_asked.ensures ∙ i.if-not-is_asked.false in
     c.column_reply.ensures
     ∙ sym (resume-asked _ _ _ _ _ _ Phase.DifferenceColumn e.in-DifferenceColumn.is yes)
 
@@ -217,7 +218,7 @@ unfolding resume_at
 returns-in-FurtherDerivative c =
     let e = c in
     let i = e in
-    let yes = sym i.is_asked.ensures ∙ i.if-not-is_asked.left in
+    let yes = sym i.is_asked.ensures ∙ i.if-not-is_asked.false in
     c.further_reply.ensures
     ∙ sym (resume-asked _ _ _ _ _ _ Phase.FurtherDerivative e.in-FurtherDerivative.is yes)
 
@@ -226,7 +227,7 @@ unfolding resume_at
 returns-in-Restep c =
     let e = c in
     let i = e in
-    let yes = sym i.is_asked.ensures ∙ i.if-not-is_asked.left in
+    let yes = sym i.is_asked.ensures ∙ i.if-not-is_asked.false in
     c.restep_reply.ensures _
     ∙ sym (resume-asked _ _ _ _ _ _ Phase.Restep e.in-Restep.is yes)
 
@@ -236,7 +237,7 @@ returns-in-Report-kind-2 c =
     let e = c in
     let i = e in
     let x = e.args in
-    let yes = sym i.is_asked.ensures ∙ i.if-not-is_asked.left in
+    let yes = sym i.is_asked.ensures ∙ i.if-not-is_asked.false in
     let g = given x.x.settings x.rtol.now x.atol.now in
     let st = state x.x.common x.work.now x.ipiv.now in
     c.after_report.ensures _
@@ -250,11 +251,11 @@ returns-in-Derivative-kind c =
     let e = c in
     let i = e in
     let x = e.args in
-    let yes = sym i.is_asked.ensures ∙ i.if-not-is_asked.left in
+    let yes = sym i.is_asked.ensures ∙ i.if-not-is_asked.false in
     let g = given x.x.settings x.rtol.now x.atol.now in
     let st = state x.x.common x.work.now x.ipiv.now in
     ap (λ (p : Phase). unasked p st) e.in-Report.is
-    ∙ sym (report-unasked g st x.reply.now x.time x.kind c.in-Derivative-kind.keys2)
+    ∙ sym (report-unasked g st x.reply.now x.time x.kind (opened c.in-Derivative-kind.in-Derivative-kind-own.keys2))
     ∙ sym (resume-asked _ _ _ _ _ _ Phase.Report e.in-Report.is yes)
 
 pub returns-in-Modified : goal.returns-in-Modified
@@ -262,7 +263,7 @@ unfolding resume_at
 returns-in-Modified c =
     let e = c in
     let i = e in
-    let yes = sym i.is_asked.ensures ∙ i.if-not-is_asked.left in
+    let yes = sym i.is_asked.ensures ∙ i.if-not-is_asked.false in
     c.modified.ensures _
     ∙ sym (resume-asked _ _ _ _ _ _ Phase.Modified e.in-Modified.is yes)
 
@@ -272,7 +273,7 @@ returns-in-Finished c =
     let e = c in
     let i = e in
     let x = e.args in
-    let yes = sym i.is_asked.ensures ∙ i.if-not-is_asked.left in
+    let yes = sym i.is_asked.ensures ∙ i.if-not-is_asked.false in
     let st = state x.x.common x.work.now x.ipiv.now in
     ap (λ (p : Phase). unasked p st) e.in-Finished.is
     ∙ sym (resume-asked _ _ _ _ _ _ Phase.Finished e.in-Finished.is yes)

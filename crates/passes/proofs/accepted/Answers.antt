@@ -7,6 +7,7 @@ use native.Mathlib.Omega.{arith}
 use denote.Enum.Declared.{tag_of}
 use types.Run.{OneOf, miss}
 use borrow.Author.Rules.{rules}
+use borrow.Enum.Refused.{opened}
 use Rattle.common.specs.State.{Given, State}
 use Rattle.acceptance.specs.declared.Branch.{Branch}
 use Rattle.acceptance.specs.declared.Branch.TheVariants.{Unchanged, SmallGain, Lowered, Kept as KeptOrder, Raised}
@@ -59,5 +60,5 @@ pub returns-in-Unchanged : goal.returns-in-Unchanged
 unfolding accepted_of
 returns-in-Unchanged c p =
     rw (← c.accept-chosen.ensures)
-    (c.End-step.ensures p
-    ∙ sym (closes _ _ _ _ c.in-Unchanged.keys2))
+    (c.end_step.ensures p
+    ∙ sym (closes _ _ _ _ (opened c.in-Unchanged.in-Unchanged-own.keys2)))

@@ -2,12 +2,12 @@
 -- Assumes nothing.
 use mathlib.Core.Path.{◌≡◌}
 use mathlib.Core.Bool.{false}
-use mathlib.Core.Logic.{⊎_elim}
 use native.Mathlib.Omega.{arith}
 use borrow.Author.Rules.{rules}
 use Rattle.jacobian.specs.Jacobian.{is_supplied, begin_of}
 use Rattle.passes.specs.Pass.{ask_jacobian_of, ask_jacobian_at}
 use Rattle.passes.proofs.ask_jacobian.Goals as goal
+use Rattle.passes.proofs.ask_jacobian.Goals.{then-is_bdf+else-supplied, else-is_bdf}
 
 pub returns-then-supplied : goal.returns-then-supplied
 unfolding ask_jacobian_of ask_jacobian_at begin_of
@@ -20,10 +20,7 @@ unfolding begin_of
 ask_column-requires c =
     let b = c in
     let p = b.requires.inside in
-    rw b.begin_jacobian-d.ensures (
-      (p.settings.n.1, p.settings.n.0),
-      ((p.counts.0, p.counts.1), omega arith),
-    )
+    rw b.begin_jacobian-d.ensures record { n_le_max_states = (p.settings.n.1, p.settings.n.0); nfe_bound = (p.counts.0, p.counts.1); n_in_bounds = omega arith }
 
 pub returns : goal.returns
 unfolding ask_jacobian_of ask_jacobian_at
@@ -32,7 +29,10 @@ returns c p =
     let a = i.args in
     let b = i.is_bdf.ensures in
     let none : is_supplied a.s a.c ≡ false =
-    ⊎_elim (λ w. rw (← b, w.0.taken, w.1.left)) (λ w. rw (← b, w.left)) i.if-is_bdf.branch
+    elim i.if-is_bdf.branch [
+      | then-is_bdf+else-supplied w ↦ rw (← b, w.if-is_bdf.true, w.if-supplied.false)
+      | else-is_bdf w ↦ rw (← b, w.if-is_bdf.false)
+    ]
     in
     rw (
       none,

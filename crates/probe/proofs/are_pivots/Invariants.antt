@@ -1,15 +1,11 @@
 -- `are_pivots` meets its contract. The invariant: the pivots that are left decide the whole, and each one passed is
 -- below n.
 -- Assumes nothing.
-use Prim.Native.Nat.{ℕ, ◌+◌, ◌-◌, ◌<◌}
-use mathlib.Core.Path.{◌≡◌, refl, sym, ◌∙◌}
-use mathlib.Core.Bool.{true, false, false≢true}
-use native.Mathlib.Omega.{arith}
+use Prim.Native.Nat.{ℕ, ◌<◌}
+use mathlib.Core.Path.{◌≡◌}
+use mathlib.Core.Bool.{true}
 use lib.ListN.{get_or}
-use borrow.Author.Count.{below_none, below_more}
-use borrow.Author.Tests.{lt-ltb, le-ltb}
 use Rattle.loops.specs.For.{for}
-use Rattle.loops.proofs.For.{onward, ended, stays}
 use Rattle.probe.specs.Leaves.{pivot_at, are_pivots}
 use Rattle.probe.proofs.are_pivots.Given as goal
 

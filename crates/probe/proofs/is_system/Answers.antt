@@ -2,8 +2,7 @@
 -- Assumes nothing.
 use Prim.Native.Nat.{◌+◌}
 use native.Mathlib.Omega.{arith}
-use borrow.Author.Rules.{rules}
-use borrow.Author.Tests.{le-leb, lt-leb, not-true, not-false}
+use borrow.Author.Tests.{le-leb, lt-leb}
 use Rattle.probe.specs.Leaves.{is_system}
 use Rattle.probe.proofs.is_system.Goals as goal
 
@@ -16,18 +15,16 @@ returns-then-len-a c =
 pub returns-then-not-is_matrix : goal.returns-then-not-is_matrix
 unfolding is_system
 returns-then-not-is_matrix c =
-    let m = c in
-    let a = m.args in
-    rw (le-leb a.a a.len (omega arith), ← m.is_matrix.ensures, c.if-not-is_matrix.true)
+    let a = c.args in
+    rw (le-leb a.a a.len (omega arith), ← c.is_matrix.ensures, c.if-not-is_matrix.true)
 
 pub returns-then-a-n : goal.returns-then-a-n
 unfolding is_system
 returns-then-a-n c =
-    let m = c in
-    let a = m.args in
+    let a = c.args in
     rw (
       le-leb a.a a.len (omega arith),
-      ← m.is_matrix.ensures,
+      ← c.is_matrix.ensures,
       c.if-not-is_matrix.false,
       lt-leb (a.b + a.n) a.a (omega arith),
     )
@@ -35,11 +32,10 @@ returns-then-a-n c =
 pub returns-then-a-n-2 : goal.returns-then-a-n-2
 unfolding is_system
 returns-then-a-n-2 c =
-    let m = c in
-    let a = m.args in
+    let a = c.args in
     rw (
       le-leb a.a a.len (omega arith),
-      ← m.is_matrix.ensures,
+      ← c.is_matrix.ensures,
       c.if-not-is_matrix.false,
       lt-leb (a.b + a.n) a.a (omega arith),
     )
@@ -47,11 +43,10 @@ returns-then-a-n-2 c =
 pub returns : goal.returns
 unfolding is_system
 returns c =
-    let m = c in
-    let a = m.args in
+    let a = c.args in
     rw (
       le-leb a.a a.len (omega arith),
-      ← m.is_matrix.ensures,
+      ← c.is_matrix.ensures,
       c.if-not-is_matrix.false,
       le-leb (a.b + a.n) a.a (omega arith),
     )

@@ -1,7 +1,5 @@
 -- `is_weighed` meets its contract: each way returns what `is_weighed` says under the tests that led there.
 -- Assumes nothing.
-use borrow.Author.Rules.{rules}
-use borrow.Author.Tests.{not-true, not-false}
 use Rattle.probe.specs.Leaves.{is_weighed}
 use Rattle.probe.proofs.is_weighed.Goals as goal
 
@@ -12,10 +10,9 @@ returns-then-not-is_list c = rw (← c.is_list.ensures, c.if-not-is_list.true)
 pub returns-then-not-is_list-2 : goal.returns-then-not-is_list-2
 unfolding is_weighed
 returns-then-not-is_list-2 c =
-    let w = c in
     rw (
-      ← w.is_list.ensures,
-      w.if-not-is_list.false,
+      ← c.is_list.ensures,
+      c.if-not-is_list.false,
       ← c.is_list-2.ensures,
       c.if-not-is_list-2.true,
     )
@@ -23,12 +20,10 @@ returns-then-not-is_list-2 c =
 pub returns : goal.returns
 unfolding is_weighed
 returns c =
-    let v = c in
-    let w = v in
     rw (
-      ← w.is_list.ensures,
-      w.if-not-is_list.false,
-      ← v.is_list-2.ensures,
-      v.if-not-is_list-2.false,
+      ← c.is_list.ensures,
+      c.if-not-is_list.false,
+      ← c.is_list-2.ensures,
+      c.if-not-is_list-2.false,
     )
     c.is_behind.ensures

@@ -2,7 +2,6 @@
 -- Assumes nothing.
 use mathlib.Core.Path.{sym, ◌∙◌}
 use native.Mathlib.Omega.{arith}
-use borrow.Author.Rules.{rules}
 use Rattle.probe.specs.Probe.{cm1_or_nan}
 use Rattle.probe.proofs.Order.{order-within}
 use Rattle.probe.proofs.probe_cm1.Goals as goal

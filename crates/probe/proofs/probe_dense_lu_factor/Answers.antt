@@ -1,8 +1,6 @@
 -- `probe_dense_lu_factor` meets its contract: each way returns what `factor_left` says under the tests that led there.
 -- Assumes nothing.
 use mathlib.Core.Path.{sym, ◌∙◌}
-use borrow.Author.Rules.{rules}
-use borrow.Author.Tests.{not-true, not-false}
 use Rattle.probe.specs.Leaves.{factor_left}
 use Rattle.probe.proofs.Sizes.{matrix-fits}
 use Rattle.probe.proofs.probe_dense_lu_factor.Goals as goal
@@ -13,18 +11,15 @@ returns-then-not-is_matrix c = rw (← c.is_matrix.ensures, c.if-not-is_matrix.t
 
 pub dense_lu_factor-requires : goal.dense_lu_factor-requires
 dense_lu_factor-requires c =
-    let m = c in
-    matrix-fits _ _ _ (sym m.is_matrix.ensures ∙ c.if-not-is_matrix.false)
+    matrix-fits _ _ _ (sym c.is_matrix.ensures ∙ c.if-not-is_matrix.false)
 
 pub returns-in-Done : goal.returns-in-Done
 unfolding factor_left
 returns-in-Done c =
-    let f = c in
-    let m = f in
-    let e = f.dense_lu_factor.ensures in
+    let e = c.dense_lu_factor.ensures in
     rw (
-      ← m.is_matrix.ensures,
-      f.if-not-is_matrix.false,
+      ← c.is_matrix.ensures,
+      c.if-not-is_matrix.false,
       ← e.2,
       c.in-Done.is,
       e.0,
@@ -34,12 +29,10 @@ returns-in-Done c =
 pub returns-in-Singular : goal.returns-in-Singular
 unfolding factor_left
 returns-in-Singular c =
-    let f = c in
-    let m = f in
-    let e = f.dense_lu_factor.ensures in
+    let e = c.dense_lu_factor.ensures in
     rw (
-      ← m.is_matrix.ensures,
-      f.if-not-is_matrix.false,
+      ← c.is_matrix.ensures,
+      c.if-not-is_matrix.false,
       ← e.2,
       c.in-Singular.is,
       e.0,

@@ -1,44 +1,37 @@
 -- `probe_dense_lu_solve` meets its contract: each way returns what `solve_left` says under the tests that led there.
 -- Assumes nothing.
+use Prim.Native.Nat.{ℕ}
 use mathlib.Core.Path.{◌≡◌, sym, ◌∙◌}
-use borrow.Author.Rules.{rules}
-use borrow.Author.Tests.{not-true, not-false}
-use Rattle.dense.specs.Solve.{solve_of}
-use Rattle.probe.specs.Leaves.{work_left, outcome_number, solve_left}
+use mathlib.Core.Bool.{true}
+use mathlib.Core.List.{List}
+use lib.ListN.{length}
+use lib.Ieee.{Float}
+use Rattle.dense.specs.declared.Outcome.{Outcome}
+use Rattle.dense.specs.Solve.{solve_of, outcome_of}
+use Rattle.probe.specs.Leaves.{is_system, are_pivots, work_left, outcome_number, solve_left}
 use Rattle.probe.proofs.Sizes.{system-fits}
 use Rattle.probe.proofs.probe_dense_lu_solve.Goals as goal
 
-solved : (s : goal.After-dense_lu_solve) →
-    let a = s.args in
-    solve_left a.n a.a a.ipiv.now a.b a.work.now
-    ≡ work_left (outcome_number s.dense_lu_solve.result)
-    (solve_of a.n a.a a.ipiv.now a.b a.work.now).work
+-- under both tests, what is left where the solving gives the outcome r
+solved : (n a : ℕ) (ipiv : List ℕ) (b : ℕ) (work : List Float) {r : Outcome}
+    → is_system n a b (length work) (length ipiv) ≡ true → are_pivots n ipiv ≡ true
+    → r ≡ outcome_of (solve_of n a ipiv b work).ok
+    → solve_left n a ipiv b work ≡ work_left (outcome_number r) (solve_of n a ipiv b work).work
 unfolding solve_left
-solved s =
-    let p = s in
-    let m = p in
-    rw (
-      ← m.is_system.ensures,
-      p.if-not-is_system.false,
-      ← p.are_pivots.ensures.0,
-      s.if-not-are_pivots.false,
-      ← s.dense_lu_solve.ensures.1,
-    )
+solved n a ipiv b work fits below is = rw (fits, below, ← is)
 
 pub returns-then-not-is_system : goal.returns-then-not-is_system
 unfolding solve_left
 returns-then-not-is_system c = rw (← c.is_system.ensures, c.if-not-is_system.true)
 
 pub are_pivots-requires : goal.are_pivots-requires
-are_pivots-requires c =
-    (system-fits _ _ _ _ _ (sym c.is_system.ensures ∙ c.if-not-is_system.false)).2
+are_pivots-requires c = (system-fits _ _ _ _ _ (sym c.is_system.ensures ∙ c.if-not-is_system.false)).2
 
 pub returns-then-not-are_pivots : goal.returns-then-not-are_pivots
 unfolding solve_left
 returns-then-not-are_pivots c =
-    let m = c in
     rw (
-      ← m.is_system.ensures,
+      ← c.is_system.ensures,
       c.if-not-is_system.false,
       ← c.are_pivots.ensures.0,
       c.if-not-are_pivots.true,
@@ -46,17 +39,27 @@ returns-then-not-are_pivots c =
 
 pub dense_lu_solve-requires : goal.dense_lu_solve-requires
 dense_lu_solve-requires c =
-    let p = c in
-    let m = p in
-    let fits = system-fits _ _ _ _ _ (sym m.is_system.ensures ∙ p.if-not-is_system.false) in
-    record { n_bound = fits; by_index = p.are_pivots.ensures.1 (c.if-not-are_pivots.false) }
+    let fits = system-fits _ _ _ _ _ (sym c.is_system.ensures ∙ c.if-not-is_system.false) in
+    record { n_bound = fits; by_index = c.are_pivots.ensures.1 (c.if-not-are_pivots.false) }
 
 pub returns-in-Done : goal.returns-in-Done
 returns-in-Done c =
-    let s = c in
-    rw (solved s, c.in-Done.is, s.dense_lu_solve.ensures.0)
+    let a = c.args in
+    let fits = sym c.is_system.ensures ∙ c.if-not-is_system.false in
+    let below = sym c.are_pivots.ensures.0 ∙ c.if-not-are_pivots.false in
+    rw (
+      solved a.n a.a a.ipiv.now a.b a.work.now fits below c.dense_lu_solve.ensures.1,
+      c.in-Done.is,
+      c.dense_lu_solve.ensures.0,
+    )
 
 pub returns-in-Singular : goal.returns-in-Singular
 returns-in-Singular c =
-    let s = c in
-    rw (solved s, c.in-Singular.is, s.dense_lu_solve.ensures.0)
+    let a = c.args in
+    let fits = sym c.is_system.ensures ∙ c.if-not-is_system.false in
+    let below = sym c.are_pivots.ensures.0 ∙ c.if-not-are_pivots.false in
+    rw (
+      solved a.n a.a a.ipiv.now a.b a.work.now fits below c.dense_lu_solve.ensures.1,
+      c.in-Singular.is,
+      c.dense_lu_solve.ensures.0,
+    )

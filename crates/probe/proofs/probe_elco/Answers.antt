@@ -2,7 +2,6 @@
 -- Assumes nothing.
 use mathlib.Core.Path.{sym, ◌∙◌}
 use native.Mathlib.Omega.{arith}
-use borrow.Author.Rules.{rules}
 use borrow.Author.Tests.{le-leb, lt-leb}
 use Rattle.probe.specs.Probe.{elco_or_nan}
 use Rattle.probe.proofs.Order.{order-within}
@@ -24,12 +23,11 @@ elco-requires c = omega (arith, order-within _ _ (sym c.is_order.ensures ∙ c.i
 pub returns-then-is_order : goal.returns-then-is_order
 unfolding elco_or_nan
 returns-then-is_order c =
-    let w = c in
-    let a = w.args in
+    let a = c.args in
     rw (
       le-leb a.table 2 (omega arith),
       le-leb a.i 12 (omega arith),
-      ← w.is_order.ensures,
+      ← c.is_order.ensures,
       c.if-is_order.true,
     )
     c.elco.ensures
@@ -37,12 +35,11 @@ returns-then-is_order c =
 pub returns : goal.returns
 unfolding elco_or_nan
 returns c =
-    let w = c in
-    let a = w.args in
+    let a = c.args in
     rw (
       c.not_a_number-2.ensures,
       le-leb a.table 2 (omega arith),
       le-leb a.i 12 (omega arith),
-      ← w.is_order.ensures,
+      ← c.is_order.ensures,
       c.if-is_order.false,
     )

@@ -1,7 +1,6 @@
 -- `probe_ewset` meets its contract: each way returns what `ewset_left` says under the tests that led there.
 -- Assumes nothing.
 use mathlib.Core.Path.{sym, ◌∙◌}
-use borrow.Author.Rules.{rules}
 use Rattle.probe.specs.Leaves.{ewset_left}
 use Rattle.probe.proofs.Sizes.{list-serves, behind-fits, weighed-fits}
 use Rattle.probe.proofs.probe_ewset.Goals as goal
@@ -10,13 +9,16 @@ pub ewset-requires : goal.ewset-requires
 ewset-requires c =
     let a = c.args in
     let p = weighed-fits _ _ _ _ _ (sym c.is_weighed.ensures ∙ c.if-is_weighed.true) in
-    record { list1or_n = list-serves a.n a.rtol.now p.0; list1or_n_2 = list-serves a.n a.atol.now p.1; n_le_at = behind-fits _ _ _ p.2 }
+    record {
+      list1or_n = list-serves a.n a.rtol.now p.0;
+      list1or_n_2 = list-serves a.n a.atol.now p.1;
+      n_le_at = behind-fits _ _ _ p.2;
+    }
 
 pub returns-then-is_weighed : goal.returns-then-is_weighed
 unfolding ewset_left
 returns-then-is_weighed c =
-    let e = c in
-    rw (← e.is_weighed.ensures, e.if-is_weighed.true, e.ewset.ensures)
+    rw (← c.is_weighed.ensures, c.if-is_weighed.true, c.ewset.ensures)
 
 pub returns : goal.returns
 unfolding ewset_left

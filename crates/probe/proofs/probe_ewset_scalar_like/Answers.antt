@@ -2,7 +2,6 @@
 -- there.
 -- Assumes nothing.
 use mathlib.Core.Path.{sym, ◌∙◌}
-use borrow.Author.Rules.{rules}
 use Rattle.probe.specs.Leaves.{ewset_like_left}
 use Rattle.probe.proofs.Sizes.{behind-fits}
 use Rattle.probe.proofs.probe_ewset_scalar_like.Goals as goal
@@ -14,8 +13,7 @@ ewset_scalar_like-requires c =
 pub returns-then-is_behind : goal.returns-then-is_behind
 unfolding ewset_like_left
 returns-then-is_behind c =
-    let e = c in
-    rw (← e.is_behind.ensures, e.if-is_behind.true, e.ewset_scalar_like.ensures)
+    rw (← c.is_behind.ensures, c.if-is_behind.true, c.ewset_scalar_like.ensures)
 
 pub returns : goal.returns
 unfolding ewset_like_left

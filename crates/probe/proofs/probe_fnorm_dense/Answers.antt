@@ -1,7 +1,6 @@
 -- `probe_fnorm_dense` meets its contract: each way returns what `fnorm_or_nan` says under the tests that led there.
 -- Assumes nothing.
 use mathlib.Core.Path.{sym, ◌∙◌}
-use borrow.Author.Rules.{rules}
 use Rattle.probe.specs.Leaves.{fnorm_or_nan}
 use Rattle.probe.proofs.Sizes.{matrix-fits}
 use Rattle.probe.proofs.probe_fnorm_dense.Goals as goal

@@ -1,6 +1,5 @@
 -- `probe_invert_weights` meets its contract: each arm returns what `index_of` says of its outcome.
 -- Assumes nothing.
-use borrow.Author.Rules.{rules}
 use Rattle.probe.proofs.probe_invert_weights.Goals as goal
 
 pub returns-in-Inverted : goal.returns-in-Inverted

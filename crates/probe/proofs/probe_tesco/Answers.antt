@@ -2,7 +2,6 @@
 -- Assumes nothing.
 use mathlib.Core.Path.{sym, ◌∙◌}
 use native.Mathlib.Omega.{arith}
-use borrow.Author.Rules.{rules}
 use borrow.Author.Tests.{le-leb, lt-leb}
 use Rattle.probe.specs.Probe.{tesco_or_nan}
 use Rattle.probe.proofs.Order.{order-within}
@@ -24,20 +23,18 @@ tesco-requires c = omega (arith, order-within _ _ (sym c.is_order.ensures ∙ c.
 pub returns-then-is_order : goal.returns-then-is_order
 unfolding tesco_or_nan
 returns-then-is_order c =
-    let w = c in
-    let a = w.args in
-    rw (le-leb a.table 2 (omega arith), le-leb a.i 2 (omega arith), ← w.is_order.ensures, c.if-is_order.true)
+    let a = c.args in
+    rw (le-leb a.table 2 (omega arith), le-leb a.i 2 (omega arith), ← c.is_order.ensures, c.if-is_order.true)
     c.tesco.ensures
 
 pub returns : goal.returns
 unfolding tesco_or_nan
 returns c =
-    let w = c in
-    let a = w.args in
+    let a = c.args in
     rw (
       c.not_a_number-2.ensures,
       le-leb a.table 2 (omega arith),
       le-leb a.i 2 (omega arith),
-      ← w.is_order.ensures,
+      ← c.is_order.ensures,
       c.if-is_order.false,
     )

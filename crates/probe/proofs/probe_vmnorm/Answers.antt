@@ -1,6 +1,5 @@
 -- `probe_vmnorm` meets its contract: each way returns what `vmnorm_or_nan` says under the tests that led there.
 -- Assumes nothing.
-use borrow.Author.Rules.{rules}
 use borrow.Author.Tests.{le-leb, lt-leb}
 use Rattle.probe.specs.Leaves.{vmnorm_or_nan}
 use Rattle.probe.proofs.probe_vmnorm.Goals as goal

@@ -6,6 +6,7 @@ use Prim.Native.Nat.{◌-◌}
 use mathlib.Core.Path.{◌≡◌, refl}
 use denote.Enum.Declared.{tag_of}
 use borrow.Author.Rules.{rules}
+use borrow.Enum.Refused.{opened}
 use types.Run.{OneOf, miss}
 use Rattle.questions.specs.declared.Question.{Question}
 use Rattle.questions.specs.declared.Question.TheVariants as Question
@@ -24,4 +25,4 @@ others (Question.WeightRefused i) h = refl
 others Question.Unasked h = absurd (miss (0 ∷ 1 ∷ 2 ∷ 3 ∷ 4 ∷ 5 ∷ 6 ∷ []) 7 tt h)
 
 pub returns-in-Derivative : goal.returns-in-Derivative
-returns-in-Derivative c = others c.args.q c.in-Derivative.keys2
+returns-in-Derivative c = others c.args.q (opened c.in-Derivative.in-Derivative-own.keys2)

@@ -4,6 +4,7 @@ use mathlib.Core.Path.{◌≡◌, refl, sym}
 use denote.Enum.Declared.{tag_of}
 use lib.Ieee.{Float}
 use borrow.Author.Rules.{rules}
+use borrow.Enum.Refused.{opened}
 use types.Run.{OneOf, miss}
 use Rattle.common.specs.declared.Settings.{Settings}
 use Rattle.common.specs.declared.Common.{Common}
@@ -49,4 +50,4 @@ returns-in-FirstDerivative c =
     let m = c in
     let a = m.args in
     rw c.show-in-FirstDerivative.ensures
-    (sym (plainly a.s a.phase a.c a.work.now _ m.in-FirstDerivative.keys4))
+    (sym (plainly a.s a.phase a.c a.work.now _ (opened m.in-FirstDerivative.in-FirstDerivative-own.keys4)))

@@ -9,10 +9,10 @@ use Rattle.reports.proofs.modified.Goals as goal
 pub go_on-requires : goal.go_on-requires
 go_on-requires c =
     let a = c in record {
-      inside = rw c.restart.ensures (inside-restart a.pre.0);
+      inside = rw c.restart.ensures (inside-restart a.requires.inside);
       n_in_bounds = omega (
         arith,
-        a.pre.1.1,
+        a.requires.n_in_bounds,
         c.work-1.given,
       );
     }

@@ -15,9 +15,17 @@ returns-then-mxords-gt1000000 c = rw (le-leb _ _ c.if-mxordn-gt1000000.false, lt
 pub returns-then-msbp-gt1000000 : goal.returns-then-msbp-gt1000000
 unfolding are_limits
 returns-then-msbp-gt1000000 c =
-    rw (le-leb _ _ c.if-mxordn-gt1000000.false, le-leb _ _ c.if-mxords-gt1000000.false, lt-leb _ _ c.if-msbp-gt1000000.true)
+    rw (
+      le-leb _ _ c.if-mxordn-gt1000000.false,
+      le-leb _ _ c.if-mxords-gt1000000.false,
+      lt-leb _ _ c.if-msbp-gt1000000.true,
+    )
 
 pub returns : goal.returns
 unfolding are_limits
 returns c =
-    rw (le-leb _ _ c.if-mxordn-gt1000000.false, le-leb _ _ c.if-mxords-gt1000000.false, le-leb _ _ c.if-msbp-gt1000000.false)
+    rw (
+      le-leb _ _ c.if-mxordn-gt1000000.false,
+      le-leb _ _ c.if-mxords-gt1000000.false,
+      le-leb _ _ c.if-msbp-gt1000000.false,
+    )

@@ -1,7 +1,6 @@
 -- `in_range` meets its contract: each way returns what `inRange` says under the tests that led there.
 -- Assumes nothing.
 use native.Mathlib.Omega.{arith}
-use borrow.Author.Rules.{rules}
 use borrow.Author.Tests.{le-leb, lt-leb}
 use Rattle.common.specs.Limits.{max_states}
 use Rattle.common.specs.Layout.{matrix_at}

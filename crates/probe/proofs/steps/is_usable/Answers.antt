@@ -1,7 +1,6 @@
 -- `is_usable` meets its contract: each way returns what `is_usable` says under the tests that led there.
 -- Assumes nothing.
-use borrow.Author.Rules.{rules}
-use borrow.Author.Tests.{eq-eqb, ne_eqb, not-true, not-false}
+use borrow.Author.Tests.{eq-eqb, ne_eqb}
 use Rattle.probe.specs.Lent.{is_usable}
 use Rattle.probe.proofs.steps.is_usable.Goals as goal
 
@@ -16,24 +15,20 @@ returns-then-counts-ne14 c = rw (eq-eqb _ _ c.if-floats-ne11.false, ne_eqb _ _ c
 pub returns-then-not-are_limits : goal.returns-then-not-are_limits
 unfolding is_usable
 returns-then-not-are_limits c =
-    let l = c in
-    let w = c in
     rw (
-      eq-eqb _ _ w.if-floats-ne11.false,
-      eq-eqb _ _ w.if-counts-ne14.false,
-      ← l.are_limits.ensures,
+      eq-eqb _ _ c.if-floats-ne11.false,
+      eq-eqb _ _ c.if-counts-ne14.false,
+      ← c.are_limits.ensures,
       c.if-not-are_limits.true,
     )
 
 pub returns : goal.returns
 unfolding is_usable
 returns c =
-    let l = c in
-    let w = l in
     rw (
-      eq-eqb _ _ w.if-floats-ne11.false,
-      eq-eqb _ _ w.if-counts-ne14.false,
-      ← l.are_limits.ensures,
+      eq-eqb _ _ c.if-floats-ne11.false,
+      eq-eqb _ _ c.if-counts-ne14.false,
+      ← c.are_limits.ensures,
       c.if-not-are_limits.false,
     )
     c.in_range.ensures

@@ -1,6 +1,5 @@
 -- `probe_correct_columns` meets its contract: each way returns what `correct_left` says under the tests that led there.
 -- Assumes nothing.
-use borrow.Author.Rules.{rules}
 use Rattle.probe.specs.Left.{correct_left}
 use Rattle.probe.proofs.Usable.{usable-by}
 use Rattle.probe.proofs.steps.probe_correct_columns.Goals as goal
@@ -13,23 +12,18 @@ common-requires c = (usable-by c.is_usable.ensures c.if-is_usable.true).lists
 
 pub correct_columns-requires : goal.correct_columns-requires
 correct_columns-requires c =
-    let b = c in
-    let a = b in
-    let t = usable-by a.is_usable.ensures a.if-is_usable.true in
-    rw (b.common.ensures, a.settings.ensures) record { step_in_range = t.range; n_in_bounds = t.long }
+    let t = usable-by c.is_usable.ensures c.if-is_usable.true in
+    rw (c.common.ensures, c.settings.ensures) record { step_in_range = t.range; n_in_bounds = t.long }
 
 pub returns-then-is_usable : goal.returns-then-is_usable
 unfolding correct_left
 returns-then-is_usable c =
-    let d = c in
-    let b = d in
-    let a = b in
     rw (
-      ← a.is_usable.ensures,
-      a.if-is_usable.true,
-      d.correct_columns.ensures,
-      b.common.ensures,
-      a.settings.ensures,
+      ← c.is_usable.ensures,
+      c.if-is_usable.true,
+      c.correct_columns.ensures,
+      c.common.ensures,
+      c.settings.ensures,
     )
 
 pub returns : goal.returns

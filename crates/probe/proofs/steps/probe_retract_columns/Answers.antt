@@ -1,7 +1,6 @@
 -- `probe_retract_columns` meets its contract: each way returns what `retract_left` says under the tests that led there.
 -- Assumes nothing.
 use mathlib.Core.Path.{sym, ◌∙◌}
-use borrow.Author.Rules.{rules}
 use Rattle.probe.specs.Left.{retract_left}
 use Rattle.probe.proofs.Usable.{columns-fit}
 use Rattle.probe.proofs.steps.probe_retract_columns.Goals as goal
@@ -14,9 +13,7 @@ retract_columns-requires c =
 pub returns-then-are_columns : goal.returns-then-are_columns
 unfolding retract_left
 returns-then-are_columns c =
-    let p = c in
-    let w = p in
-    rw (← w.are_columns.ensures, p.if-are_columns.true, p.retract_columns.ensures)
+    rw (← c.are_columns.ensures, c.if-are_columns.true, c.retract_columns.ensures)
 
 pub returns : goal.returns
 unfolding retract_left

@@ -1,7 +1,6 @@
 -- `put_counts` meets its contract: its stores are those of `written_counts`, and each keeps the length.
 -- Assumes nothing.
 use native.Mathlib.Omega.{arith}
-use borrow.Author.Rules.{rules}
 use lib.ListN.{length-set}
 use Rattle.probe.specs.Lent.{written_counts}
 use Rattle.probe.proofs.steps.put_counts.Goals as goal

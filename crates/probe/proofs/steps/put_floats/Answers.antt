@@ -2,7 +2,6 @@
 -- Assumes nothing.
 use mathlib.Core.Path.{refl}
 use native.Mathlib.Omega.{arith}
-use borrow.Author.Rules.{rules}
 use lib.ListN.{length-set}
 use Rattle.probe.specs.Lent.{written_floats}
 use Rattle.probe.proofs.steps.put_floats.Goals as goal

@@ -1,7 +1,6 @@
 -- `settings` meets its contract: field by field.
 -- Assumes nothing.
 use mathlib.Core.Path.{refl}
-use borrow.Author.Rules.{rules}
 use Rattle.probe.specs.Lent.{lent_settings}
 use Rattle.probe.proofs.steps.settings.Goals as goal
 

@@ -7,17 +7,17 @@ use Rattle.session.proofs.ranges.counters.Goals as goal
 
 pub returns-then-c-mxncf : goal.returns-then-c-mxncf
 unfolding counters_in_range
-returns-then-c-mxncf c = rw (le-ltb _ _ (rw c.mxncf.ensures at c.if-c-mxncf.taken))
+returns-then-c-mxncf c = rw (le-ltb _ _ (rw c.mxncf.ensures at c.if-c-mxncf.true))
 
 pub returns-then-c-s : goal.returns-then-c-s
 unfolding counters_in_range
 returns-then-c-s c =
     let t1 = c in
-    rw (lt-ltb _ _ (rw t1.mxncf.ensures at t1.if-c-mxncf.left), le-ltb _ _ c.if-c-s.taken)
+    rw (lt-ltb _ _ (rw t1.mxncf.ensures at t1.if-c-mxncf.false), le-ltb _ _ c.if-c-s.true)
 
 pub returns : goal.returns
 unfolding counters_in_range
 returns c =
     let t2 = c in
     let t1 = t2 in
-    rw (lt-ltb _ _ (rw t1.mxncf.ensures at t1.if-c-mxncf.left), lt-ltb _ _ t2.if-c-s.left)
+    rw (lt-ltb _ _ (rw t1.mxncf.ensures at t1.if-c-mxncf.false), lt-ltb _ _ t2.if-c-s.false)

@@ -6,20 +6,20 @@ use Rattle.session.proofs.Every.{run-of-four}
 use Rattle.session.proofs.ranges.four_below.Goals as goal
 
 pub returns-then-ipiv-i : goal.returns-then-ipiv-i
-returns-then-ipiv-i c = rw (run-of-four, le-ltb _ _ c.if-ipiv-i.taken)
+returns-then-ipiv-i c = rw (run-of-four, le-ltb _ _ c.if-ipiv-i.true)
 
 pub returns-then-ipiv-i-2 : goal.returns-then-ipiv-i-2
-returns-then-ipiv-i-2 c = rw (run-of-four, lt-ltb _ _ c.if-ipiv-i.left, le-ltb _ _ c.if-ipiv-i-2.taken)
+returns-then-ipiv-i-2 c = rw (run-of-four, lt-ltb _ _ c.if-ipiv-i.false, le-ltb _ _ c.if-ipiv-i-2.true)
 
 pub returns-then-ipiv-i-3 : goal.returns-then-ipiv-i-3
 returns-then-ipiv-i-3 c =
     let t2 = c in
     let t1 = t2 in
-    rw (run-of-four, lt-ltb _ _ t1.if-ipiv-i.left, lt-ltb _ _ t2.if-ipiv-i-2.left, le-ltb _ _ c.if-ipiv-i-3.taken)
+    rw (run-of-four, lt-ltb _ _ t1.if-ipiv-i.false, lt-ltb _ _ t2.if-ipiv-i-2.false, le-ltb _ _ c.if-ipiv-i-3.true)
 
 pub returns : goal.returns
 returns c =
     let t3 = c in
     let t2 = t3 in
     let t1 = t2 in
-    rw (run-of-four, lt-ltb _ _ t1.if-ipiv-i.left, lt-ltb _ _ t2.if-ipiv-i-2.left, lt-ltb _ _ t3.if-ipiv-i-3.left)
+    rw (run-of-four, lt-ltb _ _ t1.if-ipiv-i.false, lt-ltb _ _ t2.if-ipiv-i-2.false, lt-ltb _ _ t3.if-ipiv-i-3.false)

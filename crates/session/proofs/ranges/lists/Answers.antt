@@ -8,9 +8,9 @@ use Rattle.session.proofs.ranges.lists.Goals as goal
 
 pub returns-then-not-one_or_n : goal.returns-then-not-one_or_n
 unfolding lists_in_range
-returns-then-not-one_or_n c = rw (sym c.one_or_n.ensures ∙ c.if-not-one_or_n.taken)
+returns-then-not-one_or_n c = rw (sym c.one_or_n.ensures ∙ c.if-not-one_or_n.true)
 
 pub returns : goal.returns
 unfolding lists_in_range
 returns c =
-    rw (sym c.one_or_n.ensures ∙ c.if-not-one_or_n.left) c.one_or_n-2.ensures
+    rw (sym c.one_or_n.ensures ∙ c.if-not-one_or_n.false) c.one_or_n-2.ensures

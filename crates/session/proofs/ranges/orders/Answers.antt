@@ -9,28 +9,28 @@ use Rattle.session.proofs.ranges.orders.Goals as goal
 
 pub returns-then-c : goal.returns-then-c
 unfolding orders_in_range
-returns-then-c c = rw (le-ltb _ _ c.if-c.taken)
+returns-then-c c = rw (le-ltb _ _ c.if-c.true)
 
 pub returns-then-c-s-ne0 : goal.returns-then-c-s-ne0
 unfolding orders_in_range
-returns-then-c-s-ne0 c = rw (lt-ltb _ _ c.if-c.left, ne_eqb _ _ c.if-c-s-ne0.taken)
+returns-then-c-s-ne0 c = rw (lt-ltb _ _ c.if-c.false, ne_eqb _ _ c.if-c-s-ne0.true)
 
 pub overflow_mul-c : goal.overflow_mul-c
 overflow_mul-c c =
     let a = c in
-    omega (arith, small_product a.args.c.nq a.args.s.n a.pre.2 a.pre.1)
+    omega (arith, small_product a.args.c.nq a.args.s.n a.requires.2 a.requires.1)
 
 pub returns-then-c-s : goal.returns-then-c-s
 unfolding orders_in_range
 returns-then-c-s c =
     let t2 = c in
     let t1 = t2 in
-    rw (lt-ltb _ _ t1.if-c.left, eq-eqb _ _ t2.if-c-s-ne0.left, lt-leb _ _ c.if-c-s.taken)
+    rw (lt-ltb _ _ t1.if-c.false, eq-eqb _ _ t2.if-c-s-ne0.false, lt-leb _ _ c.if-c-s.true)
 
 pub overflow_mul-result : goal.overflow_mul-result
 overflow_mul-result c =
     let a = c in
-    omega (arith, a.pre.1)
+    omega (arith, a.requires.1)
 
 pub returns : goal.returns
 unfolding orders_in_range
@@ -38,4 +38,4 @@ returns c =
     let t3 = c in
     let t2 = t3 in
     let t1 = t2 in
-    rw (lt-ltb _ _ t1.if-c.left, eq-eqb _ _ t2.if-c-s-ne0.left, le-leb _ _ t3.if-c-s.left)
+    rw (lt-ltb _ _ t1.if-c.false, eq-eqb _ _ t2.if-c-s-ne0.false, le-leb _ _ t3.if-c-s.false)

@@ -28,7 +28,7 @@ run-requires c =
 pub returns-then-not-run : goal.returns-then-not-run
 returns-then-not-run c =
     let u = c.args.u.now in
-    rw (halves u, sym c.run.ensures ∙ c.if-not-run.taken)
+    rw (halves u, sym c.run.ensures ∙ c.if-not-run.true)
     (sym (lost-for (word_in_range u) half count_words))
 
 pub run-requires-2 : goal.run-requires-2
@@ -39,4 +39,4 @@ run-requires-2 c =
 pub returns : goal.returns
 returns c =
     let f = c in
-    rw (halves _, sym f.run.ensures ∙ f.if-not-run.left) c.run-2.ensures
+    rw (halves _, sym f.run.ensures ∙ f.if-not-run.false) c.run-2.ensures
