@@ -1,6 +1,7 @@
 -- A stored call of a leaf, made again: what it answers and leaves, and whether that is what is stored.
 -- Where b holds several lists, they stand one behind the other. Of calls that are not stored it says nothing.
-use Rattle.std.specs.Prelude.{Bool, true, cond, ◌&&◌, List, ℕ, ◌+◌, ◌-◌, ◌*◌, ◌/◌, eqb, leb, ltb, length, get_or, set, take, drop, replicate, Float}
+use Rattle.std.specs.Prelude.{Bool, true, cond, ◌&&◌, List, ℕ, ◌+◌, ◌-◌, ◌*◌, ◌/◌, eqb, leb, ltb, length, get_or}
+use Rattle.std.specs.Prelude.{set, take, drop, replicate, Float}
 use Rattle.std.specs.Float.Ieee as Ieee
 use Rattle.std.specs.Float.{nan, binary64}
 use Rattle.loops.specs.For.{for}
@@ -56,7 +57,8 @@ leaf_snapshot b m a =
 -- 0 vmnorm, 1 fnorm_dense, and any other initial_step_size
 unfoldable pub leaf_norms : ℕ → ℕ → ℕ → Float → Float → List Float → List Float → ℕ
 leaf_norms kind p q x y a b =
-    cond (eqb kind 0) (bits (vmnorm_or_nan a b)) (cond (eqb kind 1) (bits (fnorm_or_nan p a b)) (leaf_first_step x y a b p q))
+    cond (eqb kind 0) (bits (vmnorm_or_nan a b))
+    (cond (eqb kind 1) (bits (fnorm_or_nan p a b)) (leaf_first_step x y a b p q))
 
 -- 3 ewset, 4 ewset_scalar_like, 5 invert_weights, 6 dense_lu_factor, 7 dense_lu_solve, 8 predict_columns,
 -- and any other retract_columns

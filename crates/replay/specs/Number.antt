@@ -25,7 +25,9 @@ case_number kind a b c =
 abbrev pub is_stored : List ℕ → ℕ → Bool
 is_stored l i =
     let at = 5 * i in
-    eqb (Ieee.to_bits binary64 (case_number (get_or l at 0) (get_or l (at + 1) 0) (get_or l (at + 2) 0) (get_or l (at + 3) 0)))
+    eqb
+    (Ieee.to_bits binary64
+    (case_number (get_or l at 0) (get_or l (at + 1) 0) (get_or l (at + 2) 0) (get_or l (at + 3) 0)))
     (get_or l (at + 4) 0)
 
 abbrev pub cases_differ : List ℕ → ℕ

@@ -9,53 +9,57 @@ mod leaves;
 mod number;
 mod table;
 
-fn line(name: &[u8], compared: usize, differ: usize) {
-    io::write_all(1, name);
-    io::print_decimal(1, compared as u64);
-    io::write_all(1, b" compared, ");
-    io::print_decimal(1, differ as u64);
-    io::write_all(1, b" differ\n");
+use std::io;
+
+fn line(rt: &impl Print, name: &str, compared: usize, differ: usize) -> io::Result<()> {
+    println!(rt; "{name}{compared} compared, {differ} differ")
 }
 
-fn cases(name: &[u8], stored: &[u64]) {
-    line(name, stored.len() / 5, number::differ(stored));
+fn cases(rt: &impl Print, name: &str, stored: &[u64]) -> io::Result<()> {
+    line(rt, name, stored.len() / 5, number::differ(stored))
 }
 
-fn calls(name: &[u8], heads: &[u64], stored: &[u64])
+fn calls(rt: &impl Print, name: &str, heads: &[u64], stored: &[u64]) -> io::Result<()>
     requires { length heads.now ≤ 1000000 }
 {
-    line(name, heads.len() / 11, leaf::differ(heads, stored));
+    line(rt, name, heads.len() / 11, leaf::differ(heads, stored))
 }
 
 // A function for each table: its numbers are carried through everything that follows its loan.
-fn roots() {
-    cases(b"root: ", &table::ROOTS);
+fn roots(rt: &impl Print) -> io::Result<()> {
+    cases(rt, "root: ", &table::ROOTS)
 }
 
-fn square_roots() {
-    cases(b"sqrt: ", &table::SQUARE_ROOTS);
+fn square_roots(rt: &impl Print) -> io::Result<()> {
+    cases(rt, "sqrt: ", &table::SQUARE_ROOTS)
 }
 
-fn coefficients() {
-    cases(b"coefficients: ", &table::COEFFICIENTS);
+fn coefficients(rt: &impl Print) -> io::Result<()> {
+    cases(rt, "coefficients: ", &table::COEFFICIENTS)
 }
 
-fn on_lists() {
-    calls(b"leaves on lists: ", &leaves::LISTS_HEADS, &leaves::LISTS);
-}
-
-fn on_a_record() {
+fn on_lists(rt: &impl Print) -> io::Result<()> {
     calls(
-        b"leaves on a record: ",
+        rt,
+        "leaves on lists: ",
+        &leaves::LISTS_HEADS,
+        &leaves::LISTS,
+    )
+}
+
+fn on_a_record(rt: &impl Print) -> io::Result<()> {
+    calls(
+        rt,
+        "leaves on a record: ",
         &leaves::RECORDS_HEADS,
         &leaves::RECORDS,
-    );
+    )
 }
 
-fn main() {
-    roots();
-    square_roots();
-    coefficients();
-    on_lists();
-    on_a_record();
+fn main(rt: HostRuntime) -> io::Result<()> {
+    roots(&rt)?;
+    square_roots(&rt)?;
+    coefficients(&rt)?;
+    on_lists(&rt)?;
+    on_a_record(&rt)
 }

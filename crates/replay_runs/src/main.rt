@@ -14,6 +14,7 @@ mod words;
 
 use raimsklo::Reply;
 use refusals::Options;
+use std::io;
 
 // Work and question of the most states.
 const WORK_LENGTH: usize = common::MAX_STATES * common::MAX_STATES
@@ -98,7 +99,8 @@ fn start(
 fn compared(stored: &[u64], n: usize, r: Reply, question: &[f64], f: Found) -> Found
     requires n_le_max_states { (n ≤ max_states) × (question_length n ≤ length question.now) }
     requires at_bound { (f.at ≤ 1010000) × (f.answers ≤ f.at) × (f.differ ≤ f.at) }
-    ensures { (result.at ≤ f.at + 1000) × (result.answers ≤ result.at) × (result.differ ≤ result.at) × (result.runs ≡ f.runs) }
+    ensures { (result.at ≤ f.at + 1000) × (result.answers ≤ result.at)
+        × (result.differ ≤ result.at) × (result.runs ≡ f.runs) }
 {
     let mut g = f;
     g.at = f.at + answer::size(stored, f.at, n);
@@ -154,7 +156,8 @@ fn replied(
 fn passed(stored: &[u64], f: Found, n: usize, squared: usize) -> Found
     requires n_le_max_states { (n ≤ max_states) × (squared ≤ most_numbers) }
     requires at_bound { (f.at ≤ 1000000) × (f.answers ≤ f.at) × (f.differ ≤ f.at) }
-    ensures { (result.at ≤ 1010000) × (result.answers ≤ result.at) × (result.differ ≤ result.at) × (result.runs ≡ f.runs) }
+    ensures { (result.at ≤ 1010000) × (result.answers ≤ result.at)
+        × (result.differ ≤ result.at) × (result.runs ≡ f.runs) }
 {
     let mut g = f;
     g.at = f.at + 2 + size(words::count(stored, f.at), n, squared);
@@ -184,7 +187,8 @@ fn turn(
 ) -> Found
     requires n_le_max_states { (n ≤ max_states) × (squared ≤ most_numbers) × (question_length n ≤ length question.old) }
     requires at_bound { (f.at ≤ 1000000) × (f.answers ≤ f.at) × (f.differ ≤ f.at) }
-    ensures { (result.at ≤ 1020000) × (result.answers ≤ result.at) × (result.differ ≤ result.at) × (result.runs ≡ f.runs) }
+    ensures { (result.at ≤ 1020000) × (result.answers ≤ result.at)
+        × (result.differ ≤ result.at) × (result.runs ≡ f.runs) }
 {
     let r = replied(stored, f.at, n, squared, work, pivots, session, question);
     compared(stored, n, r, question, passed(stored, f, n, squared))
@@ -206,7 +210,8 @@ fn replay(
     requires squared_le_most_numbers { (squared ≤ most_numbers) × (question_length head.n ≤ length question.old)
         × (length stored.now ≤ 1000000) }
     requires at_bound_2 { (found.at ≤ 1010000) × (found.answers ≤ found.at) × (found.differ ≤ found.at) }
-    ensures { (result.at ≤ 1020000) × (result.answers ≤ result.at) × (result.differ ≤ result.at) × (result.runs ≡ found.runs) }
+    ensures { (result.at ≤ 1020000) × (result.answers ≤ result.at)
+        × (result.differ ≤ result.at) × (result.runs ≡ found.runs) }
 {
     let n = head.n;
     let r = start(stored, head, work, pivots, session, question);
@@ -231,7 +236,8 @@ fn square(n: usize) -> usize
 fn run(stored: &[u64], f: Found) -> Found
     requires stored_len_bound { length stored.now ≤ 1000000 }
     requires at_bound { (f.at ≤ 1000000) × (f.answers ≤ f.at) × (f.differ ≤ f.at) × (f.runs ≤ 1000000) }
-    ensures { (result.at ≤ 1020000) × (result.answers ≤ result.at) × (result.differ ≤ result.at) × (result.runs ≡ f.runs + 1) }
+    ensures { (result.at ≤ 1020000) × (result.answers ≤ result.at)
+        × (result.differ ≤ result.at) × (result.runs ≡ f.runs + 1) }
 {
     let at = f.at;
     let n = words::limited(stored, at, common::MAX_STATES);
@@ -289,18 +295,15 @@ fn whole() -> Found {
     all(&runs::RUNS)
 }
 
-fn replayed() {
+fn replayed(rt: &impl Print) -> io::Result<()> {
     let f = whole();
-    io::write_all(1, b"runs: ");
-    io::print_decimal(1, f.runs as u64);
-    io::write_all(1, b"\nanswers: ");
-    io::print_decimal(1, f.answers as u64);
-    io::write_all(1, b" compared, ");
-    io::print_decimal(1, f.differ as u64);
-    io::write_all(1, b" differ\n");
+    let runs = f.runs;
+    let answers = f.answers;
+    let differ = f.differ;
+    println!(rt; "runs: {runs}\nanswers: {answers} compared, {differ} differ")
 }
 
-fn main() {
-    replayed();
-    sums::lines();
+fn main(rt: HostRuntime) -> io::Result<()> {
+    replayed(&rt)?;
+    sums::lines(&rt)
 }

@@ -2,6 +2,7 @@
 // All have one state. The derivative is 0 at the start, and `later` at every other request.
 use raimsklo::Reply;
 use refusals::Options;
+use std::io;
 
 #[derive(Clone, Copy)]
 struct Sum {
@@ -134,63 +135,61 @@ fn outcome_of(sum: Sum) -> Outcome {
 
 // ---- what is printed
 
-fn count(name: &[u8], n: usize) {
-    io::write_all(1, name);
-    io::print_decimal(1, n as u64);
+fn count(rt: &impl Print, name: &str, n: usize) -> io::Result<()> {
+    print!(rt; "{name}{n}")
 }
 
 // NaN, a small whole number, or the pattern.
-fn float(name: &[u8], x: f64) {
-    io::write_all(1, name);
+fn float(rt: &impl Print, name: &str, x: f64) -> io::Result<()> {
+    rt.print(name)?;
     let bits = numbers::to_bits(x);
     if x != x {
-        io::write_all(1, b"NaN");
+        print!(rt; "NaN")
     } else if bits == 0 {
-        io::write_all(1, b"0");
+        print!(rt; "0")
     } else if bits == 0x3ff0_0000_0000_0000 {
-        io::write_all(1, b"1");
+        print!(rt; "1")
     } else if bits == 0x4000_0000_0000_0000 {
-        io::write_all(1, b"2");
+        print!(rt; "2")
     } else {
-        io::write_all(1, b"0x");
-        io::print_hex(1, bits, 16);
+        print!(rt; "0x{bits:016x}")
     }
 }
 
-fn end(number: usize) {
+fn end(rt: &impl Print, number: usize) -> io::Result<()> {
     if number == 110 {
-        io::write_all(1, b"success");
+        print!(rt; "success")
     } else if number == 111 {
-        io::write_all(1, b"interrupted");
+        print!(rt; "interrupted")
     } else if number == 112 {
-        io::write_all(1, b"needs more steps");
+        print!(rt; "needs more steps")
     } else if number == 113 {
-        io::write_all(1, b"too small");
+        print!(rt; "too small")
     } else if number == 114 {
-        io::write_all(1, b"poor");
+        print!(rt; "poor")
     } else if number == 115 {
-        io::write_all(1, b"coefficient gap");
+        print!(rt; "coefficient gap")
     } else {
-        count(b"", number);
+        count(rt, "", number)
     }
 }
 
-fn line(name: &[u8], sum: Sum) {
+fn line(rt: &impl Print, name: &str, sum: Sum) -> io::Result<()> {
     let outcome = outcome_of(sum);
     let e = outcome.end;
-    io::write_all(1, name);
-    end(e.number);
+    rt.print(name)?;
+    end(rt, e.number)?;
     if e.number < 100 {
-        float(b", value ", e.value);
+        float(rt, ", value ", e.value)?;
     } else {
-        float(b", h ", e.h);
-        count(b", derivatives ", e.nfe);
-        count(b", steps ", e.total);
-        count(b", ", e.accepted);
-        count(b", ", e.rejected);
-        float(b", pose ", outcome.pose);
+        float(rt, ", h ", e.h)?;
+        count(rt, ", derivatives ", e.nfe)?;
+        count(rt, ", steps ", e.total)?;
+        count(rt, ", ", e.accepted)?;
+        count(rt, ", ", e.rejected)?;
+        float(rt, ", pose ", outcome.pose)?;
     }
-    io::write_all(1, b"\n");
+    println!(rt; "")
 }
 
 // ---- the sums
@@ -274,20 +273,22 @@ fn with_min_step(sum: Sum, least: f64) -> Sum {
     s
 }
 
-pub fn lines() {
-    line(b"(8): ", eight());
-    line(b"(9): ", nine());
-    line(b"(10): ", ten());
-    line(b"(11): ", eleven());
-    line(b"(12): ", twelve());
+pub fn lines(rt: &impl Print) -> io::Result<()> {
+    line(rt, "(8): ", eight())?;
+    line(rt, "(9): ", nine())?;
+    line(rt, "(10): ", ten())?;
+    line(rt, "(11): ", eleven())?;
+    line(rt, "(12): ", twelve())?;
     line(
-        b"start equal to end, no first step: ",
+        rt,
+        "start equal to end, no first step: ",
         without_first_step(empty()),
-    );
-    line(b"start equal to end, first step 1: ", empty());
+    )?;
+    line(rt, "start equal to end, first step 1: ", empty())?;
     line(
-        b"start equal to end, first step 1, minimum step 2: ",
+        rt,
+        "start equal to end, first step 1, minimum step 2: ",
         with_min_step(empty(), 2.0),
-    );
-    line(b"(8), minimum step 2: ", with_min_step(eight(), 2.0));
+    )?;
+    line(rt, "(8), minimum step 2: ", with_min_step(eight(), 2.0))
 }

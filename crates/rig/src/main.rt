@@ -16,6 +16,7 @@ mod watch;
 use chain::STATES;
 use raimsklo::Reply;
 use refusals::Options;
+use std::io;
 use watch::Watch;
 
 // How many numbers the Jacobian and the question have.
@@ -79,30 +80,31 @@ fn watched(w: Watch, r: Reply, pose: &mut [f64], session: &[u8], y: &[f64]) -> W
 }
 
 // The pose at time t, if it lies within the reported step.
-fn frame(t: f64, r: Reply, question: &[f64], pose: &mut [f64])
+fn frame(rt: &impl Print, t: f64, r: Reply, question: &[f64], pose: &mut [f64]) -> io::Result<()>
     requires { (question_length max_states ≤ length question.now) × (max_states ≤ length pose.old) }
 {
     if t <= r.previous {
-        return;
+        return Ok(());
     }
     if r.time < t {
-        return;
+        return Ok(());
     }
     if r.order > 12 {
-        return;
+        return Ok(());
     }
     let end = STATES + common::HEADER + STATES * (r.order + 1);
     let refused = raimsklo::raimsklo_interpolate(t, pose, &question[STATES..end]);
-    show::frame(t, refused, pose);
+    show::frame(rt, t, refused, pose)
 }
 
 // At each quarter of a second.
-fn frames(r: Reply, question: &[f64], pose: &mut [f64])
+fn frames(rt: &impl Print, r: Reply, question: &[f64], pose: &mut [f64]) -> io::Result<()>
     requires { (question_length max_states ≤ length question.now) × (max_states ≤ length pose.old) }
 {
     for k in 1..9u32 {
-        frame(k as f64 * 0.25, r, question, pose);
+        frame(rt, k as f64 * 0.25, r, question, pose)?;
     }
+    Ok(())
 }
 
 fn copy(from: &[f64], to: &mut [f64])
@@ -124,19 +126,21 @@ fn kind(number: usize) -> usize {
 }
 
 // What the host replies to a wanted derivative, or to a report: y as it is.
-fn fill_in(asked: Reply, question: &[f64], numbers: &mut [f64])
+fn fill_in(rt: &impl Print, asked: Reply, question: &[f64], numbers: &mut [f64]) -> io::Result<()>
     requires { (length numbers.old ≡ max_states) × (question_length max_states ≤ length question.now) }
 {
     if asked.number == 100 {
         chain::derivative(asked.time, question, numbers);
-        return;
+        return Ok(());
     }
-    frames(asked, question, numbers);
+    frames(rt, asked, question, numbers)?;
     copy(question, numbers);
+    Ok(())
 }
 
 // The answer to the host's reply to the question that stands.
 fn replied(
+    rt: &impl Print,
     asked: Reply,
     numbers: &mut [f64],
     columns: &mut [f64],
@@ -144,16 +148,18 @@ fn replied(
     pivots: &mut [usize],
     session: &mut [u8],
     question: &mut [f64],
-) -> Reply
+) -> io::Result<Reply>
     requires { (length numbers.old ≡ max_states) × (length columns.old ≡ max_states * max_states)
         × (length question.old ≡ question_length max_states) }
 {
     if asked.number == 101 {
         chain::jacobian(question, columns);
-        return raimsklo::raimsklo_reply(2, columns, asked.time, work, pivots, session, question);
+        return Ok(raimsklo::raimsklo_reply(
+            2, columns, asked.time, work, pivots, session, question,
+        ));
     }
-    fill_in(asked, question, numbers);
-    raimsklo::raimsklo_reply(
+    fill_in(rt, asked, question, numbers)?;
+    Ok(raimsklo::raimsklo_reply(
         kind(asked.number),
         numbers,
         asked.time,
@@ -161,7 +167,7 @@ fn replied(
         pivots,
         session,
         question,
-    )
+    ))
 }
 
 fn start(
@@ -191,6 +197,7 @@ fn start(
 
 // The question that stands is watched and replied to.
 fn turn(
+    rt: &impl Print,
     o: Outcome,
     pose: &mut [f64],
     numbers: &mut [f64],
@@ -199,17 +206,18 @@ fn turn(
     pivots: &mut [usize],
     session: &mut [u8],
     question: &mut [f64],
-) -> Outcome
+) -> io::Result<Outcome>
     requires { (length pose.old ≡ max_states) × (length numbers.old ≡ max_states)
         × (length columns.old ≡ max_states * max_states) × (length session.old ≡ session_length)
         × (length question.old ≡ question_length max_states) }
 {
     let w = watched(o.watch, o.end, pose, session, question);
-    let r = replied(o.end, numbers, columns, work, pivots, session, question);
-    Outcome { end: r, watch: w }
+    let r = replied(rt, o.end, numbers, columns, work, pivots, session, question)?;
+    Ok(Outcome { end: r, watch: w })
 }
 
 fn drive(
+    rt: &impl Print,
     options: Options,
     pose: &mut [f64],
     numbers: &mut [f64],
@@ -218,7 +226,7 @@ fn drive(
     pivots: &mut [usize],
     session: &mut [u8],
     question: &mut [f64],
-) -> Outcome
+) -> io::Result<Outcome>
     requires { (length pose.old ≡ max_states) × (length numbers.old ≡ max_states)
         × (length columns.old ≡ max_states * max_states) × (length session.old ≡ session_length)
         × (length question.old ≡ question_length max_states) }
@@ -245,31 +253,33 @@ fn drive(
         if !is_asked(o.end.number) {
             break;
         }
-        o = turn(o, pose, numbers, columns, work, pivots, session, question);
+        o = turn(
+            rt, o, pose, numbers, columns, work, pivots, session, question,
+        )?;
     }
-    o
+    Ok(o)
 }
 
-fn cost(end: Reply, w: Watch) {
-    show::count(b"ended by ", end.number);
-    io::write_all(1, b", h ");
-    show::pattern(end.h);
-    show::count(b"\nderivatives ", end.nfe);
-    show::count(b", Jacobians ", end.nje);
-    show::count(b", factorings ", end.nlu);
-    show::count(b"\nderivatives seen ", w.derivatives);
-    show::count(b", Jacobians seen ", w.jacobians);
-    show::count(b"\nsteps ", end.total);
-    show::count(b", accepted ", end.accepted);
-    show::count(b", rejected ", end.rejected);
-    show::count(b"\nreports ", w.reports);
-    show::count(b", wrong ", w.wrong);
-    show::count(b"\nmost derivatives in a step ", w.most);
-    show::count(b", capped at ", w.capped);
-    io::write_all(1, b"\n");
+fn cost(rt: &impl Print, end: Reply, w: Watch) -> io::Result<()> {
+    show::count(rt, "ended by ", end.number)?;
+    print!(rt; ", h ")?;
+    show::pattern(rt, end.h)?;
+    show::count(rt, "\nderivatives ", end.nfe)?;
+    show::count(rt, ", Jacobians ", end.nje)?;
+    show::count(rt, ", factorings ", end.nlu)?;
+    show::count(rt, "\nderivatives seen ", w.derivatives)?;
+    show::count(rt, ", Jacobians seen ", w.jacobians)?;
+    show::count(rt, "\nsteps ", end.total)?;
+    show::count(rt, ", accepted ", end.accepted)?;
+    show::count(rt, ", rejected ", end.rejected)?;
+    show::count(rt, "\nreports ", w.reports)?;
+    show::count(rt, ", wrong ", w.wrong)?;
+    show::count(rt, "\nmost derivatives in a step ", w.most)?;
+    show::count(rt, ", capped at ", w.capped)?;
+    println!(rt; "")
 }
 
-fn run(options: Options) {
+fn run(rt: &impl Print, options: Options) -> io::Result<()> {
     let mut pose = [0.0; STATES];
     let mut numbers = [0.0; STATES];
     let mut columns = [0.0; JACOBIAN_LENGTH];
@@ -278,6 +288,7 @@ fn run(options: Options) {
     let mut session = [0u8; common::SESSION_LENGTH];
     let mut question = [0.0; QUESTION_LENGTH];
     let o = drive(
+        rt,
         options,
         &mut pose,
         &mut numbers,
@@ -286,16 +297,16 @@ fn run(options: Options) {
         &mut pivots,
         &mut session,
         &mut question,
-    );
-    cost(o.end, o.watch);
-    show::pose(&question);
+    )?;
+    cost(rt, o.end, o.watch)?;
+    show::pose(rt, &question)
 }
 
-fn main() {
+fn main(rt: HostRuntime) -> io::Result<()> {
     let mut options = raimsklo::raimsklo_defaults();
-    io::write_all(1, b"Jacobian by differences\n");
-    run(options);
+    println!(rt; "Jacobian by differences")?;
+    run(&rt, options)?;
     options.supplied = 1;
-    io::write_all(1, b"Jacobian supplied\n");
-    run(options);
+    println!(rt; "Jacobian supplied")?;
+    run(&rt, options)
 }

@@ -2,73 +2,76 @@
 ghost use Rattle.std.specs.Prelude.{◌+◌, ◌≤◌, length};
 ghost use Rattle.common.specs.Limits.{max_states};
 
-pub fn count(name: &[u8], n: usize) {
-    io::write_all(1, name);
-    io::print_decimal(1, n as u64);
+use std::io;
+
+pub fn count(rt: &impl Print, name: &str, n: usize) -> io::Result<()> {
+    print!(rt; "{name}{n}")
 }
 
-fn whole(x: f64) {
+fn whole(rt: &impl Print, x: f64) -> io::Result<()> {
     if x > -1.0 {
         if x < 18446744073709551616.0 {
-            io::print_decimal(1, std::num::truncating_f64_to_u64(x));
+            return rt.print(std::num::truncating_f64_to_u64(x));
         }
     }
+    Ok(())
 }
 
 // A number in millionths, without its fraction.
-fn millionths(x: f64) {
+fn millionths(rt: &impl Print, x: f64) -> io::Result<()> {
     if x < 0.0 {
-        io::write_all(1, b" -");
-        whole(-x * 1000000.0);
+        print!(rt; " -")?;
+        whole(rt, -x * 1000000.0)
     } else {
-        io::write_all(1, b" ");
-        whole(x * 1000000.0);
+        print!(rt; " ")?;
+        whole(rt, x * 1000000.0)
     }
 }
 
 // The angles of the links 1, 16 and 32 at time t.
-pub fn frame(t: f64, refused: usize, y: &[f64])
+pub fn frame(rt: &impl Print, t: f64, refused: usize, y: &[f64]) -> io::Result<()>
     requires { max_states ≤ length y.now }
 {
-    io::write_all(1, b"at");
-    millionths(t);
+    print!(rt; "at")?;
+    millionths(rt, t)?;
     if refused != 0 {
-        count(b" refused by ", refused);
+        count(rt, " refused by ", refused)?;
     } else {
-        io::write_all(1, b":");
-        millionths(y[0]);
-        millionths(y[15]);
-        millionths(y[31]);
+        print!(rt; ":")?;
+        millionths(rt, y[0])?;
+        millionths(rt, y[15])?;
+        millionths(rt, y[31])?;
     }
-    io::write_all(1, b"\n");
+    println!(rt; "")
 }
 
 // Four patterns to a line.
 const ROWS: usize = common::MAX_STATES / 4;
 
-pub fn pose(y: &[f64])
+pub fn pose(rt: &impl Print, y: &[f64]) -> io::Result<()>
     requires { max_states ≤ length y.now }
 {
     for i in 0..ROWS {
-        row(y, 4 * i);
+        row(rt, y, 4 * i)?;
     }
+    Ok(())
 }
 
-fn row(y: &[f64], at: usize)
+fn row(rt: &impl Print, y: &[f64], at: usize) -> io::Result<()>
     requires { at + 4 ≤ length y.now }
 {
-    word(y[at]);
-    word(y[at + 1]);
-    word(y[at + 2]);
-    word(y[at + 3]);
-    io::write_all(1, b"\n");
+    word(rt, y[at])?;
+    word(rt, y[at + 1])?;
+    word(rt, y[at + 2])?;
+    word(rt, y[at + 3])?;
+    println!(rt; "")
 }
 
-fn word(x: f64) {
-    io::write_all(1, b" ");
-    pattern(x);
+fn word(rt: &impl Print, x: f64) -> io::Result<()> {
+    print!(rt; " ")?;
+    pattern(rt, x)
 }
 
-pub fn pattern(x: f64) {
-    io::print_hex(1, numbers::to_bits(x), 16);
+pub fn pattern(rt: &impl Print, x: f64) -> io::Result<()> {
+    print!(rt; "{:016x}", numbers::to_bits(x))
 }

@@ -87,12 +87,12 @@ returns-in-Derivative c =
 pub returns-in-Report : goal.returns-in-Report
 returns-in-Report c =
     let a = c.args in
-    rw (answers a.len a.n a.phase a.kind (opened c.in-FirstDerivative.in-FirstDerivative-own.keys3), c.in-Report.is)
+    rw (answers a.len a.n a.phase a.kind c.in-FirstReport.in-FirstReport-own.keys3, c.in-Report.is)
 
 pub returns-in-Derivative-kind : goal.returns-in-Derivative-kind
 returns-in-Derivative-kind c =
     let a = c.args in
-    let waits = answers a.len a.n a.phase a.kind (opened c.in-FirstDerivative.in-FirstDerivative-own.keys3) in
+    let waits = answers a.len a.n a.phase a.kind c.in-FirstReport.in-FirstReport-own.keys3 in
     sym (waits ∙ no_answer a.len a.n a.kind (opened c.in-Derivative-kind.in-Derivative-kind-own.keys2))
 
 pub returns-in-Derivative-kind-2 : goal.returns-in-Derivative-kind-2

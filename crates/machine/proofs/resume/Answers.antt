@@ -29,7 +29,7 @@ first_derivative-requires c =
     let x = a.args in
     let i = e in
     let yes = sym i.is_asked.ensures ∙ i.if-not-is_asked.false in
-    let r = held Phase.FirstDerivative _ t a.requires.1 in
+    let r = held Phase.FirstDerivative _ t a.requires.unless_finished in
     let l = derivative-length _ _ x.kind (asked_in Phase.FirstDerivative x.kind _ _ t yes) in
     record { le_n = r.ranges.settings.n.0; list1or_n = r.relative; list1or_n_2 = r.absolute; f_len = l; n_in_bounds = omega (arith, r.lent.sized) }
 
@@ -41,7 +41,7 @@ after_first_report-requires c =
     let x = a.args in
     let i = e in
     let yes = sym i.is_asked.ensures ∙ i.if-not-is_asked.false in
-    let r = held Phase.FirstReport _ t a.requires.1 in
+    let r = held Phase.FirstReport _ t a.requires.unless_finished in
     let l = answer-length _ _ x.kind (asked_in Phase.FirstReport x.kind _ _ t yes) in
     record { inside = inside-ranges r.ranges; y_len = l; n_in_bounds = omega (arith, r.lent.sized) }
 
@@ -53,7 +53,7 @@ first_modified-requires c =
     let x = a.args in
     let i = e in
     let yes = sym i.is_asked.ensures ∙ i.if-not-is_asked.false in
-    let r = held Phase.FirstModified _ t a.requires.1 in
+    let r = held Phase.FirstModified _ t a.requires.unless_finished in
     let l = derivative-length _ _ x.kind (asked_in Phase.FirstModified x.kind _ _ t yes) in
     record { inside = inside-ranges r.ranges; f_len = l; n_in_bounds = omega (arith, r.lent.sized) }
 
@@ -65,7 +65,7 @@ opened_reply-requires c =
     let x = a.args in
     let i = e in
     let yes = sym i.is_asked.ensures ∙ i.if-not-is_asked.false in
-    let r = held Phase.Opened _ t a.requires.1 in
+    let r = held Phase.Opened _ t a.requires.unless_finished in
     let l = derivative-length _ _ x.kind (asked_in Phase.Opened x.kind _ _ t yes) in
     record { inside = inside-ranges r.ranges; nje_bound = omega (arith, r.ranges.counts.nje); list1or_n = r.relative; list1or_n_2 = r.absolute; f_len = l; lent = r.lent }
 
@@ -77,7 +77,7 @@ jacobian_reply-requires c =
     let x = a.args in
     let i = e in
     let yes = sym i.is_asked.ensures ∙ i.if-not-is_asked.false in
-    let r = held Phase.JacobianAsked _ t a.requires.1 in
+    let r = held Phase.JacobianAsked _ t a.requires.unless_finished in
     let l = jacobian-length _ _ x.kind (asked_in Phase.JacobianAsked x.kind _ _ t yes) in
     record { inside = inside-ranges r.ranges; nlu_bound = omega (arith, r.ranges.counts.nlu); list1or_n = r.relative; list1or_n_2 = r.absolute; f_len = l; lent = r.lent }
 
@@ -89,7 +89,7 @@ column_reply-requires c =
     let x = a.args in
     let i = e in
     let yes = sym i.is_asked.ensures ∙ i.if-not-is_asked.false in
-    let r = held Phase.DifferenceColumn _ t a.requires.1 in
+    let r = held Phase.DifferenceColumn _ t a.requires.unless_finished in
     let l = derivative-length _ _ x.kind (asked_in Phase.DifferenceColumn x.kind _ _ t yes) in
     record { inside = inside-ranges r.ranges; nlu_bound = omega (arith, r.ranges.counts.nlu); list1or_n = r.relative; list1or_n_2 = r.absolute; f_len = l; lent = r.lent }
 
@@ -101,7 +101,7 @@ further_reply-requires c =
     let x = a.args in
     let i = e in
     let yes = sym i.is_asked.ensures ∙ i.if-not-is_asked.false in
-    let r = held Phase.FurtherDerivative _ t a.requires.1 in
+    let r = held Phase.FurtherDerivative _ t a.requires.unless_finished in
     let l = derivative-length _ _ x.kind (asked_in Phase.FurtherDerivative x.kind _ _ t yes) in
     record { inside = inside-ranges r.ranges; list1or_n = r.relative; list1or_n_2 = r.absolute; f_len = l; lent = r.lent }
 
@@ -113,7 +113,7 @@ restep_reply-requires c =
     let x = a.args in
     let i = e in
     let yes = sym i.is_asked.ensures ∙ i.if-not-is_asked.false in
-    let r = held Phase.Restep _ t a.requires.1 in
+    let r = held Phase.Restep _ t a.requires.unless_finished in
     let l = derivative-length _ _ x.kind (asked_in Phase.Restep x.kind _ _ t yes) in
     record { inside = inside-ranges r.ranges; f_len = l; n_in_bounds = omega (arith, r.lent.sized) }
 
@@ -125,7 +125,7 @@ after_report-requires c =
     let x = a.args in
     let i = e in
     let yes = sym i.is_asked.ensures ∙ i.if-not-is_asked.false in
-    let r = held Phase.Report _ t a.requires.1 in
+    let r = held Phase.Report _ t a.requires.unless_finished in
     let l = answer-length _ _ x.kind (asked_in Phase.Report x.kind _ _ t yes) in
     record { inside = inside-ranges r.ranges; y_len = l; n_in_bounds = omega (arith, r.lent.sized) }
 
@@ -137,7 +137,7 @@ modified-requires c =
     let x = a.args in
     let i = e in
     let yes = sym i.is_asked.ensures ∙ i.if-not-is_asked.false in
-    let r = held Phase.Modified _ t a.requires.1 in
+    let r = held Phase.Modified _ t a.requires.unless_finished in
     let l = derivative-length _ _ x.kind (asked_in Phase.Modified x.kind _ _ t yes) in
     record { inside = inside-ranges r.ranges; f_len = l; n_in_bounds = omega (arith, r.lent.sized) }
 
@@ -183,7 +183,7 @@ returns-in-FirstModified c =
     let e = c in
     let i = e in
     let yes = sym i.is_asked.ensures ∙ i.if-not-is_asked.false in
-    c.first_modified_run.ensures _
+    c.first_modified.ensures _
     ∙ sym (resume-asked _ _ _ _ _ _ Phase.FirstModified e.in-FirstModified.is yes)
 
 pub returns-in-Opened : goal.returns-in-Opened

@@ -1,7 +1,5 @@
 -- `all` is safe and ends. Assumes nothing.
-use Prim.Native.Nat.{◌-◌, ◌≤◌}
-use native.Mathlib.Omega.{arith}
-use borrow.Author.Rules.{rules}
+use Prim.Native.Nat.{◌≤◌}
 use Rattle.replay_runs.proofs.all.Given as goal
 
 abbrev pub invariant-loop : goal.invariant-loop

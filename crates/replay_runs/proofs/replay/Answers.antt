@@ -1,11 +1,4 @@
-use Prim.Native.Nat.{◌-◌, ◌≤◌}
-use mathlib.Core.Path.{◌≡◌}
 use native.Mathlib.Omega.{arith}
-use borrow.Author.Rules.{rules}
-use lib.ListN.{length}
-use Rattle.common.specs.Layout.{question_length}
-use Rattle.common.specs.Limits.{max_states}
-use Rattle.replay_runs.specs.Words.{most_numbers}
 use Rattle.replay_runs.proofs.replay.Goals as goal
 
 pub loop-init : goal.loop-init

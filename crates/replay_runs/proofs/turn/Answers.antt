@@ -1,10 +1,6 @@
 -- `turn` meets its contract: a reply and an answer have at most 5098 words. Assumes nothing.
 use native.Mathlib.Omega.{arith}
-use borrow.Author.Rules.{rules}
 use Rattle.replay_runs.proofs.turn.Goals as goal
 
 pub compared-requires : goal.compared-requires
-compared-requires c =
-    let h = c.requires in
-    let h1 = c.question-1.given in
-    omega (arith, h, h1)
+compared-requires c = omega arith

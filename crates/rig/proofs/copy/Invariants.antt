@@ -1,5 +1,5 @@
 -- `copy` is safe and ends: each turn keeps the length. Assumes nothing.
-use Rattle.std.proofs.Common.{◌≡◌, ◌-◌, ◌≤◌, length, arith, length-set, rules}
+use Rattle.std.proofs.Common.{◌≡◌, ◌≤◌, length}
 use Rattle.rig.proofs.copy.Given as goal
 
 abbrev pub invariant-loop-i : goal.invariant-loop-i

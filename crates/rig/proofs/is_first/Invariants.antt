@@ -1,5 +1,5 @@
 -- `is_first` is safe and ends: it looks at the states one by one. Assumes nothing.
-use Rattle.std.proofs.Common.{◌-◌, ◌≤◌, arith, rules}
+use Rattle.std.proofs.Common.{◌≤◌}
 use Rattle.common.specs.Limits.{max_states}
 use Rattle.rig.proofs.is_first.Given as goal
 

@@ -1,11 +1,8 @@
-use Prim.Native.Nat.{◌+◌, ◌-◌}
+use Prim.Native.Nat.{◌+◌}
 use mathlib.Core.Path.{◌≡◌, refl, sym, ◌∙◌}
 use mathlib.Core.Bool.{true, false}
 use native.Mathlib.Omega.{arith}
-use lib.ListN.{length}
-use borrow.Author.Rules.{rules}
 use borrow.Author.Tests.{eq-eqb, ne_eqb}
-use Rattle.loops.specs.For.{for}
 use Rattle.loops.proofs.For.{onward, ended, stays}
 use Rattle.replay.specs.Leaf.{is_float_at, are_floats}
 use Rattle.replay.proofs.leaf.are_floats.Goals as goal

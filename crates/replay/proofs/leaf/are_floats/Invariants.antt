@@ -1,17 +1,13 @@
 -- `are_floats` meets its contract: the entries that are left decide the whole.
 -- Assumes nothing.
-use Prim.Native.Nat.{◌+◌, ◌-◌}
-use mathlib.Core.Path.{◌≡◌, refl, sym, ◌∙◌}
-use mathlib.Core.Bool.{true, false}
-use native.Mathlib.Omega.{arith}
+use mathlib.Core.Path.{◌≡◌}
+use mathlib.Core.Bool.{true}
 use lib.ListN.{length}
-use borrow.Author.Rules.{rules}
-use borrow.Author.Tests.{eq-eqb, ne_eqb}
 use Rattle.loops.specs.For.{for}
-use Rattle.loops.proofs.For.{onward, ended, stays}
 use Rattle.replay.specs.Leaf.{is_float_at, are_floats}
 use Rattle.replay.proofs.leaf.are_floats.Given as goal
 
 abbrev pub invariant-loop-i : goal.invariant-loop-i
 invariant-loop-i l =
-    (l.i-end ≡ length l.list) × (for l.i (length l.list) (is_float_at l.list l.stored l.at) true ≡ are_floats l.list l.stored l.at)
+    (l.i-end ≡ length l.list)
+    × (for l.i (length l.list) (is_float_at l.list l.stored l.at) true ≡ are_floats l.list l.stored l.at)

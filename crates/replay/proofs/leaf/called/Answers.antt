@@ -1,6 +1,5 @@
 -- `called` meets its contract: the lists are filled one after the other, and then lent to the function.
 -- Assumes nothing.
-use borrow.Author.Rules.{rules}
 use Rattle.replay.specs.Leaf.{called_of}
 use Rattle.replay.proofs.leaf.called.Goals as goal
 

@@ -1,7 +1,6 @@
 -- `counted` meets its contract: each way returns what `counted_at` picks under the test.
 -- Assumes nothing.
 use native.Mathlib.Omega.{arith}
-use borrow.Author.Rules.{rules}
 use Rattle.replay.proofs.leaf.counted.Goals as goal
 
 pub returns-then-is_same : goal.returns-then-is_same

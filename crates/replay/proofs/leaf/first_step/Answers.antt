@@ -1,6 +1,5 @@
 -- `first_step` meets its contract: each way returns what `leaf_first_step` says under the tests that led there.
 -- Assumes nothing.
-use borrow.Author.Rules.{rules}
 use borrow.Author.Tests.{le-leb, lt-leb}
 use Rattle.common.specs.Limits.{max_states}
 use Rattle.replay.specs.Leaf.{leaf_first_step}
@@ -12,7 +11,8 @@ returns-then-n-gt-MAX_STATES c = rw (lt-leb _ max_states c.if-n-gt-MAX_STATES.tr
 
 pub returns-then-nrtol-gt-MAX_STATES : goal.returns-then-nrtol-gt-MAX_STATES
 unfolding leaf_first_step
-returns-then-nrtol-gt-MAX_STATES c = rw (le-leb _ max_states c.if-n-gt-MAX_STATES.false, lt-leb _ max_states c.if-nrtol-gt-MAX_STATES.true)
+returns-then-nrtol-gt-MAX_STATES c =
+    rw (le-leb _ max_states c.if-n-gt-MAX_STATES.false, lt-leb _ max_states c.if-nrtol-gt-MAX_STATES.true)
 
 pub returns-then-b-atol : goal.returns-then-b-atol
 unfolding leaf_first_step

@@ -1,11 +1,8 @@
-use Prim.Native.Nat.{◌-◌}
-use mathlib.Core.Path.{◌≡◌, refl}
+use mathlib.Core.Path.{refl}
 use native.Mathlib.Omega.{arith}
-use lib.ListN.{length, length-set}
-use borrow.Author.Rules.{rules}
-use Rattle.loops.specs.For.{for}
+use lib.ListN.{length-set}
 use Rattle.loops.proofs.For.{onward, ended}
-use Rattle.replay.specs.Leaf.{stored_float_at, leaf_floats}
+use Rattle.replay.specs.Leaf.{leaf_floats}
 use Rattle.replay.proofs.leaf.get_floats.Goals as goal
 
 pub loop-i-init : goal.loop-i-init

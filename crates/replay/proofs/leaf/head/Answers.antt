@@ -1,6 +1,5 @@
 -- `head` meets its contract: each field is the number at its place.
 -- Assumes nothing.
-use borrow.Author.Rules.{rules}
 use Rattle.replay.specs.Leaf.{call_of}
 use Rattle.replay.proofs.leaf.head.Goals as goal
 

@@ -1,6 +1,5 @@
 -- `is_again` meets its contract: each way returns what `is_again` says under the test that led there.
 -- Assumes nothing.
-use borrow.Author.Rules.{rules}
 use borrow.Author.Tests.{eq-eqb, ne_eqb}
 use Rattle.replay.specs.Leaf.{is_again}
 use Rattle.replay.proofs.leaf.is_again.Goals as goal

@@ -1,7 +1,5 @@
 -- `is_left` meets its contract: each way returns what `is_left` says under the tests that led there.
 -- Assumes nothing.
-use borrow.Author.Rules.{rules}
-use borrow.Author.Tests.{not-true, not-false}
 use Rattle.replay.specs.Leaf.{is_left}
 use Rattle.replay.proofs.leaf.is_left.Goals as goal
 

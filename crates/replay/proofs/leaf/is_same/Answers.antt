@@ -1,6 +1,5 @@
 -- `is_same` meets its contract: each way returns what `is_same` says under the test that led there.
 -- Assumes nothing.
-use borrow.Author.Rules.{rules}
 use borrow.Author.Tests.{le-leb, lt-leb}
 use Rattle.replay.specs.Leaf.{is_same}
 use Rattle.replay.proofs.leaf.is_same.Goals as goal

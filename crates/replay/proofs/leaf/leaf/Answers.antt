@@ -1,6 +1,5 @@
 -- `leaf` meets its contract: each way leaves what `leaf_of` picks at the kind that led there.
 -- Assumes nothing.
-use borrow.Author.Rules.{rules}
 use borrow.Author.Tests.{lt-ltb, le-ltb}
 use Rattle.replay.specs.Leaf.{leaf_of}
 use Rattle.replay.proofs.leaf.leaf.Goals as goal

@@ -1,7 +1,6 @@
 -- `length_of` meets its contract: the stored length, or the limit.
 -- Assumes nothing.
 use native.Mathlib.Omega.{arith}
-use borrow.Author.Rules.{rules}
 use borrow.Author.Tests.{le-leb, lt-leb}
 use Rattle.replay.specs.Leaf.{length_of}
 use Rattle.replay.proofs.leaf.length_of.Goals as goal

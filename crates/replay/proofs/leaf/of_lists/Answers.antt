@@ -1,6 +1,5 @@
 -- `of_lists` meets its contract: each way leaves what `leaf_lists` picks at the kind that led there.
 -- Assumes nothing.
-use borrow.Author.Rules.{rules}
 use borrow.Author.Tests.{ne_eqb}
 use Rattle.replay.specs.Leaf.{leaf_lists}
 use Rattle.replay.proofs.After.{of_left, of-factored, of-columns}

@@ -1,6 +1,5 @@
 -- `of_norms` meets its contract: each way returns what `leaf_norms` picks at the kind that led there.
 -- Assumes nothing.
-use borrow.Author.Rules.{rules}
 use borrow.Author.Tests.{ne_eqb}
 use Rattle.replay.specs.Leaf.{leaf_norms}
 use Rattle.replay.proofs.leaf.of_norms.Goals as goal

@@ -1,6 +1,5 @@
 -- `of_records` meets its contract: each way leaves what `leaf_records` picks at the kind that led there.
 -- Assumes nothing.
-use borrow.Author.Rules.{rules}
 use borrow.Author.Tests.{ne_eqb}
 use Rattle.replay.specs.Leaf.{leaf_records}
 use Rattle.replay.proofs.After.{of-columns, of-interpolated, of-worked, of-record}

@@ -1,6 +1,5 @@
 -- `snapshot` meets its contract: each way returns what `leaf_snapshot` says under the test that led there.
 -- Assumes nothing.
-use borrow.Author.Rules.{rules}
 use borrow.Author.Tests.{le-leb, lt-leb}
 use Rattle.replay.specs.Leaf.{leaf_snapshot}
 use Rattle.replay.proofs.leaf.snapshot.Goals as goal

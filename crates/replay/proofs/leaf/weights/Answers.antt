@@ -1,6 +1,5 @@
 -- `weights` meets its contract: each way returns what `leaf_weights` says under the test that led there.
 -- Assumes nothing.
-use borrow.Author.Rules.{rules}
 use borrow.Author.Tests.{le-leb, lt-leb}
 use Rattle.replay.specs.Leaf.{leaf_weights}
 use Rattle.replay.proofs.leaf.weights.Goals as goal

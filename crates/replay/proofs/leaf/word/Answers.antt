@@ -1,7 +1,6 @@
 -- `word` meets its contract: within the list its entry, and behind it the default.
 -- Assumes nothing.
 use Prim.Native.Nat.{ℕ}
-use borrow.Author.Rules.{rules}
 use lib.ListN.{get_or-eq_default}
 use Rattle.replay.proofs.leaf.word.Goals as goal
 

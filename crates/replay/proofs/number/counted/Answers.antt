@@ -1,7 +1,6 @@
 -- `counted` meets its contract: each way returns what `counted_at` picks under the test of the two patterns.
 -- Assumes nothing.
 use native.Mathlib.Omega.{arith}
-use borrow.Author.Rules.{rules}
 use borrow.Author.Tests.{eq-eqb, ne_eqb}
 use Rattle.replay.proofs.number.counted.Goals as goal
 

@@ -1,11 +1,7 @@
-use Prim.Native.Nat.{◌-◌, ◌≤◌, ◌/◌}
-use mathlib.Core.Path.{◌≡◌, refl, sym}
+use mathlib.Core.Path.{refl, sym}
 use native.Mathlib.Omega.{arith}
-use lib.ListN.{length}
-use Rattle.loops.specs.For.{for}
 use Rattle.loops.proofs.For.{onward, ended}
-use Rattle.loops.specs.Count.{counted_at, differing}
-use Rattle.replay.specs.Number.{is_stored, cases_differ}
+use Rattle.loops.specs.Count.{differing}
 use Rattle.replay.proofs.number.differ.Goals as goal
 
 pub loop-i-init : goal.loop-i-init

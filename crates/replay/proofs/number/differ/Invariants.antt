@@ -1,12 +1,10 @@
 -- `differ` meets its contract: counting on from case i, with what is found so far, gives the whole count.
 -- Assumes nothing.
-use Prim.Native.Nat.{◌-◌, ◌≤◌, ◌/◌}
-use mathlib.Core.Path.{◌≡◌, refl, sym}
-use native.Mathlib.Omega.{arith}
+use Prim.Native.Nat.{◌≤◌, ◌/◌}
+use mathlib.Core.Path.{◌≡◌}
 use lib.ListN.{length}
 use Rattle.loops.specs.For.{for}
-use Rattle.loops.proofs.For.{onward, ended}
-use Rattle.loops.specs.Count.{counted_at, differing}
+use Rattle.loops.specs.Count.{counted_at}
 use Rattle.replay.specs.Number.{is_stored, cases_differ}
 use Rattle.replay.proofs.number.differ.Given as goal
 

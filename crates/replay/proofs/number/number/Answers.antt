@@ -1,6 +1,5 @@
 -- `number` meets its contract: each way returns what `case_number` picks at the kind that led there.
 -- Assumes nothing.
-use borrow.Author.Rules.{rules}
 use borrow.Author.Tests.{ne_eqb}
 use Rattle.replay.specs.Number.{case_number}
 use Rattle.replay.proofs.number.number.Goals as goal

@@ -1,5 +1,4 @@
 -- `is_asked` meets its contract. Assumes nothing.
-use borrow.Author.Rules.{rules}
 use borrow.Author.Tests.{lt-ltb, le-ltb}
 use Rattle.replay_runs.specs.Answer.{asks_reply}
 use Rattle.replay_runs.proofs.answer.is_asked.Goals as goal

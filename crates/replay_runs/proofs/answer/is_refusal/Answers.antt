@@ -1,8 +1,5 @@
 -- `is_refusal` meets its contract: each way returns what `is_stored_refusal` says under the tests that led there.
 -- Assumes nothing.
-use native.Mathlib.Omega.{arith}
-use borrow.Author.Rules.{rules}
-use borrow.Author.Tests.{not-true, not-false}
 use Rattle.replay_runs.specs.Answer.{is_stored_refusal}
 use Rattle.replay_runs.proofs.answer.is_refusal.Goals as goal
 

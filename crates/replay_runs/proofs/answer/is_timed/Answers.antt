@@ -1,5 +1,4 @@
 -- `is_timed` meets its contract. Assumes nothing.
-use borrow.Author.Rules.{rules}
 use borrow.Author.Tests.{eq-eqb, ne_eqb}
 use Rattle.replay_runs.specs.Answer.{is_timed}
 use Rattle.replay_runs.proofs.answer.is_timed.Goals as goal

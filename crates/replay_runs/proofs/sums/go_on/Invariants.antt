@@ -1,9 +1,7 @@
 -- `go_on` is safe and ends: each turn keeps the lengths of what is lent, and there are at most 1000000.
 -- Assumes nothing.
-use Prim.Native.Nat.{◌-◌, ◌≤◌}
+use Prim.Native.Nat.{◌≤◌}
 use mathlib.Core.Path.{◌≡◌}
-use native.Mathlib.Omega.{arith}
-use borrow.Author.Rules.{rules}
 use lib.ListN.{length}
 use Rattle.replay_runs.proofs.sums.go_on.Given as goal
 

@@ -4,8 +4,6 @@ use mathlib.Core.Bool.{Bool, true, false, ◌&&◌}
 use mathlib.Core.List.{List}
 use native.Mathlib.Nat.{sub-zero}
 use native.Mathlib.Omega.{arith}
-use borrow.Author.Rules.{rules}
-use borrow.Author.Tests.{not-true, not-false}
 use lib.ListN.{length, get_or}
 use lib.Ieee.{Float, nan}
 use Rattle.replay_runs.specs.Words.{is_stored_float, are_stored_from, are_stored_floats}
@@ -13,7 +11,8 @@ use Rattle.replay_runs.proofs.words.are_floats.Goals as goal
 
 module _ (words : List ℕ) (at : ℕ) (list : List Float) (i : ℕ) (r : Bool) where
   turn : i < length list → are_stored_from words at list (length list - i) i
-      ≡ (is_stored_float words (at + i) (get_or list i nan) && are_stored_from words at list (length list - (i + 1)) (i + 1))
+      ≡ (is_stored_float words (at + i) (get_or list i nan)
+      && are_stored_from words at list (length list - (i + 1)) (i + 1))
   unfolding are_stored_from
   turn h =
       let q : length list - i ≡ suc (length list - (i + 1)) = omega arith in

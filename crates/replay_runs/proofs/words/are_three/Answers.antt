@@ -1,8 +1,5 @@
 -- `are_three` meets its contract: each way returns what `are_stored_three` says under the tests that led there.
 -- Assumes nothing.
-use native.Mathlib.Omega.{arith}
-use borrow.Author.Rules.{rules}
-use borrow.Author.Tests.{not-true, not-false}
 use Rattle.replay_runs.specs.Words.{are_stored_three}
 use Rattle.replay_runs.proofs.words.are_three.Goals as goal
 

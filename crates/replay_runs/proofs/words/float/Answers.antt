@@ -1,5 +1,4 @@
 -- `float` meets its contract. Assumes nothing.
-use borrow.Author.Rules.{rules}
 use Rattle.replay_runs.proofs.words.float.Goals as goal
 
 pub returns : goal.returns

@@ -1,9 +1,7 @@
 -- `floats` is safe and ends: each turn keeps the length. Assumes nothing.
-use Prim.Native.Nat.{◌-◌, ◌≤◌}
+use Prim.Native.Nat.{◌≤◌}
 use mathlib.Core.Path.{◌≡◌}
-use native.Mathlib.Omega.{arith}
-use borrow.Author.Rules.{rules}
-use lib.ListN.{length, length-set}
+use lib.ListN.{length}
 use Rattle.replay_runs.specs.Words.{most_numbers}
 use Rattle.replay_runs.proofs.words.floats.Given as goal
 

@@ -1,5 +1,4 @@
 -- `is_count` meets its contract. Assumes nothing.
-use borrow.Author.Rules.{rules}
 use Rattle.replay_runs.specs.Words.{is_stored_count}
 use Rattle.replay_runs.proofs.words.is_count.Goals as goal
 

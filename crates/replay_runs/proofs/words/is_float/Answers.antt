@@ -1,5 +1,4 @@
 -- `is_float` meets its contract. Assumes nothing.
-use borrow.Author.Rules.{rules}
 use Rattle.replay_runs.specs.Words.{is_stored_float}
 use Rattle.replay_runs.proofs.words.is_float.Goals as goal
 

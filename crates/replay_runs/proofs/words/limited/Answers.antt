@@ -1,6 +1,5 @@
 -- `limited` meets its contract: the stored count, or the most. Assumes nothing.
 use native.Mathlib.Omega.{arith}
-use borrow.Author.Rules.{rules}
 use borrow.Author.Tests.{lt-ltb, le-ltb}
 use Rattle.replay_runs.specs.Words.{limited_word}
 use Rattle.replay_runs.proofs.words.limited.Goals as goal

@@ -1,4 +1,4 @@
-use Rattle.std.proofs.Common.{◌≡◌, ◌-◌, ◌≤◌, length, arith, length-set, rules}
+use Rattle.std.proofs.Common.{arith, length-set}
 use Rattle.rig.proofs.chain.clear.Goals as goal
 
 pub loop-k-preserved : goal.loop-k-preserved

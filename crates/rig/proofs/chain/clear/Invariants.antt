@@ -1,5 +1,5 @@
 -- `clear` is safe and ends: each turn keeps the length. Assumes nothing.
-use Rattle.std.proofs.Common.{◌≡◌, ◌-◌, ◌≤◌, length, arith, length-set, rules}
+use Rattle.std.proofs.Common.{◌≡◌, ◌≤◌, length}
 use Rattle.rig.proofs.chain.clear.Given as goal
 
 abbrev pub invariant-loop-k : goal.invariant-loop-k

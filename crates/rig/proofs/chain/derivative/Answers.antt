@@ -1,4 +1,4 @@
-use Rattle.std.proofs.Common.{◌≡◌, ◌-◌, ◌≤◌, length, arith, length-set, rules}
+use Rattle.std.proofs.Common.{arith, length-set}
 use Rattle.rig.proofs.chain.derivative.Goals as goal
 
 pub bounds-f-i-in-loop-i : goal.bounds-f-i-in-loop-i

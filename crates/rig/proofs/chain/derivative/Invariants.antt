@@ -1,5 +1,5 @@
 -- `derivative` is safe and ends: each turn keeps the length. Assumes nothing.
-use Rattle.std.proofs.Common.{◌≡◌, ◌-◌, ◌≤◌, length, arith, length-set, rules}
+use Rattle.std.proofs.Common.{◌≡◌, ◌≤◌, length}
 use Rattle.rig.proofs.chain.derivative.Given as goal
 
 abbrev pub invariant-loop-i : goal.invariant-loop-i

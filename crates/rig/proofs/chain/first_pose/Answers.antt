@@ -1,4 +1,4 @@
-use Rattle.std.proofs.Common.{◌≡◌, ◌-◌, ◌≤◌, length, arith, length-set, rules}
+use Rattle.std.proofs.Common.{arith, length-set}
 use Rattle.rig.proofs.chain.first_pose.Goals as goal
 
 pub bounds-y-i-in-loop-i : goal.bounds-y-i-in-loop-i

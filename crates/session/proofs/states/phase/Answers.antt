@@ -46,7 +46,8 @@ returns-in-9 c = rw c.in-9.is
 
 pub returns-in_default : goal.returns-in_default
 unfolding phase_of
-returns-in_default c = let r = c.in_default.rest in
+returns-in_default c =
+    let r = c.in_default.in_default-own.rest in
     rw (
       ne_eqb _ _ r.0.0.0.0.0.0.0.0.0.1,
       ne_eqb _ _ r.0.0.0.0.0.0.0.0.1,
