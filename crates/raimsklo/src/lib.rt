@@ -95,7 +95,7 @@ pub fn raimsklo_start(
     ensures { ◌≡◌ {A = Called} (record {
       reply = result;
       lent = record {
-        work = work.exit.now;
+        work = work.new;
         pivots = pivots.new;
         session = session.new;
         question = question.new;
@@ -110,7 +110,7 @@ pub fn raimsklo_start(
           options = options;
         })
         (record {
-          work = work.entry.now;
+          work = work.old;
           pivots = pivots.old;
           session = session.old;
           question = question.old;
@@ -154,7 +154,7 @@ pub fn raimsklo_reply(
     ensures { ◌≡◌ {A = Called} (record {
       reply = result;
       lent = record {
-        work = work.exit.now;
+        work = work.new;
         pivots = pivots.new;
         session = session.new;
         question = question.new;
@@ -162,7 +162,7 @@ pub fn raimsklo_reply(
     })
         (reply_of kind numbers.now time
         (record {
-          work = work.entry.now;
+          work = work.old;
           pivots = pivots.old;
           session = session.old;
           question = question.old;
