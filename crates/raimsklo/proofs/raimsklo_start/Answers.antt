@@ -32,8 +32,8 @@ accept-requires c =
     let st = accepted _ _ _ _ _ _ q in
     let l = st.limits in
     let some = z.if-y0-eq0.false in
-    rw c.settings-s.ensures (
-      record {
+    rw c.settings-s.ensures record {
+      accepted = record {
         n = (omega arith, st.sizes.n);
         maxsteps = l.maxsteps;
         mxordn = l.mxordn;
@@ -41,9 +41,10 @@ accept-requires c =
         maxcor = l.maxcor;
         msbp = l.msbp;
         mxncf = l.mxncf;
-      },
-      ((refl, st.sizes.work), (omega (arith, st.sizes.session), omega (arith, st.sizes.question))),
-    )
+      };
+      y0_len = (refl, st.sizes.work);
+      session_length_in_bounds = (omega (arith, st.sizes.session), omega (arith, st.sizes.question));
+    }
 
 pub returns : goal.returns
 unfolding start_of start_at

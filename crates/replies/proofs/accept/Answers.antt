@@ -97,7 +97,7 @@ resume-turn-requires c =
     let rtol = relative b x.pivots.now x.x q.0 q.1 t.rtol.ensures in
     let atol = absolute b x.pivots.now x.x q.0 q.1 t.atol.ensures in
     let r = resumes b x.pivots.now q.0 x.work.now z.sized z.pivoted in
-    rw (rtol, atol, q.1) (z.states.1, unless (decode_of b).phase r)
+    rw (rtol, atol, q.1) record { n_le_max_states = z.states.1; unless_finished = unless (decode_of b).phase r }
 
 pub write_turn-requires : goal.write_turn-requires
 write_turn-requires c =
@@ -119,10 +119,7 @@ write_turn-requires c =
     let room = (resume-lent g (decode_of b).phase st x.numbers.now x.time r.lent x.kind).sized in
     let low = ap (λ (l : RunState). l.st.c.nq) turned in
     let long = ap (λ (l : RunState). length l.st.w) turned in
-    rw q.1 (
-      (z.states.0, z.states.1, omega (arith, low, order)),
-      ((omega (arith, long, room), omega (arith, z.asked)), omega (arith, a.requires.bytes_len)),
-    )
+    rw q.1 record { le_n = (z.states.0, z.states.1, omega (arith, low, order)); n_in_bounds = (omega (arith, long, room), omega (arith, z.asked)); session_length_in_bounds = omega (arith, a.requires.bytes_len) }
 
 pub returns : goal.returns
 unfolding accepted_reply_of
