@@ -1,5 +1,5 @@
 """Holds include/raimsklo.h, the Rust crate, the Python package and the comparison to the exports of the Rattle library,
-and the hosts to one another.
+the exports to the library's functions, and the hosts to one another.
 
 Each exported function stands in the header with the same arguments in the same order, a slice being a pointer and a
 length; the two structs have the same fields, in the same order, everywhere. All hosts have one version, the first of
@@ -41,7 +41,7 @@ def read_all(pattern):
 def exports():
     """Name → (arguments, result), in the words of the header."""
     found = {}
-    text = read("crates/raimsklo/src/lib.rt")
+    text = read("crates/raimsklo_c/src/lib.rt")
     for name, inside, result in re.findall(r'pub extern "C" fn (\w+)\(([^)]*)\) -> (\w+)', text):
         arguments = []
         for piece in filter(None, (a.strip() for a in inside.split(","))):
@@ -118,7 +118,29 @@ def functions_and_structs(same):
     return len(ours)
 
 
-# ---- versions ----
+# ---- exports and the library's functions ----
+
+
+def stated(crate):
+    """Name → arguments, result and clauses of each function that the crate offers, without layout."""
+    found = {}
+    for text in read_all(f"crates/{crate}/src/*.rt"):
+        for name, said in re.findall(r'^pub (?:extern "C" )?fn (\w+)(.*?)^\{$', text, flags=re.S | re.M):
+            found[name] = re.sub(r",\)", ")", re.sub(r"\s+", "", said))
+    return found
+
+
+def stated_again(same):
+    """A static library NAME_c exports the functions of the library NAME that bear its name, with their clauses."""
+    for crate in ("raimsklo", "probe"):
+        ours = {name: said for name, said in stated(crate).items() if name.startswith(f"{crate}_")}
+        theirs = stated(f"{crate}_c")
+        same(f"the functions of {crate}_c", sorted(ours), sorted(theirs))
+        for name in sorted(set(ours) & set(theirs)):
+            same(f"arguments and clauses of {name} in {crate}_c", ours[name], theirs[name])
+
+
+# ---- versions and licence ----
 
 
 def first(pattern, path):
@@ -127,6 +149,12 @@ def first(pattern, path):
         return None
     found = re.search(pattern, read(path), flags=re.M)
     return found.group(1) if found else None
+
+
+def licence(same):
+    """The Rust crate's package has copies of the licence and the notice."""
+    for name in ("LICENSE", "NOTICE"):
+        same(f"hosts/rust/{name} is {name}", True, read(f"hosts/rust/{name}") == read(name))
 
 
 def versions(same):
@@ -265,6 +293,8 @@ def main():
             wrong.append(f"{what}\n    expected: {ours}\n    there is: {theirs}")
 
     functions = functions_and_structs(same)
+    stated_again(same)
+    licence(same)
     version = versions(same)
     numbers = texts(same)
     know_before_use(same)

@@ -1,4 +1,4 @@
-//! Links our functions for comparisons, from the static libraries that `rt staticlib` writes.
+//! Links our functions for comparisons, from the static libraries that `tools/library` makes.
 
 use std::path::{Path, PathBuf};
 
@@ -12,7 +12,7 @@ fn main() {
     println!("cargo:rerun-if-changed={}", archive.display());
     if !archive.exists() {
         let told = archive.display();
-        eprintln!("oracle: {told} is not there: `bash oracle/run` makes it, or `rt staticlib probe`");
+        eprintln!("oracle: {told} is not there: `bash oracle/run` makes it, or `bash tools/library probe`");
         std::process::exit(1);
     }
     println!("cargo:rustc-link-lib=static=probe");

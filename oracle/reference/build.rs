@@ -159,13 +159,14 @@ fn write(out: &Path, name: &str, text: String) {
     fs::write(path, text).unwrap();
 }
 
-/// Our own functions, from the static library that `rt staticlib` writes.
+/// Our own functions, from the static library that `tools/library` makes.
 fn link(repository: &Path, library: &str) {
     let folder = repository.join("target/staticlib");
     let archive = folder.join(format!("lib{library}.a"));
     println!("cargo:rerun-if-changed={}", archive.display());
     if !archive.exists() {
-        stop(&format!("{} is not there: `bash oracle/run` makes it, or `rt staticlib {library}`", archive.display()));
+        let told = archive.display();
+        stop(&format!("{told} is not there: `bash oracle/run` makes it, or `bash tools/library {library}`"));
     }
     println!("cargo:rustc-link-search=native={}", folder.display());
     println!("cargo:rustc-link-lib=static={library}");

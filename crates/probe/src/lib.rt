@@ -20,71 +20,61 @@ pub mod steps;
 use dense::Outcome;
 use vectors::Weights;
 
-#[unsafe(no_mangle)]
-pub extern "C" fn probe_abs(x: f64) -> f64
+pub fn probe_abs(x: f64) -> f64
     ensures { result ≡ abs_of x }
 {
     numbers::abs(x)
 }
 
-#[unsafe(no_mangle)]
-pub extern "C" fn probe_max(a: f64, b: f64) -> f64
+pub fn probe_max(a: f64, b: f64) -> f64
     ensures { result ≡ max_of a b }
 {
     numbers::max(a, b)
 }
 
-#[unsafe(no_mangle)]
-pub extern "C" fn probe_min(a: f64, b: f64) -> f64
+pub fn probe_min(a: f64, b: f64) -> f64
     ensures { result ≡ min_of a b }
 {
     numbers::min(a, b)
 }
 
-#[unsafe(no_mangle)]
-pub extern "C" fn probe_clamp(x: f64, low: f64, high: f64) -> f64
+pub fn probe_clamp(x: f64, low: f64, high: f64) -> f64
     ensures { result ≡ clamp_of x low high }
 {
     numbers::clamp(x, low, high)
 }
 
-#[unsafe(no_mangle)]
-pub extern "C" fn probe_signum(x: f64) -> f64
+pub fn probe_signum(x: f64) -> f64
     ensures { result ≡ signum_of x }
 {
     numbers::signum(x)
 }
 
-#[unsafe(no_mangle)]
-pub extern "C" fn probe_copysign(x: f64, s: f64) -> f64
+pub fn probe_copysign(x: f64, s: f64) -> f64
     ensures { result ≡ copysign_of x s }
 {
     numbers::copysign(x, s)
 }
 
-#[unsafe(no_mangle)]
-pub extern "C" fn probe_is_refused(h: f64, direction: f64) -> bool
+pub fn probe_is_refused(h: f64, direction: f64) -> bool
     ensures { result ≡ refused h direction }
 {
     numbers::is_refused(h, direction)
 }
 
-#[unsafe(no_mangle)]
-pub extern "C" fn probe_to_bits(x: f64) -> u64
+pub fn probe_to_bits(x: f64) -> u64
     ensures { result ≡ Ieee.to_bits binary64 x }
 {
     numbers::to_bits(x)
 }
 
-#[unsafe(no_mangle)]
-pub extern "C" fn probe_from_bits(b: u64) -> f64
+pub fn probe_from_bits(b: u64) -> f64
     ensures { result ≡ Ieee.of_bits binary64 b }
 {
     numbers::from_bits(b)
 }
 
-#[unsafe(no_mangle)]
-pub extern "C" fn probe_sqrt(x: f64) -> f64
+pub fn probe_sqrt(x: f64) -> f64
     ensures { result ≡ sqrt_of x }
 {
     sqrt::sqrt(x)
@@ -101,8 +91,7 @@ fn is_order(order: usize, last: usize) -> bool
 }
 
 // Coefficient i of an order in a table: 0 none yet, 1 Adams, 2 BDF.
-#[unsafe(no_mangle)]
-pub extern "C" fn probe_elco(table: usize, order: usize, i: usize) -> f64
+pub fn probe_elco(table: usize, order: usize, i: usize) -> f64
     ensures { result ≡ elco_or_nan table order i }
 {
     if 2 < table {
@@ -118,8 +107,7 @@ pub extern "C" fn probe_elco(table: usize, order: usize, i: usize) -> f64
 }
 
 // Error entry i of an order in a table.
-#[unsafe(no_mangle)]
-pub extern "C" fn probe_tesco(table: usize, order: usize, i: usize) -> f64
+pub fn probe_tesco(table: usize, order: usize, i: usize) -> f64
     ensures { result ≡ tesco_or_nan table order i }
 {
     if 2 < table {
@@ -134,8 +122,7 @@ pub extern "C" fn probe_tesco(table: usize, order: usize, i: usize) -> f64
     numbers::not_a_number()
 }
 
-#[unsafe(no_mangle)]
-pub extern "C" fn probe_cm1(table: usize, order: usize) -> f64
+pub fn probe_cm1(table: usize, order: usize) -> f64
     ensures { result ≡ cm1_or_nan table order }
 {
     if is_order(order, 12) {
@@ -144,8 +131,7 @@ pub extern "C" fn probe_cm1(table: usize, order: usize) -> f64
     numbers::not_a_number()
 }
 
-#[unsafe(no_mangle)]
-pub extern "C" fn probe_cm2(table: usize, order: usize) -> f64
+pub fn probe_cm2(table: usize, order: usize) -> f64
     ensures { result ≡ cm2_or_nan table order }
 {
     if is_order(order, 5) {
@@ -154,8 +140,7 @@ pub extern "C" fn probe_cm2(table: usize, order: usize) -> f64
     numbers::not_a_number()
 }
 
-#[unsafe(no_mangle)]
-pub extern "C" fn probe_sm1(order: usize) -> f64
+pub fn probe_sm1(order: usize) -> f64
     ensures { result ≡ sm1_or_nan order }
 {
     if is_order(order, 12) {
@@ -252,8 +237,7 @@ fn are_pivots(n: usize, ipiv: &[usize]) -> bool
     true
 }
 
-#[unsafe(no_mangle)]
-pub extern "C" fn probe_vmnorm(v: &[f64], w: &[f64]) -> f64
+pub fn probe_vmnorm(v: &[f64], w: &[f64]) -> f64
     ensures { result ≡ vmnorm_or_nan v.now w.now }
 {
     if v.len() <= w.len() {
@@ -262,8 +246,7 @@ pub extern "C" fn probe_vmnorm(v: &[f64], w: &[f64]) -> f64
     numbers::not_a_number()
 }
 
-#[unsafe(no_mangle)]
-pub extern "C" fn probe_fnorm_dense(n: usize, a: &[f64], w: &[f64]) -> f64
+pub fn probe_fnorm_dense(n: usize, a: &[f64], w: &[f64]) -> f64
     ensures { result ≡ fnorm_or_nan n a.now w.now }
 {
     if is_matrix(n, a.len(), w.len()) {
@@ -273,14 +256,7 @@ pub extern "C" fn probe_fnorm_dense(n: usize, a: &[f64], w: &[f64]) -> f64
 }
 
 // The weights of the first n numbers of work, at `at`. 0 done, 2 not.
-#[unsafe(no_mangle)]
-pub extern "C" fn probe_ewset(
-    rtol: &[f64],
-    atol: &[f64],
-    work: &mut [f64],
-    n: usize,
-    at: usize,
-) -> usize
+pub fn probe_ewset(rtol: &[f64], atol: &[f64], work: &mut [f64], n: usize, at: usize) -> usize
     ensures { ◌≡◌ {A = WorkLeft} (record { number = result; work = work.new })
         (ewset_left rtol.now atol.now n at work.old) }
 {
@@ -291,8 +267,7 @@ pub extern "C" fn probe_ewset(
     2
 }
 
-#[unsafe(no_mangle)]
-pub extern "C" fn probe_ewset_scalar_like(work: &mut [f64], n: usize, at: usize) -> usize
+pub fn probe_ewset_scalar_like(work: &mut [f64], n: usize, at: usize) -> usize
     ensures { ◌≡◌ {A = WorkLeft} (record { number = result; work = work.new })
         (ewset_like_left n at work.old) }
 {
@@ -304,8 +279,7 @@ pub extern "C" fn probe_ewset_scalar_like(work: &mut [f64], n: usize, at: usize)
 }
 
 // The index of the weight that is refused, or the number of weights where none is.
-#[unsafe(no_mangle)]
-pub extern "C" fn probe_invert_weights(ewt: &mut [f64]) -> usize
+pub fn probe_invert_weights(ewt: &mut [f64]) -> usize
     ensures { (ewt.new ≡ (invert_of ewt.old).ewt)
         × (result ≡ index_of (length ewt.old) (weights_outcome (invert_of ewt.old))) }
 {
@@ -316,8 +290,7 @@ pub extern "C" fn probe_invert_weights(ewt: &mut [f64]) -> usize
     }
 }
 
-#[unsafe(no_mangle)]
-pub extern "C" fn probe_initial_step_size(
+pub fn probe_initial_step_size(
     t: f64,
     tout: f64,
     y: &[f64],
@@ -342,8 +315,7 @@ pub extern "C" fn probe_initial_step_size(
 }
 
 // 0 done, 1 singular, 2 nothing done.
-#[unsafe(no_mangle)]
-pub extern "C" fn probe_dense_lu_factor(a: &mut [f64], n: usize, ipiv: &mut [usize]) -> usize
+pub fn probe_dense_lu_factor(a: &mut [f64], n: usize, ipiv: &mut [usize]) -> usize
     ensures { ◌≡◌ {A = FactorsLeft} (record { number = result; a = a.new; ipiv = ipiv.new })
         (factor_left n a.old ipiv.old) }
 {
@@ -357,14 +329,7 @@ pub extern "C" fn probe_dense_lu_factor(a: &mut [f64], n: usize, ipiv: &mut [usi
 }
 
 // The right side is the n numbers of work at b, the matrix stands at a. 0 done, 1 singular, 2 nothing done.
-#[unsafe(no_mangle)]
-pub extern "C" fn probe_dense_lu_solve(
-    work: &mut [f64],
-    n: usize,
-    a: usize,
-    ipiv: &[usize],
-    b: usize,
-) -> usize
+pub fn probe_dense_lu_solve(work: &mut [f64], n: usize, a: usize, ipiv: &[usize], b: usize) -> usize
     ensures { ◌≡◌ {A = WorkLeft} (record { number = result; work = work.new })
         (solve_left n a ipiv.now b work.old) }
 {

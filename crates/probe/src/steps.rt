@@ -36,8 +36,7 @@ fn are_columns(n: usize, nq: usize, nqnyh: usize, len: usize) -> bool
 }
 
 // 0 done, 2 not.
-#[unsafe(no_mangle)]
-pub extern "C" fn probe_predict_columns(yh: &mut [f64], n: usize, nq: usize, nqnyh: usize) -> usize
+pub fn probe_predict_columns(yh: &mut [f64], n: usize, nq: usize, nqnyh: usize) -> usize
     ensures { ◌≡◌ {A = Columns} (record { number = result; yh = yh.new })
         (predict_left n nq nqnyh yh.old) }
 {
@@ -48,8 +47,7 @@ pub extern "C" fn probe_predict_columns(yh: &mut [f64], n: usize, nq: usize, nqn
     2
 }
 
-#[unsafe(no_mangle)]
-pub extern "C" fn probe_retract_columns(yh: &mut [f64], n: usize, nq: usize, nqnyh: usize) -> usize
+pub fn probe_retract_columns(yh: &mut [f64], n: usize, nq: usize, nqnyh: usize) -> usize
     ensures { ◌≡◌ {A = Columns} (record { number = result; yh = yh.new })
         (retract_left n nq nqnyh yh.old) }
 {
@@ -235,8 +233,7 @@ fn is_usable(floats: &[f64], counts: &[usize], work: usize) -> bool
     in_range(counts[0], counts[5], counts[7], counts[10], work)
 }
 
-#[unsafe(no_mangle)]
-pub extern "C" fn probe_correct_columns(floats: &[f64], counts: &[usize], work: &mut [f64]) -> usize
+pub fn probe_correct_columns(floats: &[f64], counts: &[usize], work: &mut [f64]) -> usize
     ensures { ◌≡◌ {A = Columns} (record { number = result; yh = work.new })
         (correct_left floats.now counts.now work.old) }
 {
@@ -247,8 +244,7 @@ pub extern "C" fn probe_correct_columns(floats: &[f64], counts: &[usize], work: 
     2
 }
 
-#[unsafe(no_mangle)]
-pub extern "C" fn probe_stoda_adjust_step_size(
+pub fn probe_stoda_adjust_step_size(
     floats: &mut [f64],
     counts: &mut [usize],
     rh: f64,
@@ -269,8 +265,7 @@ pub extern "C" fn probe_stoda_adjust_step_size(
     2
 }
 
-#[unsafe(no_mangle)]
-pub extern "C" fn probe_stoda_get_predicted_values(
+pub fn probe_stoda_get_predicted_values(
     floats: &mut [f64],
     counts: &mut [usize],
     work: &mut [f64],
@@ -290,8 +285,7 @@ pub extern "C" fn probe_stoda_get_predicted_values(
     2
 }
 
-#[unsafe(no_mangle)]
-pub extern "C" fn probe_stoda_first_call_init(floats: &mut [f64], counts: &mut [usize]) -> usize
+pub fn probe_stoda_first_call_init(floats: &mut [f64], counts: &mut [usize]) -> usize
     ensures { ◌≡◌ {A = RecordLeft}
         (record { number = result; floats = floats.new; counts = counts.new; work = [] })
         (init_left floats.old counts.old) }
@@ -307,8 +301,7 @@ pub extern "C" fn probe_stoda_first_call_init(floats: &mut [f64], counts: &mut [
     2
 }
 
-#[unsafe(no_mangle)]
-pub extern "C" fn probe_stoda_reset(floats: &mut [f64], counts: &mut [usize]) -> usize
+pub fn probe_stoda_reset(floats: &mut [f64], counts: &mut [usize]) -> usize
     ensures { ◌≡◌ {A = RecordLeft}
         (record { number = result; floats = floats.new; counts = counts.new; work = [] })
         (reset_left floats.old counts.old) }
@@ -325,8 +318,7 @@ pub extern "C" fn probe_stoda_reset(floats: &mut [f64], counts: &mut [usize]) ->
 }
 
 // The snapshot stands in the question from n on.
-#[unsafe(no_mangle)]
-pub extern "C" fn probe_snapshot_step(
+pub fn probe_snapshot_step(
     floats: &[f64],
     counts: &[usize],
     work: &[f64],
@@ -346,8 +338,7 @@ pub extern "C" fn probe_snapshot_step(
     0
 }
 
-#[unsafe(no_mangle)]
-pub extern "C" fn probe_interpolate(xi: f64, yi: &mut [f64], cont: &[f64]) -> usize
+pub fn probe_interpolate(xi: f64, yi: &mut [f64], cont: &[f64]) -> usize
     ensures { ◌≡◌ {A = Interpolated} (record { number = result; output = yi.new })
         (interpolate_of xi cont.now yi.old) }
 {

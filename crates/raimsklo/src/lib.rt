@@ -16,16 +16,14 @@ pub use answers::Reply;
 use refusals::{Lengths, Options};
 
 // The root of order k of x. An order outside 2 to 13 gives a NaN whatever x is.
-#[unsafe(no_mangle)]
-pub extern "C" fn raimsklo_root(x: f64, k: usize) -> f64
+pub fn raimsklo_root(x: f64, k: usize) -> f64
     ensures { result ≡ (root_of x k).value }
 {
     root::root(x, k).value
 }
 
 // The pose at time xi from a report's snapshot: 0, or a refusal (15, 16, 17) that leaves the pose as it was.
-#[unsafe(no_mangle)]
-pub extern "C" fn raimsklo_interpolate(xi: f64, pose: &mut [f64], snapshot: &[f64]) -> usize
+pub fn raimsklo_interpolate(xi: f64, pose: &mut [f64], snapshot: &[f64]) -> usize
     ensures { ◌≡◌ {A = Interpolated} (record { number = result; output = pose.new })
         (interpolate_of xi snapshot.now pose.old) }
 {
@@ -33,8 +31,7 @@ pub extern "C" fn raimsklo_interpolate(xi: f64, pose: &mut [f64], snapshot: &[f6
 }
 
 // The Rust's own options, to be changed where wanted.
-#[unsafe(no_mangle)]
-pub extern "C" fn raimsklo_defaults() -> Options
+pub fn raimsklo_defaults() -> Options
     ensures { result ≡ defaults }
 {
     Options {
@@ -56,8 +53,7 @@ pub extern "C" fn raimsklo_defaults() -> Options
 }
 
 // How many numbers the work of n states has; 0 where n is above the largest number of states.
-#[unsafe(no_mangle)]
-pub extern "C" fn raimsklo_work_length(n: usize) -> usize
+pub fn raimsklo_work_length(n: usize) -> usize
     ensures { result ≡ work_length_for n }
 {
     if n > common::MAX_STATES {
@@ -67,8 +63,7 @@ pub extern "C" fn raimsklo_work_length(n: usize) -> usize
 }
 
 // How many numbers the question of n states has; 0 where n is above the largest number of states.
-#[unsafe(no_mangle)]
-pub extern "C" fn raimsklo_question_length(n: usize) -> usize
+pub fn raimsklo_question_length(n: usize) -> usize
     ensures { result ≡ question_length_for n }
 {
     if n > common::MAX_STATES {
@@ -78,16 +73,14 @@ pub extern "C" fn raimsklo_question_length(n: usize) -> usize
 }
 
 // How many bytes a session has.
-#[unsafe(no_mangle)]
-pub extern "C" fn raimsklo_session_length() -> usize
+pub fn raimsklo_session_length() -> usize
     ensures { result ≡ session_length }
 {
     common::SESSION_LENGTH
 }
 
 // A run begins: the first derivative is wanted, or the start is refused.
-#[unsafe(no_mangle)]
-pub extern "C" fn raimsklo_start(
+pub fn raimsklo_start(
     x0: f64,
     xend: f64,
     y0: &[f64],
@@ -102,7 +95,7 @@ pub extern "C" fn raimsklo_start(
     ensures { ◌≡◌ {A = Called} (record {
       reply = result;
       lent = record {
-        work = work.exit.now;
+        work = work.new;
         pivots = pivots.new;
         session = session.new;
         question = question.new;
@@ -117,7 +110,7 @@ pub extern "C" fn raimsklo_start(
           options = options;
         })
         (record {
-          work = work.entry.now;
+          work = work.old;
           pivots = pivots.old;
           session = session.old;
           question = question.old;
@@ -149,8 +142,7 @@ pub extern "C" fn raimsklo_start(
 }
 
 // The host's reply to the question that stands: the next question, a report, the end, or a refusal.
-#[unsafe(no_mangle)]
-pub extern "C" fn raimsklo_reply(
+pub fn raimsklo_reply(
     kind: usize,
     numbers: &[f64],
     time: f64,
@@ -162,7 +154,7 @@ pub extern "C" fn raimsklo_reply(
     ensures { ◌≡◌ {A = Called} (record {
       reply = result;
       lent = record {
-        work = work.exit.now;
+        work = work.new;
         pivots = pivots.new;
         session = session.new;
         question = question.new;
@@ -170,7 +162,7 @@ pub extern "C" fn raimsklo_reply(
     })
         (reply_of kind numbers.now time
         (record {
-          work = work.entry.now;
+          work = work.old;
           pivots = pivots.old;
           session = session.old;
           question = question.old;

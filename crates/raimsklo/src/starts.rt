@@ -64,14 +64,14 @@ pub fn accept(
     ensures { ◌≡◌ {A = Called} (record {
       reply = result;
       lent = record {
-        work = work.exit.now;
+        work = work.new;
         pivots = pivots.new;
         session = bytes.new;
         question = question.new;
       };
     })
         (accepted_start_of s x0 h hmin hmxi y0.now rtol.now atol.now (record {
-          work = work.entry.now;
+          work = work.old;
           pivots = pivots.old;
           session = bytes.old;
           question = question.old;
