@@ -3,11 +3,9 @@
 use Rattle.std.specs.Prelude.{ℕ, Float}
 use Rattle.numbers.specs.Float.{zero_f}
 use Rattle.between_steps.specs.declared.Status.{Status}
-use Rattle.between_steps.specs.declared.Status.TheVariants as Status
 use Rattle.questions.specs.declared.Step.{Step}
 use Rattle.questions.specs.declared.End.{End}
 use Rattle.questions.specs.declared.Question.{Question}
-use Rattle.questions.specs.declared.Question.TheVariants as Question
 use Rattle.refusals.specs.declared.Refusal.{Refusal}
 use Rattle.answers.specs.declared.Reply.{Reply}
 

@@ -11,11 +11,8 @@ use lib.Dec.{eqb, lit≤, lit<}
 use borrow.Author.Tests.{ne_eqb}
 use Rattle.common.specs.declared.Common.{Common}
 use Rattle.questions.specs.declared.Phase.{Phase}
-use Rattle.questions.specs.declared.Phase.TheVariants as Phase
 use Rattle.questions.specs.declared.Question.{Question}
-use Rattle.questions.specs.declared.Question.TheVariants as Question
 use Rattle.between_steps.specs.declared.Status.{Status}
-use Rattle.between_steps.specs.declared.Status.TheVariants as Status
 use Rattle.session.specs.States.{phase_number}
 use Rattle.answers.specs.Answers.{status_number, question_reply}
 use Rattle.replies.specs.Replies.{is_unasked}

@@ -15,7 +15,6 @@ use lib.ListN.{length}
 use borrow.Author.Tests.{eqb-true, eqb-false}
 use Rattle.numbers.specs.Float.{zero_f}
 use Rattle.questions.specs.declared.Phase.{Phase}
-use Rattle.questions.specs.declared.Phase.TheVariants as Phase
 use Rattle.questions.specs.Turns.{RunState}
 use Rattle.session.specs.Session.{encode_of, decode_of}
 use Rattle.session.specs.Names.{n_word, phase_word}

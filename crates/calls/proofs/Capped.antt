@@ -14,7 +14,6 @@ use Rattle.loops.proofs.Test.{differs, both}
 use Rattle.numbers.specs.Float.{zero_f}
 use Rattle.between_steps.specs.declared.Answer.{Answer}
 use Rattle.questions.specs.declared.Question.{Question}
-use Rattle.questions.specs.declared.Question.TheVariants as Question
 use Rattle.questions.specs.declared.Session.{Session}
 use Rattle.questions.specs.Turns.{RunState}
 use Rattle.session.specs.Session.{decode_of}

@@ -39,10 +39,8 @@ use Rattle.acceptance.specs.Size.{size_of}
 use Rattle.acceptance.specs.Order as Order
 use Rattle.acceptance.specs.Accept as Accept
 use Rattle.questions.specs.declared.Phase.{Phase}
-use Rattle.questions.specs.declared.Phase.TheVariants as Phase
 use Rattle.between_steps.specs.Begin as Begin
 use Rattle.between_steps.specs.Start as Start
-use Rattle.reports.specs.Reports as Reports
 use Rattle.refusals.specs.Refusal.{also_of, in_order, or_else}
 use Rattle.refusals.specs.Start as Refusals
 use Rattle.refusals.specs.Start.{start_refusal_of, accepted_settings, given_step_of}

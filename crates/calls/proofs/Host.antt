@@ -20,7 +20,6 @@ use Rattle.common.specs.Layout.{y, y_at, matrix_at}
 use Rattle.between_steps.specs.declared.Answer.TheVariants.{Continue}
 use Rattle.questions.specs.declared.Phase.{Phase}
 use Rattle.questions.specs.declared.Question.{Question}
-use Rattle.questions.specs.declared.Question.TheVariants as Question
 use Rattle.questions.specs.Turns.{RunState}
 use Rattle.rules.specs.Play.{Play}
 use Rattle.common.specs.State.{Given}

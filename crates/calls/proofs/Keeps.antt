@@ -17,7 +17,6 @@ use lib.ListN.{length, get_or}
 use Rattle.loops.specs.Part.{part}
 use Rattle.loops.proofs.Test.{differs}
 use Rattle.questions.specs.declared.Phase.{Phase}
-use Rattle.questions.specs.declared.Phase.TheVariants as Phase
 use Rattle.common.specs.Ranges.{Counts, Lent}
 use Rattle.questions.specs.Requires.{UnlessFinished}
 use Rattle.questions.specs.Turns.{RunState}

@@ -9,9 +9,7 @@ use lib.Ieee.{Float}
 use Rattle.loops.proofs.Test.{differs}
 use Rattle.common.specs.declared.Common.{Common}
 use Rattle.questions.specs.declared.Phase.{Phase}
-use Rattle.questions.specs.declared.Phase.TheVariants as Phase
 use Rattle.questions.specs.declared.Question.{Question}
-use Rattle.questions.specs.declared.Question.TheVariants as Question
 use Rattle.questions.specs.Turns.{RunState}
 use Rattle.rules.specs.Play.{derivative_at, jacobian_at, finished, step_refused, weight_refused, exhausted, Play, ret}
 use Rattle.rules.specs.Play.{ask, tell, say}

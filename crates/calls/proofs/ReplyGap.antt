@@ -14,7 +14,6 @@ use Rattle.common.specs.State.{given, state}
 use Rattle.history.specs.Columns.{correct_columns_of}
 use Rattle.acceptance.specs.Family.{to_adams_of, change_of}
 use Rattle.acceptance.specs.declared.Branch.{Branch}
-use Rattle.acceptance.specs.declared.Branch.TheVariants as Branch
 use Rattle.acceptance.specs.Accept.{corrected_of, took_branch, tested_of, test_family_of, accept_of}
 use Rattle.between_steps.specs.declared.Status.TheVariants as Status
 use Rattle.questions.specs.Turns.{finished_of}

@@ -18,14 +18,10 @@ use Rattle.common.specs.Record.{with_tn}
 use Rattle.common.specs.State.{state}
 use Rattle.between_steps.specs.declared.Answer.TheVariants.{Continue, Interrupt, Modified}
 use Rattle.between_steps.specs.declared.Kind.{Kind}
-use Rattle.between_steps.specs.declared.Kind.TheVariants as Kind
 use Rattle.questions.specs.declared.Phase.{Phase}
-use Rattle.questions.specs.declared.Phase.TheVariants as Phase
 use Rattle.questions.specs.declared.Question.{Question}
-use Rattle.questions.specs.declared.Question.TheVariants as Question
 use Rattle.questions.specs.declared.Session.{Session}
 use Rattle.between_steps.specs.declared.Status.{Status}
-use Rattle.between_steps.specs.declared.Status.TheVariants as Status
 use Rattle.questions.specs.declared.Turn.{Turn}
 use Rattle.questions.specs.Turns.{turn_in, asked_of, asked_in_step_of, finished_of}
 use Rattle.questions.specs.Begin.{open_pass_of, began_of, go_on_at, go_on_of}

@@ -21,7 +21,6 @@ use Rattle.common.specs.SessionWords.{count_words, session_length}
 use Rattle.common.specs.State.{Given, State, given, state}
 use Rattle.common.specs.declared.Settings.{Settings}
 use Rattle.questions.specs.declared.Phase.{Phase}
-use Rattle.questions.specs.declared.Phase.TheVariants as Phase
 use Rattle.questions.specs.declared.Turn.{Turn}
 use Rattle.questions.specs.Turns.{turn_in}
 use Rattle.machine.specs.Resume.{is_asked}

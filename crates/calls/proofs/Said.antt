@@ -20,9 +20,7 @@ use Rattle.common.specs.Layout.{y, question_length, y_at, matrix_at}
 use Rattle.interpolation.specs.Snapshot.{snapshot_of}
 use Rattle.interpolation.proofs.Roundtrip.{header, size, snapshot-is}
 use Rattle.questions.specs.declared.Phase.{Phase}
-use Rattle.questions.specs.declared.Phase.TheVariants as Phase
 use Rattle.questions.specs.declared.Question.{Question}
-use Rattle.questions.specs.declared.Question.TheVariants as Question
 use Rattle.questions.specs.Turns.{RunState}
 use Rattle.rules.specs.Play.{Play}
 use Rattle.common.specs.State.{Given}

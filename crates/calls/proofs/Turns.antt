@@ -26,19 +26,15 @@ use Rattle.common.specs.Rules.{tiny_of}
 use Rattle.common.specs.State.{Given, State, put_c}
 use Rattle.jacobian.specs.Jacobian.{is_supplied, begin_of, finish_jacobian_of as factors_of}
 use Rattle.corrector.specs.declared.Pass.{Pass}
-use Rattle.corrector.specs.declared.Pass.TheVariants as Pass
 use Rattle.attempt.specs.Attempt.{poor_of, no_convergence_at, no_convergence_of, error_of, missed_at, missed_of}
 use Rattle.attempt.specs.Attempt.{overshot_of}
 use Rattle.attempt.specs.Attempt.{failed_of, retracted_work}
 use Rattle.attempt.specs.Attempt as Attempt
 use Rattle.acceptance.specs.declared.Branch.{Branch}
-use Rattle.acceptance.specs.declared.Branch.TheVariants as Branch
 use Rattle.between_steps.specs.declared.Answer.{Answer}
 use Rattle.between_steps.specs.declared.Answer.TheVariants.{Continue, Interrupt, Modified}
 use Rattle.between_steps.specs.declared.Kind.{Kind}
-use Rattle.between_steps.specs.declared.Kind.TheVariants as Kind
 use Rattle.questions.specs.declared.Phase.{Phase}
-use Rattle.questions.specs.declared.Phase.TheVariants as Phase
 use Rattle.between_steps.specs.declared.Status.TheVariants as Status
 use Rattle.questions.specs.Turns.{RunState, asked_of, asked_in_step_of, finished_of}
 use Rattle.between_steps.specs.Start.{first_step_of}

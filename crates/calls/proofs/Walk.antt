@@ -8,7 +8,7 @@ use mathlib.Core.Bool.{Bool, true, false, cond, not, ◌&&◌, true≢false}
 use mathlib.Core.List.{List, [], ◌∷◌, ◌++◌}
 use mathlib.Core.Logic.{◌⊎◌, inl, inr}
 use mathlib.Core.Path.{◌≡◌, refl, sym, ap, ◌∙◌}
-use Prim.Native.Nat.{ℕ, ◌+◌}
+use Prim.Native.Nat.{ℕ}
 use native.Mathlib.Omega.{arith}
 use lib.Ieee.{Float}
 use lib.ListN.{length, replicate, length-replicate}
@@ -18,7 +18,6 @@ use Rattle.loops.proofs.Part.{part-put}
 use Rattle.numbers.specs.Float.{zero_f}
 use Rattle.between_steps.specs.declared.Kind.{Kind}
 use Rattle.questions.specs.declared.Phase.{Phase}
-use Rattle.questions.specs.declared.Phase.TheVariants as Phase
 use Rattle.questions.specs.Turns.{RunState}
 use Rattle.common.specs.Initial.{initial_of}
 use Rattle.machine.specs.Resume.{is_asked}

@@ -2,7 +2,7 @@
 -- says, fed the start's arguments and the replies not refused, bit for bit (`calls-follow` in proofs/Follow.antt).
 -- What is left in work, pivots and session is the tree's too. No call of a run returns 13; a refused reply returns 3 or
 -- 14 and changes nothing. That the tree is the Rust's is believed, not claimed (docs/PROOFS.md).
-use Rattle.std.specs.Prelude.{Bool, true, false, cond, not, ◌&&◌, List, [], ◌∷◌, ◌++◌, map, ◌⊎◌, ◌≡◌, ℕ, ◌+◌, ◌-◌, eqb}
+use Rattle.std.specs.Prelude.{Bool, true, false, cond, not, ◌&&◌, List, [], ◌∷◌, ◌++◌, map, ◌⊎◌, ◌≡◌, ℕ, ◌-◌, eqb}
 use Rattle.std.specs.Prelude.{length, replicate, Float}
 use Rattle.loops.specs.Part.{put_part}
 use Rattle.numbers.specs.Float.{zero_f}
@@ -10,7 +10,6 @@ use Rattle.common.specs.SessionWords.{session_length}
 use Rattle.common.specs.Limits.{max_states}
 use Rattle.between_steps.specs.declared.Kind.TheVariants as Kind
 use Rattle.questions.specs.declared.Phase.{Phase}
-use Rattle.questions.specs.declared.Phase.TheVariants as Phase
 use Rattle.machine.specs.Resume.{is_asked}
 use Rattle.refusals.specs.Start.{accepted_settings, given_step_of, smallest_of, inverse_largest_of}
 use Rattle.invariants.specs.Host.{IsF64}

@@ -19,13 +19,9 @@ use Rattle.questions.specs.declared.At.{At}
 use Rattle.between_steps.specs.declared.Answer.TheVariants as Answer
 use Rattle.questions.specs.declared.End.{End}
 use Rattle.between_steps.specs.declared.Kind.{Kind}
-use Rattle.between_steps.specs.declared.Kind.TheVariants as Kind
 use Rattle.questions.specs.declared.Phase.{Phase}
-use Rattle.questions.specs.declared.Phase.TheVariants as Phase
 use Rattle.questions.specs.declared.Question.{Question}
-use Rattle.questions.specs.declared.Question.TheVariants as Question
 use Rattle.between_steps.specs.declared.Status.{Status}
-use Rattle.between_steps.specs.declared.Status.TheVariants as Status
 use Rattle.questions.specs.declared.Step.{Step}
 use Rattle.questions.specs.Turns.{turn_in}
 use Rattle.between_steps.specs.Begin.{is_going}

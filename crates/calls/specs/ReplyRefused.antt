@@ -8,7 +8,6 @@ use Rattle.common.specs.SessionWords.{session_length}
 use Rattle.common.specs.Layout.{work_length, question_length}
 use Rattle.common.specs.Limits.{max_states}
 use Rattle.questions.specs.declared.Phase.{Phase}
-use Rattle.questions.specs.declared.Phase.TheVariants as Phase
 use Rattle.session.specs.States.{phase_of}
 use Rattle.session.specs.Names.{n_word, phase_word}
 use Rattle.session.specs.InRange.{InRange}

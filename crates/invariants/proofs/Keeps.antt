@@ -20,13 +20,11 @@ use Rattle.jacobian.specs.Jacobian.{begin_of, finish_jacobian_of}
 use Rattle.corrector.specs.Verdict.{verdict_of}
 use Rattle.corrector.specs.Iterate.{open_of, correct_of}
 use Rattle.attempt.specs.declared.Next.{Next}
-use Rattle.attempt.specs.declared.Next.TheVariants as Next
 use Rattle.attempt.specs.Attempt.{no_convergence_of, failed_of, restep_of}
 use Rattle.acceptance.specs.Accept.{accept_of}
 use Rattle.between_steps.specs.Begin.{first_prediction_of}
 use Rattle.between_steps.specs.Start.{first_step_of, first_size_of, restart_of}
 use Rattle.questions.specs.declared.Phase.{Phase}
-use Rattle.questions.specs.declared.Phase.TheVariants as Phase
 use Rattle.questions.specs.Turns.{RunState}
 
 -- what may hold of the record, the work and the pivots

@@ -8,7 +8,7 @@
 use mathlib.Core.List.{List}
 use mathlib.Core.Logic.{◌⊎◌, inl, inr}
 use mathlib.Core.Path.{◌≡◌}
-use Prim.Native.Nat.{ℕ, ◌+◌, ◌-◌, ◌^◌, ◌≤◌, ◌<◌}
+use Prim.Native.Nat.{ℕ, ◌+◌, ◌^◌, ◌≤◌, ◌<◌}
 use native.Mathlib.Nat.{mod_self}
 use native.Mathlib.Omega.{arith}
 use lib.Ieee.{Float}
@@ -22,7 +22,6 @@ use Rattle.common.specs.Ranges.{Accepted, Ranges, shape_of, Orders, EndedCounter
 use Rattle.common.proofs.Ranges.{wider}
 use Rattle.jacobian.specs.Jacobian.{begin_of}
 use Rattle.attempt.specs.declared.Next.{Next}
-use Rattle.attempt.specs.declared.Next.TheVariants as Next
 use Rattle.attempt.specs.Attempt.{no_convergence_of, failed_of}
 use Rattle.attempt.proofs.Laws.{Kept, unconverged, failed}
 use Rattle.between_steps.specs.declared.Kind.{Kind}

@@ -26,24 +26,19 @@ use Rattle.history.proofs.Laws.{length-copy, length-slope, length-fill}
 use Rattle.jacobian.specs.Jacobian.{is_supplied}
 use Rattle.jacobian.proofs.Laws.{length-perturb, length-restore, length-supplied}
 use Rattle.corrector.specs.declared.Pass.{Pass}
-use Rattle.corrector.specs.declared.Pass.TheVariants as Pass
 use Rattle.corrector.proofs.Iterated.{length-iteration}
 use Rattle.attempt.specs.declared.Next.{Next}
-use Rattle.attempt.specs.declared.Next.TheVariants as Next
 use Rattle.attempt.specs.Attempt.{error_of}
 use Rattle.attempt.proofs.Laws as Attempt
 use Rattle.acceptance.specs.declared.Branch.{Branch}
-use Rattle.acceptance.specs.declared.Branch.TheVariants as Branch
 use Rattle.acceptance.proofs.Laws.{length-accept, length-closed}
 use Rattle.between_steps.specs.declared.Answer.{Answer}
 use Rattle.between_steps.specs.declared.Answer.TheVariants.{Continue, Interrupt, Modified}
 use Rattle.between_steps.specs.declared.Kind.{Kind}
-use Rattle.between_steps.specs.declared.Kind.TheVariants as Kind
 use Rattle.between_steps.specs.Begin.{is_going}
 use Rattle.between_steps.specs.Start.{with_derivative, first_step_of, taken_of as state_of}
 use Rattle.between_steps.proofs.Lengths.{length-first, length-stored, length_taken, length-inverted}
 use Rattle.questions.specs.declared.Phase.{Phase}
-use Rattle.questions.specs.declared.Phase.TheVariants as Phase
 use Rattle.questions.specs.Turns.{RunState, asked_of, asked_in_step_of, finished_of}
 use Rattle.questions.specs.Begin.{open_pass_of, began_of, go_on_at, go_on_of}
 use Rattle.passes.specs.Pass.{attempted_at, reported_of, closed_at, end_step_of, accepted_at, accepted_of}

@@ -18,7 +18,6 @@ use Rattle.between_steps.specs.declared.Kind.TheVariants.{Derivative, Jacobian, 
 use Rattle.between_steps.specs.Replies.{is_derivative, is_jacobian, is_answer}
 use Rattle.between_steps.specs.contracts.Kind.{the_type as kinds}
 use Rattle.questions.specs.declared.Phase.{Phase}
-use Rattle.questions.specs.declared.Phase.TheVariants as Phase
 use Rattle.questions.specs.Requires.{UnlessFinished}
 use Rattle.machine.specs.Resume.{is_asked, unasked, resume_at, resume_of, first_answered_of, answered_of}
 

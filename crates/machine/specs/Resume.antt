@@ -7,7 +7,6 @@ use Rattle.between_steps.specs.declared.Kind.{Kind}
 use Rattle.between_steps.specs.declared.Kind.TheVariants.{Derivative, Jacobian, Report}
 use Rattle.between_steps.specs.Replies.{is_derivative, is_jacobian, is_answer}
 use Rattle.questions.specs.declared.Phase.{Phase}
-use Rattle.questions.specs.declared.Phase.TheVariants as Phase
 use Rattle.questions.specs.declared.Question.TheVariants.{Unasked}
 use Rattle.questions.specs.Turns.{RunState}
 use Rattle.passes.specs.Pass.{opened_reply_of, jacobian_reply_of, column_reply_of, further_reply_of, restep_reply_of}

@@ -4,7 +4,7 @@
 -- Assumes nothing.
 use mathlib.Core.Path.{◌≡◌, refl, sym}
 use mathlib.Core.Bool.{Bool, true, false}
-use Prim.Native.Nat.{zero, suc, ◌*◌, ◌-◌, ◌^◌, ◌<◌}
+use Prim.Native.Nat.{zero, suc, ◌*◌, ◌^◌, ◌<◌}
 use native.Mathlib.Nat.{zero-mul, zero-add, one-mul, mul-one, mul-pos, zero-lt-suc, pow-suc}
 use native.Mathlib.Omega.{arith}
 use lib.IntN.{ℤ, pos, negsuc}

@@ -15,11 +15,9 @@ use Rattle.history.specs.Parts.{stored_of}
 use Rattle.jacobian.specs.Jacobian.{is_supplied, begin_of, perturb_of, restore_of, finish_jacobian_of as factors_of}
 use Rattle.jacobian.specs.Jacobian as Jacobian
 use Rattle.corrector.specs.declared.Pass.{Pass}
-use Rattle.corrector.specs.declared.Pass.TheVariants as Pass
 use Rattle.corrector.specs.Verdict.{verdict_of}
 use Rattle.corrector.specs.Iterate.{open_of, correct_of}
 use Rattle.attempt.specs.declared.Next.{Next}
-use Rattle.attempt.specs.declared.Next.TheVariants as Next
 use Rattle.attempt.specs.Attempt.{Attempt, no_convergence_of, error_of, failed_of}
 use Rattle.attempt.specs.Attempt as Attempt
 use Rattle.acceptance.specs.declared.Branch.{Branch}

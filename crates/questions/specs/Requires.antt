@@ -4,7 +4,6 @@ use Rattle.vectors.specs.Tolerance.{List1OrN}
 use Rattle.common.specs.Ranges.{Ranges, Lent}
 use Rattle.questions.specs.declared.Session.{Session}
 use Rattle.questions.specs.declared.Phase.{Phase}
-use Rattle.questions.specs.declared.Phase.TheVariants as Phase
 
 -- a session, the tolerance lists, the work and the pivots that a reply takes
 pub record Resumes (x : Session) (rtol atol work : List Float) (ipiv : List ℕ) : Type 0 where

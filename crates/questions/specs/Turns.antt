@@ -8,7 +8,6 @@ use Rattle.between_steps.specs.declared.Status.{Status}
 use Rattle.questions.specs.declared.Phase.{Phase}
 use Rattle.questions.specs.declared.Phase.TheVariants.{Finished}
 use Rattle.questions.specs.declared.Question.{Question}
-use Rattle.questions.specs.declared.Question.TheVariants as Question
 use Rattle.questions.specs.declared.Turn.{Turn}
 
 -- the next question, the phase that waits for its reply, and the state of the run then

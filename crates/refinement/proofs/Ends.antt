@@ -14,7 +14,6 @@ use Rattle.common.specs.State.{Given}
 use Rattle.between_steps.specs.declared.Answer.TheVariants.{Continue}
 use Rattle.common.specs.Ranges.{Accepted}
 use Rattle.questions.specs.declared.Phase.{Phase}
-use Rattle.questions.specs.declared.Phase.TheVariants as Phase
 use Rattle.questions.specs.Turns.{RunState}
 use Rattle.machine.specs.Resume.{is_asked}
 use Rattle.rules.specs.Play.{Play, ret, ask, tell, say}

@@ -13,7 +13,6 @@ use lib.Ieee.{Float}
 use borrow.Author.Tests.{eqb-true}
 use Rattle.common.specs.State.{Given}
 use Rattle.between_steps.specs.declared.Kind.{Kind}
-use Rattle.between_steps.specs.declared.Kind.TheVariants as Kind
 use Rattle.common.specs.Ranges.{Accepted}
 use Rattle.questions.specs.Turns.{RunState}
 use Rattle.machine.specs.Resume.{unasked}

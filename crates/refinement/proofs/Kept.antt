@@ -16,7 +16,6 @@ use Rattle.common.specs.Rules.{icount20}
 use Rattle.common.specs.Ranges.{Counts, Lent}
 use Rattle.between_steps.proofs.Within.{core_of, Within, counters-of}
 use Rattle.questions.specs.declared.Phase.{Phase}
-use Rattle.questions.specs.declared.Phase.TheVariants as Phase
 use Rattle.questions.specs.Requires.{Resumes, UnlessFinished}
 use Rattle.questions.specs.Turns.{RunState}
 use Rattle.rules.specs.Play.{Play, ret, ask, tell, say}

@@ -15,11 +15,9 @@ use Rattle.common.specs.Layout.{y}
 use Rattle.common.specs.State.{Given, State}
 use Rattle.between_steps.specs.declared.Answer.{Answer}
 use Rattle.between_steps.specs.declared.Kind.{Kind}
-use Rattle.between_steps.specs.declared.Kind.TheVariants as Kind
 use Rattle.between_steps.specs.Replies.{is_derivative}
 use Rattle.questions.specs.declared.Question.TheVariants as Machine
 use Rattle.questions.specs.declared.Phase.{Phase}
-use Rattle.questions.specs.declared.Phase.TheVariants as Phase
 use Rattle.questions.specs.Turns.{RunState}
 use Rattle.machine.specs.Resume.{is_asked, unasked, resume_at, resume_of}
 use Rattle.rules.specs.Play.{derivative_at, jacobian_at, Play, ask}

@@ -15,13 +15,10 @@ use Rattle.vectors.specs.declared.Weights.TheVariants.{Inverted, Refused}
 use Rattle.common.specs.Limits.{mxncf_of}
 use Rattle.common.specs.State.{Given, State, put_w}
 use Rattle.attempt.specs.declared.Next.{Next}
-use Rattle.attempt.specs.declared.Next.TheVariants as Next
 use Rattle.acceptance.specs.declared.Branch.{Branch}
-use Rattle.acceptance.specs.declared.Branch.TheVariants as Branch
 use Rattle.between_steps.specs.declared.Answer.{Answer}
 use Rattle.between_steps.specs.declared.Answer.TheVariants.{Continue, Interrupt, Modified}
 use Rattle.between_steps.specs.declared.Status.{Status}
-use Rattle.between_steps.specs.declared.Status.TheVariants as Status
 use Rattle.between_steps.specs.Begin.{first_prediction_of as opened_of, is_going}
 use Rattle.questions.specs.declared.Phase.TheVariants as Phase
 use Rattle.questions.specs.Turns.{RunState, turn_at, asked_of, asked_in_step_of, finished_of}

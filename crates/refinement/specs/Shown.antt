@@ -10,7 +10,6 @@ use Rattle.common.specs.State.{Given, State}
 use Rattle.between_steps.specs.declared.Status.{Status}
 use Rattle.questions.specs.declared.End.{End}
 use Rattle.questions.specs.declared.Phase.{Phase}
-use Rattle.questions.specs.declared.Phase.TheVariants as Phase
 use Rattle.questions.specs.declared.Question.{Question as MachineQuestion}
 use Rattle.questions.specs.declared.Question.TheVariants as Machine
 use Rattle.questions.specs.Turns.{RunState}

@@ -13,7 +13,6 @@ use lib.ListN.{length}
 use Rattle.refusals.specs.Refusal.{plain, in_order, or_else}
 use Rattle.refusals.proofs.Accepted.{also-none, else-none, same, not-false}
 use Rattle.questions.specs.declared.Phase.{Phase}
-use Rattle.questions.specs.declared.Phase.TheVariants as Phase
 use Rattle.questions.specs.Requires.{UnlessFinished}
 use Rattle.common.specs.Layout.{work_length, question_length}
 use Rattle.common.specs.Limits.{max_states}

@@ -12,11 +12,8 @@ use Rattle.common.specs.State.{given, state}
 use Rattle.interpolation.specs.Snapshot.{snapshot_of}
 use Rattle.between_steps.specs.declared.Answer.TheVariants as Answer
 use Rattle.between_steps.specs.declared.Kind.{Kind}
-use Rattle.between_steps.specs.declared.Kind.TheVariants as Kind
 use Rattle.questions.specs.declared.Phase.{Phase}
-use Rattle.questions.specs.declared.Phase.TheVariants as Phase
 use Rattle.questions.specs.declared.Question.{Question}
-use Rattle.questions.specs.declared.Question.TheVariants as Question
 use Rattle.questions.specs.declared.Turn.{Turn}
 use Rattle.questions.specs.Turns.{RunState, turn_in}
 use Rattle.machine.specs.Resume.{resume_of}

@@ -14,7 +14,6 @@ use Rattle.common.specs.Limits.{mxncf_of}
 use Rattle.common.specs.Record.{is_bdf}
 use Rattle.common.specs.State.{Given, State, made}
 use Rattle.attempt.specs.declared.Next.{Next}
-use Rattle.attempt.specs.declared.Next.TheVariants as Next
 use Rattle.attempt.specs.Attempt.{restep_of}
 use Rattle.attempt.proofs.Laws.{unconverged as law-unconverged, failed as law-failed, restepped as law-restepped}
 use Rattle.rules.specs.Play.{Play}

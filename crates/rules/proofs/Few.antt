@@ -15,7 +15,6 @@ use Rattle.common.specs.State.{Given, State}
 use Rattle.corrector.specs.declared.Pass.{Pass}
 use Rattle.corrector.specs.declared.Pass.TheVariants.{Converged, Retry, NoConvergence, Further}
 use Rattle.attempt.specs.declared.Next.{Next}
-use Rattle.attempt.specs.declared.Next.TheVariants as Next
 use Rattle.between_steps.specs.declared.Answer.{Answer}
 use Rattle.between_steps.specs.declared.Answer.TheVariants.{Continue, Interrupt, Modified}
 use Rattle.common.specs.Ranges.{Accepted}

@@ -4,7 +4,6 @@ use Rattle.std.specs.Prelude.{Bool, true, cond, List, [], ◌∷◌, ◌≡◌, 
 use Rattle.between_steps.specs.declared.Answer.{Answer}
 use Rattle.between_steps.specs.declared.Answer.TheVariants.{Continue}
 use Rattle.between_steps.specs.declared.Kind.{Kind}
-use Rattle.between_steps.specs.declared.Kind.TheVariants as Kind
 use Rattle.between_steps.specs.Replies.{is_derivative, is_jacobian, is_answer}
 use Rattle.rules.specs.Play.{Question, derivative_at, jacobian_at, Play, ret, ask, tell, say}
 use Rattle.rules.specs.Steps.{Step, noted, marked}

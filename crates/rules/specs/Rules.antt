@@ -18,10 +18,8 @@ use Rattle.common.specs.Record.{with_total, with_tn, with_h}
 use Rattle.common.specs.State.{Given, State, made, put_c, put_w, moved_to}
 use Rattle.history.specs.Columns.{copy_of, slope_of}
 use Rattle.attempt.specs.declared.Next.{Next}
-use Rattle.attempt.specs.declared.Next.TheVariants as Next
 use Rattle.attempt.specs.Attempt.{Attempt, no_convergence_of, error_of, failed_of, restep_of}
 use Rattle.acceptance.specs.declared.Branch.{Branch}
-use Rattle.acceptance.specs.declared.Branch.TheVariants as Branch
 use Rattle.acceptance.specs.Order.{Settled}
 use Rattle.acceptance.specs.Accept.{accept_of, Closed, closed_of}
 use Rattle.between_steps.specs.declared.Answer.{Answer}

@@ -19,7 +19,6 @@ use lib.Ieee.{Float, nan, binary64, of_bits}
 use lib.Ieee.Bits.{of_bits-to_bits, to_bits-lt}
 use Rattle.loops.specs.Part.{part}
 use Rattle.numbers.specs.Float.{zero_f}
-use Rattle.questions.specs.declared.Phase.TheVariants as Phase
 use Rattle.questions.specs.declared.Session.{Session}
 use Rattle.words.specs.Words.{word, float, floats_in, slot_of, put_counts_of, put_floats_of}
 use Rattle.session.specs.States.{phase_number}

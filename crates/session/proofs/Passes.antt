@@ -15,7 +15,6 @@ use borrow.Author.Tests.{lt-ltb}
 use Rattle.loops.proofs.Test.{both}
 use Rattle.numbers.specs.Float.{zero_f}
 use Rattle.common.specs.declared.Settings.{Settings}
-use Rattle.questions.specs.declared.Phase.TheVariants as Phase
 use Rattle.questions.specs.declared.Session.{Session}
 use Rattle.common.specs.Ranges.{Ranges}
 use Rattle.words.specs.Words.{word, float, slot_of}

@@ -12,7 +12,6 @@ use lib.Dec.{lit≤}
 use Rattle.common.specs.declared.MethodFamily.{MethodFamily}
 use Rattle.common.specs.declared.MethodFamily.TheVariants.{Adams, Bdf}
 use Rattle.questions.specs.declared.Phase.{Phase}
-use Rattle.questions.specs.declared.Phase.TheVariants as Phase
 use Rattle.session.specs.States.{flag_number, flag_of, family_number, family_of, phase_number, phase_of}
 
 -- ---- the ranges

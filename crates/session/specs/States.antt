@@ -3,7 +3,6 @@ use Rattle.std.specs.Prelude.{Bool, true, false, cond, ℕ, eqb}
 use Rattle.common.specs.declared.MethodFamily.{MethodFamily}
 use Rattle.common.specs.declared.MethodFamily.TheVariants.{Adams, Bdf}
 use Rattle.questions.specs.declared.Phase.{Phase}
-use Rattle.questions.specs.declared.Phase.TheVariants as Phase
 
 abbrev pub flag_number : Bool → ℕ
 flag_number false = 0

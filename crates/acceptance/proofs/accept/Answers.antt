@@ -2,7 +2,6 @@
 -- Assumes nothing.
 use mathlib.Core.Path.{refl}
 use native.Mathlib.Omega.{arith}
-use borrow.Author.Rules.{rules}
 use Rattle.acceptance.specs.Accept.{corrected_of, accept_of}
 use Rattle.history.proofs.Laws.{same-range}
 use Rattle.acceptance.proofs.accept.Goals as goal

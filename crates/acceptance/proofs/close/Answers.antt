@@ -3,7 +3,6 @@
 use Prim.Native.Nat.{◌-◌}
 use mathlib.Core.Path.{◌≡◌}
 use native.Mathlib.Omega.{arith}
-use borrow.Author.Rules.{rules}
 use Rattle.common.specs.Layout.{ewt_at, savf_at, acor_at, y_at}
 use Rattle.history.specs.Columns.{scale_part_of}
 use Rattle.acceptance.specs.Accept.{closed_of}

@@ -1,7 +1,6 @@
 -- `correct` meets its contract: field by field.
 -- Assumes nothing.
 use mathlib.Core.Path.{refl}
-use borrow.Author.Rules.{rules}
 use Rattle.acceptance.specs.Accept.{corrected_of}
 use Rattle.acceptance.proofs.correct.Goals as goal
 

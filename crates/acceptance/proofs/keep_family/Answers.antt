@@ -1,6 +1,5 @@
 -- `keep_family` meets its contract: the order choice comes where the count has come to 0.
 -- Assumes nothing.
-use borrow.Author.Rules.{rules}
 use borrow.Author.Tests.{eq-eqb, ne_eqb}
 use Rattle.acceptance.specs.Accept.{keep_family_of}
 use Rattle.acceptance.proofs.keep_family.Goals as goal

@@ -1,6 +1,4 @@
 -- `answer` meets its contract. Assumes nothing.
-use Prim.Native.Nat.{◌-◌}
-use borrow.Author.Rules.{rules}
 use Rattle.answers.proofs.answer.Goals as goal
 
 pub returns-in-Derivative : goal.returns-in-Derivative

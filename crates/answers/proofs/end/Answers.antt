@@ -1,6 +1,4 @@
 -- `end` meets its contract. Assumes nothing.
-use Prim.Native.Nat.{◌-◌}
-use borrow.Author.Rules.{rules}
 use Rattle.answers.proofs.end.Goals as goal
 
 pub returns : goal.returns

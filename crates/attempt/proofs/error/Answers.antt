@@ -1,5 +1,4 @@
 -- `error` meets its contract: the first test picks the size. Assumes nothing.
-use borrow.Author.Rules.{rules}
 use borrow.Author.Tests.{eq-eqb, ne_eqb}
 use Rattle.attempt.specs.Attempt.{error_of}
 use Rattle.attempt.proofs.error.Goals as goal

@@ -1,6 +1,5 @@
 -- `missed` meets its contract: each way returns what `missed_of` picks under the tests that led there. Assumes nothing.
 use mathlib.Core.Path.{sym, ap, ◌∙◌}
-use borrow.Author.Rules.{rules}
 use borrow.Author.Tests.{lt-ltb, le-ltb, eq-eqb, ne_eqb}
 use Rattle.attempt.specs.Attempt.{goes_on, missed_at, missed_of, tenth_of}
 use Rattle.attempt.specs.declared.Next.TheVariants.{Pass}

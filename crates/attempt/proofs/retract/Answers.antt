@@ -1,6 +1,5 @@
 -- `retract` meets its contract: field by field, and the columns by `retract_columns`. Assumes nothing.
 use mathlib.Core.Path.{refl}
-use borrow.Author.Rules.{rules}
 use Rattle.attempt.specs.Attempt.{retracted_of}
 use Rattle.attempt.proofs.retract.Goals as goal
 

@@ -1,5 +1,4 @@
 -- `shrunk` meets its contract: on each way the sum with what its callees give. Assumes nothing.
-use borrow.Author.Rules.{rules}
 use borrow.Author.Tests.{le-leb, lt-leb}
 use Rattle.attempt.specs.Attempt.{shrunk_of}
 use Rattle.attempt.proofs.shrunk.Goals as goal

@@ -1,7 +1,6 @@
 -- `cut` meets its contract: the setup flag does not matter to the rescale. Assumes nothing.
 use mathlib.Core.Path.{refl}
 use native.Mathlib.Omega.{arith}
-use borrow.Author.Rules.{rules}
 use Rattle.history.proofs.Laws.{same-range}
 use Rattle.between_steps.specs.Begin.{cut_of}
 use Rattle.between_steps.proofs.Inside.{in-range}

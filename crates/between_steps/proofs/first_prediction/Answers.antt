@@ -2,7 +2,6 @@
 -- Assumes nothing.
 use mathlib.Core.Path.{refl}
 use native.Mathlib.Omega.{arith}
-use borrow.Author.Rules.{rules}
 use Rattle.history.proofs.Laws.{same-range}
 use Rattle.between_steps.specs.Begin.{first_prediction_of, predicted_at}
 use Rattle.between_steps.proofs.Inside.{prepared-range}

@@ -2,7 +2,6 @@
 -- Assumes nothing.
 use mathlib.Core.Path.{◌≡◌, ◌∙◌}
 use mathlib.Core.Bool.{cond}
-use borrow.Author.Rules.{rules}
 use Rattle.numbers.specs.Float.{zero_f, one_f, ◌⊖◌, ◌⊗◌, ◌⊘◌}
 use Rattle.numbers.specs.Sign.{abs_of}
 use Rattle.numbers.specs.Order.{max_of}

@@ -1,6 +1,5 @@
 -- `prepare` meets its contract: each way returns what `prepared_of` picks under the tests that led there.
 -- Assumes nothing.
-use borrow.Author.Rules.{rules}
 use Rattle.between_steps.specs.Begin.{prepared_of, prepared_at}
 use Rattle.between_steps.proofs.prepare.Goals as goal
 

@@ -1,5 +1,4 @@
 -- `restart` meets its contract: field by field. Assumes nothing.
-use borrow.Author.Rules.{rules}
 use Rattle.between_steps.proofs.restart.Goals as goal
 
 pub returns : goal.returns

@@ -1,6 +1,5 @@
 -- `setup` meets its contract: the two rules of crate common, one after the other. Assumes nothing.
 use native.Mathlib.Omega.{arith}
-use borrow.Author.Rules.{rules}
 use Rattle.common.specs.Rules.{first_call_init_of}
 use Rattle.between_steps.specs.Begin.{setup_of}
 use Rattle.between_steps.proofs.setup.Goals as goal

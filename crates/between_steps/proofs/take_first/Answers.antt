@@ -1,5 +1,4 @@
 -- `take_first` meets its contract: the reply stored, then the copy. Assumes nothing.
-use borrow.Author.Rules.{rules}
 use Rattle.between_steps.proofs.take_first.Goals as goal
 
 pub returns : goal.returns

@@ -1,5 +1,4 @@
 -- `take_state` meets its contract: the state stored twice. Assumes nothing.
-use borrow.Author.Rules.{rules}
 use Rattle.between_steps.proofs.take_state.Goals as goal
 
 pub returns : goal.returns

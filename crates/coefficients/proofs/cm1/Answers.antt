@@ -3,7 +3,6 @@
 use Prim.Native.Nat.{suc, ◌-◌}
 use mathlib.Core.Path.{◌≡◌}
 use native.Mathlib.Omega.{arith}
-use borrow.Author.Rules.{rules}
 use Rattle.coefficients.specs.Table.{cm1_of}
 use Rattle.coefficients.proofs.cm1.Goals as goal
 

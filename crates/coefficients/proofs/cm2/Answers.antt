@@ -3,7 +3,6 @@
 use Prim.Native.Nat.{suc, ◌-◌}
 use mathlib.Core.Path.{◌≡◌}
 use native.Mathlib.Omega.{arith}
-use borrow.Author.Rules.{rules}
 use Rattle.coefficients.specs.Table.{cm2_of}
 use Rattle.coefficients.proofs.cm2.Goals as goal
 

@@ -2,7 +2,6 @@
 -- give there, by computation. Assumes nothing.
 use mathlib.Core.Path.{◌≡◌, refl}
 use native.Mathlib.Omega.{arith}
-use borrow.Author.Rules.{rules}
 use lib.Ieee.{of_bits}
 use Rattle.coefficients.specs.Cfode.{cfode_of}
 use Rattle.coefficients.proofs.coefficient.Goals as goal

@@ -1,6 +1,5 @@
 -- `el` meets its contract: the order in force is from 1 to 12, since nqnyh is from n to 12·n.
 -- Assumes nothing.
-use borrow.Author.Rules.{rules}
 use Rattle.common.proofs.Laws.{order_from, order-to}
 use Rattle.common.proofs.el.Goals as goal
 

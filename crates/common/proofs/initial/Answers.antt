@@ -3,7 +3,6 @@
 use mathlib.Core.Path.{◌≡◌}
 use Prim.Native.Nat.{◌≤◌, max}
 use native.Mathlib.Omega.{arith}
-use borrow.Author.Rules.{rules}
 use Rattle.common.specs.Limits.{mxordn_of, mxords_of}
 use Rattle.common.specs.Initial.{initial_of}
 use Rattle.common.proofs.initial.Goals as goal

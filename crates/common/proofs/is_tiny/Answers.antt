@@ -1,6 +1,5 @@
 -- `is_tiny` meets its contract: by that of `abs`.
 -- Assumes nothing.
-use borrow.Author.Rules.{rules}
 use Rattle.common.proofs.is_tiny.Goals as goal
 
 pub returns : goal.returns

@@ -1,6 +1,5 @@
 -- `maxord` meets its contract: each arm's callee gives the limit of its family.
 -- Assumes nothing.
-use borrow.Author.Rules.{rules}
 use Rattle.common.proofs.maxord.Goals as goal
 
 pub returns-in-Adams : goal.returns-in-Adams

@@ -1,7 +1,6 @@
 -- `stoda_first_call_init` meets its contract: field by field.
 -- Assumes nothing.
 use native.Mathlib.Omega.{arith}
-use borrow.Author.Rules.{rules}
 use Rattle.common.proofs.Laws.{maxord-le}
 use Rattle.common.specs.Rules.{first_call_init_of}
 use Rattle.common.proofs.stoda_first_call_init.Goals as goal

@@ -1,7 +1,6 @@
 -- `stoda_reset` meets its contract: field by field.
 -- Assumes nothing.
 use native.Mathlib.Omega.{arith}
-use borrow.Author.Rules.{rules}
 use Rattle.common.proofs.Laws.{small_product}
 use Rattle.common.specs.Rules.{reset_of}
 use Rattle.common.proofs.stoda_reset.Goals as goal

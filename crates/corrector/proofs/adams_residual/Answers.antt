@@ -1,10 +1,8 @@
-use Prim.Native.Nat.{◌-◌}
-use mathlib.Core.Path.{◌≡◌, refl}
+use mathlib.Core.Path.{refl}
 use native.Mathlib.Omega.{arith}
-use lib.ListN.{length, length-set}
-use Rattle.loops.specs.For.{for}
+use lib.ListN.{length-set}
 use Rattle.loops.proofs.For.{again, ended}
-use Rattle.corrector.specs.Iterate.{adams_residual_at, adams_residual_of}
+use Rattle.corrector.specs.Iterate.{adams_residual_of}
 use Rattle.corrector.proofs.adams_residual.Goals as goal
 
 pub loop-i-init : goal.loop-i-init

@@ -1,11 +1,8 @@
 -- `adams_update` meets its contract. The invariant: the states that are left give the whole.
 -- Assumes nothing.
-use Prim.Native.Nat.{◌-◌}
-use mathlib.Core.Path.{◌≡◌, refl}
-use native.Mathlib.Omega.{arith}
-use lib.ListN.{length, length-set}
+use mathlib.Core.Path.{◌≡◌}
+use lib.ListN.{length}
 use Rattle.loops.specs.For.{for}
-use Rattle.loops.proofs.For.{again, ended}
 use Rattle.corrector.specs.Iterate.{adams_update_at, adams_update_of}
 use Rattle.corrector.proofs.adams_update.Given as goal
 

@@ -1,11 +1,8 @@
 -- `bdf_residual` meets its contract. The invariant: the states that are left give the whole.
 -- Assumes nothing.
-use Prim.Native.Nat.{◌-◌}
-use mathlib.Core.Path.{◌≡◌, refl}
-use native.Mathlib.Omega.{arith}
-use lib.ListN.{length, length-set}
+use mathlib.Core.Path.{◌≡◌}
+use lib.ListN.{length}
 use Rattle.loops.specs.For.{for}
-use Rattle.loops.proofs.For.{again, ended}
 use Rattle.corrector.specs.Iterate.{bdf_residual_at, bdf_residual_of}
 use Rattle.corrector.proofs.bdf_residual.Given as goal
 

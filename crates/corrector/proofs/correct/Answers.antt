@@ -1,6 +1,5 @@
 -- `correct` meets its contract: the family decides between its two callees. Assumes nothing.
 use mathlib.Core.Path.{sym, ◌∙◌}
-use borrow.Author.Rules.{rules}
 use Rattle.corrector.proofs.Shared.{in-first, in-second}
 use Rattle.corrector.proofs.correct.Goals as goal
 

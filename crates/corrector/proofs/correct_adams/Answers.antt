@@ -1,6 +1,5 @@
 -- `correct_adams` meets its contract: the callees in turn. Assumes nothing.
 use native.Mathlib.Omega.{arith}
-use borrow.Author.Rules.{rules}
 use Rattle.corrector.specs.Iterate.{adams_of}
 use Rattle.corrector.proofs.Shared.{order-used}
 use Rattle.corrector.proofs.correct_adams.Goals as goal

@@ -1,7 +1,6 @@
 -- `correct_bdf` meets its contract: the callees in turn, and the outcome tells the flag. Assumes nothing.
 use mathlib.Core.Path.{sym, ◌∙◌}
 use native.Mathlib.Omega.{arith}
-use borrow.Author.Rules.{rules}
 use Rattle.dense.specs.Solve.{solve_of}
 use Rattle.common.specs.Layout.{y_at, matrix_at}
 use Rattle.corrector.specs.Iterate.{bdf_of}

@@ -1,5 +1,4 @@
 -- `dcon` meets its contract: the sum with what its callees give. Assumes nothing.
-use borrow.Author.Rules.{rules}
 use Rattle.corrector.specs.Verdict.{dcon_of}
 use Rattle.corrector.proofs.dcon.Goals as goal
 

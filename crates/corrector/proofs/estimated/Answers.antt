@@ -1,6 +1,5 @@
 -- `estimated` meets its contract: on each way pdlast is what the test leaves. Assumes nothing.
 use native.Mathlib.Omega.{arith}
-use borrow.Author.Rules.{rules}
 use Rattle.corrector.specs.Verdict.{estimated_of}
 use Rattle.corrector.proofs.Shared.{order-used}
 use Rattle.corrector.proofs.estimated.Goals as goal

@@ -1,6 +1,5 @@
 -- `further` meets its contract: each way returns what `judged_further` picks under the tests that led there.
 -- Assumes nothing.
-use borrow.Author.Rules.{rules}
 use borrow.Author.Tests.{eq-eqb, ne_eqb, le-leb, lt-leb}
 use Rattle.corrector.specs.Verdict.{judged_further}
 use Rattle.corrector.proofs.further.Goals as goal

@@ -1,6 +1,5 @@
 -- `give_up` meets its contract: on each way the family and the flag decide. Assumes nothing.
 use mathlib.Core.Path.{sym, ◌∙◌}
-use borrow.Author.Rules.{rules}
 use Rattle.corrector.specs.Verdict.{give_up_of}
 use Rattle.corrector.proofs.give_up.Goals as goal
 

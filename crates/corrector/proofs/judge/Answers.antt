@@ -1,8 +1,7 @@
 -- `judge` meets its contract: each way returns what `judge_of` picks under the tests that led there.
 -- Assumes nothing.
 use mathlib.Core.Path.{sym, ◌∙◌}
-use borrow.Author.Rules.{rules}
-use borrow.Author.Tests.{not-true, not-false, eq-eqb, ne_eqb}
+use borrow.Author.Tests.{eq-eqb, ne_eqb}
 use Rattle.corrector.specs.Verdict.{known_rate_of, judge_of}
 use Rattle.corrector.proofs.Shared.{in-range-known}
 use Rattle.corrector.proofs.judge.Goals as goal

@@ -1,5 +1,4 @@
 -- `known_rate` meets its contract: nothing new in the first iteration. Assumes nothing.
-use borrow.Author.Rules.{rules}
 use borrow.Author.Tests.{eq-eqb, ne_eqb}
 use Rattle.corrector.specs.Verdict.{known_rate_of}
 use Rattle.corrector.proofs.known_rate.Goals as goal

@@ -1,6 +1,5 @@
 -- `open_iterations` meets its contract: field by field, and acor filled. Assumes nothing.
 use mathlib.Core.Path.{refl}
-use borrow.Author.Rules.{rules}
 use Rattle.corrector.specs.Iterate.{open_of}
 use Rattle.corrector.proofs.open_iterations.Goals as goal
 

@@ -1,6 +1,5 @@
 -- `rated` meets its contract: on each way rm is what `rm_of` picks. Assumes nothing.
 use mathlib.Core.Path.{◌≡◌, ◌∙◌}
-use borrow.Author.Rules.{rules}
 use Rattle.corrector.specs.Verdict.{rm_of, rated_of}
 use Rattle.corrector.proofs.rated.Goals as goal
 use Rattle.corrector.proofs.rated.Goals.{then-del-c, else-del-c}

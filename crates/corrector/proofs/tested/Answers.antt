@@ -1,5 +1,4 @@
 -- `tested` meets its contract: the test decides between its two callees. Assumes nothing.
-use borrow.Author.Rules.{rules}
 use Rattle.corrector.specs.Verdict.{judged_tested}
 use Rattle.corrector.proofs.tested.Goals as goal
 

@@ -1,10 +1,7 @@
 -- `column` meets its contract. The invariant: the rows that are left give the whole column. Assumes nothing.
-use Prim.Native.Nat.{◌-◌}
-use mathlib.Core.Path.{◌≡◌, refl}
-use native.Mathlib.Omega.{arith}
-use lib.ListN.{length, length-set}
+use mathlib.Core.Path.{◌≡◌}
+use lib.ListN.{length}
 use Rattle.loops.specs.For.{for}
-use Rattle.loops.proofs.For.{again, ended}
 use Rattle.dense.specs.Factor.{column_at, column_of}
 use Rattle.dense.proofs.column.Given as goal
 

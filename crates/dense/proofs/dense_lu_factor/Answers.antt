@@ -1,11 +1,6 @@
-use Prim.Native.Nat.{◌+◌, ◌-◌}
+use Prim.Native.Nat.{◌+◌}
 use mathlib.Core.Path.{◌≡◌, refl, sym, ap, ◌∙◌}
 use native.Mathlib.Omega.{arith}
-use lib.ListN.{length}
-use mathlib.Core.Bool.{true}
-use borrow.Author.Rules.{rules}
-use borrow.Author.Tests.{not-true, not-false}
-use Rattle.loops.specs.For.{for}
 use Rattle.loops.proofs.For.{onward, ended, stays}
 use Rattle.dense.specs.Factor.{Factors, step_of, factor_of}
 use Rattle.dense.specs.Solve.{outcome_of}

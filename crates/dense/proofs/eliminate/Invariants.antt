@@ -1,11 +1,8 @@
 -- `eliminate` meets its contract. The invariant: the columns that are left give the whole elimination.
 -- Assumes nothing.
-use Prim.Native.Nat.{◌-◌}
-use mathlib.Core.Path.{◌≡◌, refl, ◌∙◌}
-use native.Mathlib.Omega.{arith}
+use mathlib.Core.Path.{◌≡◌}
 use lib.ListN.{length}
 use Rattle.loops.specs.For.{for}
-use Rattle.loops.proofs.For.{again, ended, within}
 use Rattle.dense.specs.Factor.{column_of, eliminate_of}
 use Rattle.dense.proofs.eliminate.Given as goal
 

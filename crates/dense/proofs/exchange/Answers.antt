@@ -1,5 +1,4 @@
 -- `exchange` meets its contract: its test is that of `exchange_of`. Assumes nothing.
-use borrow.Author.Rules.{rules}
 use borrow.Author.Tests.{ne_eqb, eq-eqb}
 use Rattle.dense.proofs.exchange.Goals as goal
 

@@ -1,11 +1,6 @@
-use Prim.Native.Nat.{◌-◌, ◌<◌}
-use mathlib.Core.Path.{◌≡◌}
-use mathlib.Core.Logic.{⊎_elim}
 use native.Mathlib.Omega.{arith}
-use borrow.Author.Rules.{rules}
-use Rattle.loops.specs.For.{for}
 use Rattle.loops.proofs.For.{onward, ended}
-use Rattle.dense.specs.Factor.{pick_row, pivot_of}
+use Rattle.dense.specs.Factor.{pivot_of}
 use Rattle.dense.proofs.find_pivot.Goals as goal
 use Rattle.dense.proofs.find_pivot.Goals.{then-x-value, else-x-value}
 

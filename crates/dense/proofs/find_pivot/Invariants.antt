@@ -1,12 +1,8 @@
 -- `find_pivot` meets its contract. The invariant: the row found lies below n, and the rows that are left
 -- give the pivot of the whole column from it. Assumes nothing.
-use Prim.Native.Nat.{◌-◌, ◌<◌}
+use Prim.Native.Nat.{◌<◌}
 use mathlib.Core.Path.{◌≡◌}
-use mathlib.Core.Logic.{⊎_elim}
-use native.Mathlib.Omega.{arith}
-use borrow.Author.Rules.{rules}
 use Rattle.loops.specs.For.{for}
-use Rattle.loops.proofs.For.{onward, ended}
 use Rattle.dense.specs.Factor.{pick_row, pivot_of}
 use Rattle.dense.proofs.find_pivot.Given as goal
 

@@ -1,8 +1,5 @@
-use Prim.Native.Nat.{◌-◌}
-use mathlib.Core.Path.{◌≡◌, refl, ◌∙◌}
+use mathlib.Core.Path.{refl, ◌∙◌}
 use native.Mathlib.Omega.{arith}
-use lib.ListN.{length}
-use Rattle.loops.specs.For.{for}
 use Rattle.loops.proofs.For.{again, ended, within}
 use Rattle.dense.specs.Solve.{forward_step_of, forward_all_of}
 use Rattle.dense.proofs.forward_all.Goals as goal

@@ -1,10 +1,7 @@
 -- `forward_all` meets its contract. The invariant: the rows that are left give the whole elimination. Assumes nothing.
-use Prim.Native.Nat.{◌-◌}
-use mathlib.Core.Path.{◌≡◌, refl, ◌∙◌}
-use native.Mathlib.Omega.{arith}
+use mathlib.Core.Path.{◌≡◌}
 use lib.ListN.{length}
 use Rattle.loops.specs.For.{for}
-use Rattle.loops.proofs.For.{again, ended, within}
 use Rattle.dense.specs.Solve.{forward_step_of, forward_all_of}
 use Rattle.dense.proofs.forward_all.Given as goal
 

@@ -1,10 +1,8 @@
-use Prim.Native.Nat.{◌-◌}
-use mathlib.Core.Path.{◌≡◌, refl}
+use mathlib.Core.Path.{refl}
 use native.Mathlib.Omega.{arith}
-use lib.ListN.{length, length-set}
-use Rattle.loops.specs.For.{for}
+use lib.ListN.{length-set}
 use Rattle.loops.proofs.For.{again, ended}
-use Rattle.dense.specs.Solve.{less_at, less_of}
+use Rattle.dense.specs.Solve.{less_of}
 use Rattle.dense.proofs.less.Goals as goal
 
 pub loop-i-init : goal.loop-i-init

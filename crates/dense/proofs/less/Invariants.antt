@@ -1,10 +1,7 @@
 -- `less` meets its contract. The invariant: the rows that are left give the whole loop. Assumes nothing.
-use Prim.Native.Nat.{◌-◌}
-use mathlib.Core.Path.{◌≡◌, refl}
-use native.Mathlib.Omega.{arith}
-use lib.ListN.{length, length-set}
+use mathlib.Core.Path.{◌≡◌}
+use lib.ListN.{length}
 use Rattle.loops.specs.For.{for}
-use Rattle.loops.proofs.For.{again, ended}
 use Rattle.dense.specs.Solve.{less_at, less_of}
 use Rattle.dense.proofs.less.Given as goal
 

@@ -1,7 +1,6 @@
 -- `step` meets its contract: the calls of each way leave what `step_of` says under the test on the pivot.
 -- Assumes nothing.
 use native.Mathlib.Omega.{arith}
-use borrow.Author.Rules.{rules}
 use Rattle.loops.proofs.For.{within}
 use Rattle.dense.specs.Factor.{step_of}
 use Rattle.dense.proofs.step.Goals as goal

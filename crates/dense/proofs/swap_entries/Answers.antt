@@ -1,5 +1,4 @@
 -- `swap_entries` meets its contract: its test is that of `swap_entries_of`. Assumes nothing.
-use borrow.Author.Rules.{rules}
 use borrow.Author.Tests.{ne_eqb, eq-eqb}
 use Rattle.dense.proofs.swap_entries.Goals as goal
 

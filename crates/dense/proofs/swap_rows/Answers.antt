@@ -1,10 +1,7 @@
-use Prim.Native.Nat.{◌-◌}
-use mathlib.Core.Path.{◌≡◌, refl, ◌∙◌}
+use mathlib.Core.Path.{refl, ◌∙◌}
 use native.Mathlib.Omega.{arith}
-use lib.ListN.{length}
-use Rattle.loops.specs.For.{for}
 use Rattle.loops.proofs.For.{again, ended, within}
-use Rattle.dense.specs.Factor.{swap_at, swap_of}
+use Rattle.dense.specs.Factor.{swap_of}
 use Rattle.dense.proofs.swap_rows.Goals as goal
 
 pub loop-j-init : goal.loop-j-init

@@ -1,10 +1,7 @@
 -- `swap_rows` meets its contract. The invariant: the columns that are left give the whole exchange. Assumes nothing.
-use Prim.Native.Nat.{◌-◌}
-use mathlib.Core.Path.{◌≡◌, refl, ◌∙◌}
-use native.Mathlib.Omega.{arith}
+use mathlib.Core.Path.{◌≡◌}
 use lib.ListN.{length}
 use Rattle.loops.specs.For.{for}
-use Rattle.loops.proofs.For.{again, ended, within}
 use Rattle.dense.specs.Factor.{swap_at, swap_of}
 use Rattle.dense.proofs.swap_rows.Given as goal
 

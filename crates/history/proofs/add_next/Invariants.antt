@@ -1,11 +1,8 @@
 -- `add_next` meets its contract. The invariant: the turns that are left give the whole range.
 -- Assumes nothing.
-use Prim.Native.Nat.{◌-◌}
-use mathlib.Core.Path.{◌≡◌, refl}
-use native.Mathlib.Omega.{arith}
-use lib.ListN.{length, length-set}
+use mathlib.Core.Path.{◌≡◌}
+use lib.ListN.{length}
 use Rattle.loops.specs.For.{for}
-use Rattle.loops.proofs.For.{again, ended}
 use Rattle.history.specs.Columns.{add_at, add_range}
 use Rattle.history.proofs.add_next.Given as goal
 

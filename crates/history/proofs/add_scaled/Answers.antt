@@ -1,10 +1,8 @@
-use Prim.Native.Nat.{◌-◌}
-use mathlib.Core.Path.{◌≡◌, refl}
+use mathlib.Core.Path.{refl}
 use native.Mathlib.Omega.{arith}
-use lib.ListN.{length, length-set}
-use Rattle.loops.specs.For.{for}
+use lib.ListN.{length-set}
 use Rattle.loops.proofs.For.{again, ended}
-use Rattle.history.specs.Columns.{add_scaled_at, add_scaled_of}
+use Rattle.history.specs.Columns.{add_scaled_of}
 use Rattle.history.proofs.add_scaled.Goals as goal
 
 pub loop-i-init : goal.loop-i-init

@@ -1,11 +1,8 @@
 -- `add_scaled` meets its contract. The invariant: the numbers that are left give the whole column.
 -- Assumes nothing.
-use Prim.Native.Nat.{◌-◌}
-use mathlib.Core.Path.{◌≡◌, refl}
-use native.Mathlib.Omega.{arith}
-use lib.ListN.{length, length-set}
+use mathlib.Core.Path.{◌≡◌}
+use lib.ListN.{length}
 use Rattle.loops.specs.For.{for}
-use Rattle.loops.proofs.For.{again, ended}
 use Rattle.history.specs.Columns.{add_scaled_at, add_scaled_of}
 use Rattle.history.proofs.add_scaled.Given as goal
 

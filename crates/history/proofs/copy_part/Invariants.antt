@@ -1,11 +1,8 @@
 -- `copy_part` meets its contract. The invariant: the numbers that are left give the whole copy.
 -- Assumes nothing.
-use Prim.Native.Nat.{◌-◌}
-use mathlib.Core.Path.{◌≡◌, refl}
-use native.Mathlib.Omega.{arith}
-use lib.ListN.{length, length-set}
+use mathlib.Core.Path.{◌≡◌}
+use lib.ListN.{length}
 use Rattle.loops.specs.For.{for}
-use Rattle.loops.proofs.For.{again, ended}
 use Rattle.history.specs.Columns.{copy_at, copy_of}
 use Rattle.history.proofs.copy_part.Given as goal
 

@@ -1,10 +1,7 @@
-use Prim.Native.Nat.{◌-◌}
-use mathlib.Core.Path.{◌≡◌, refl, ◌∙◌}
+use mathlib.Core.Path.{refl, ◌∙◌}
 use native.Mathlib.Omega.{arith}
-use lib.ListN.{length}
-use Rattle.loops.specs.For.{for}
 use Rattle.loops.proofs.For.{again, ended, within}
-use Rattle.history.specs.Columns.{correct_at, correct_columns_of}
+use Rattle.history.specs.Columns.{correct_columns_of}
 use Rattle.history.proofs.correct_columns.Goals as goal
 
 pub loop-j-init : goal.loop-j-init

@@ -1,11 +1,8 @@
 -- `correct_columns` meets its contract. The invariant: the columns that are left give the whole.
 -- Assumes nothing.
-use Prim.Native.Nat.{◌-◌}
-use mathlib.Core.Path.{◌≡◌, refl, ◌∙◌}
-use native.Mathlib.Omega.{arith}
+use mathlib.Core.Path.{◌≡◌}
 use lib.ListN.{length}
 use Rattle.loops.specs.For.{for}
-use Rattle.loops.proofs.For.{again, ended, within}
 use Rattle.history.specs.Columns.{correct_at, correct_columns_of}
 use Rattle.history.proofs.correct_columns.Given as goal
 

@@ -1,10 +1,8 @@
-use Prim.Native.Nat.{◌-◌}
-use mathlib.Core.Path.{◌≡◌, refl}
+use mathlib.Core.Path.{refl}
 use native.Mathlib.Omega.{arith}
-use lib.ListN.{length, length-set, replicate}
-use Rattle.loops.specs.For.{for}
+use lib.ListN.{length-set}
 use Rattle.loops.proofs.For.{again, ended}
-use Rattle.history.proofs.Filled.{store_at, filled}
+use Rattle.history.proofs.Filled.{filled}
 use Rattle.history.proofs.fill.Goals as goal
 
 pub loop-i-init : goal.loop-i-init

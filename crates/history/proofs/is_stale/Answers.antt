@@ -1,6 +1,5 @@
 -- `is_stale` meets its contract: the first test decides, or else the second.
 -- Assumes nothing.
-use borrow.Author.Rules.{rules}
 use Rattle.history.specs.Steps.{stale_of}
 use Rattle.history.proofs.is_stale.Goals as goal
 

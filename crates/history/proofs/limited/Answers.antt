@@ -1,7 +1,6 @@
 -- `limited` meets its contract: each way returns what `limited_of` picks under the tests that led there.
 -- Assumes nothing.
 use mathlib.Core.Path.{sym, ◌∙◌}
-use borrow.Author.Rules.{rules}
 use Rattle.history.specs.Steps.{limited_of}
 use Rattle.history.proofs.limited.Goals as goal
 

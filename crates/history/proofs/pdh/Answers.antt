@@ -1,6 +1,5 @@
 -- `pdh` meets its contract: by those of `abs` and `max`.
 -- Assumes nothing.
-use borrow.Author.Rules.{rules}
 use Rattle.history.proofs.pdh.Goals as goal
 
 pub returns : goal.returns

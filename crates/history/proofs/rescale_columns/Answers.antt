@@ -1,12 +1,9 @@
 use Prim.Native.Nat.{◌+◌, ◌-◌, ◌*◌}
 use mathlib.Core.Path.{◌≡◌, refl, ap, ◌∙◌}
 use native.Mathlib.Omega.{arith}
-use lib.ListN.{length}
-use borrow.Author.Rules.{rules}
-use Rattle.loops.specs.For.{for}
 use Rattle.loops.proofs.For.{again, ended, within}
-use Rattle.numbers.specs.Float.{◌⊗◌, one_f}
-use Rattle.history.specs.Columns.{scale_part_of, Rescaled, rescale_at, rescale_columns_of}
+use Rattle.numbers.specs.Float.{◌⊗◌}
+use Rattle.history.specs.Columns.{scale_part_of, Rescaled, rescale_columns_of}
 use Rattle.history.proofs.Laws.{length-scale-part}
 use Rattle.history.proofs.rescale_columns.Goals as goal
 

@@ -1,15 +1,10 @@
 -- `rescale_columns` meets its contract. The invariant: from the power so far the rest gives the whole.
 -- Assumes nothing.
-use Prim.Native.Nat.{◌+◌, ◌-◌, ◌*◌}
-use mathlib.Core.Path.{◌≡◌, refl, ap, ◌∙◌}
-use native.Mathlib.Omega.{arith}
+use mathlib.Core.Path.{◌≡◌}
 use lib.ListN.{length}
-use borrow.Author.Rules.{rules}
 use Rattle.loops.specs.For.{for}
-use Rattle.loops.proofs.For.{again, ended, within}
-use Rattle.numbers.specs.Float.{◌⊗◌, one_f}
-use Rattle.history.specs.Columns.{scale_part_of, Rescaled, rescale_at, rescale_columns_of}
-use Rattle.history.proofs.Laws.{length-scale-part}
+use Rattle.numbers.specs.Float.{one_f}
+use Rattle.history.specs.Columns.{Rescaled, rescale_at}
 use Rattle.history.proofs.rescale_columns.Given as goal
 
 abbrev pub invariant-loop-j : goal.invariant-loop-j

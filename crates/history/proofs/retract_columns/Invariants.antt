@@ -1,11 +1,8 @@
 -- `retract_columns` meets its contract. The invariant: the passes that are left give the whole.
 -- Pass k begins k + 1 columns before nqnyh, and there are nq of them. Assumes nothing.
-use Prim.Native.Nat.{◌-◌}
-use mathlib.Core.Path.{◌≡◌, refl, ◌∙◌}
-use native.Mathlib.Omega.{arith}
+use mathlib.Core.Path.{◌≡◌}
 use lib.ListN.{length}
 use Rattle.loops.specs.For.{for}
-use Rattle.loops.proofs.For.{again, ended, within}
 use Rattle.history.specs.Columns.{retract_pass, retract_columns_of}
 use Rattle.history.proofs.retract_columns.Given as goal
 

@@ -1,11 +1,8 @@
 -- `scale` meets its contract. The invariant: the numbers that are left give the whole.
 -- Assumes nothing.
-use Prim.Native.Nat.{◌-◌}
-use mathlib.Core.Path.{◌≡◌, refl}
-use native.Mathlib.Omega.{arith}
-use lib.ListN.{length, length-set}
+use mathlib.Core.Path.{◌≡◌}
+use lib.ListN.{length}
 use Rattle.loops.specs.For.{for}
-use Rattle.loops.proofs.For.{again, ended}
 use Rattle.history.specs.Columns.{times_at, times_of}
 use Rattle.history.proofs.scale.Given as goal
 

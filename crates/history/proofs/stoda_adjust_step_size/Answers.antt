@@ -1,7 +1,6 @@
 -- `stoda_adjust_step_size` meets its contract: field by field, with the factor that `limited` gives.
 -- Assumes nothing.
 use mathlib.Core.Path.{◌∙◌}
-use borrow.Author.Rules.{rules}
 use Rattle.history.specs.Steps.{adjust_of}
 use Rattle.history.proofs.stoda_adjust_step_size.Goals as goal
 

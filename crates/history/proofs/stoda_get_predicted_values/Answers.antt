@@ -1,7 +1,6 @@
 -- `stoda_get_predicted_values` meets its contract: on each way the field due is what the test leaves.
 -- Assumes nothing.
 use mathlib.Core.Path.{sym, ◌∙◌}
-use borrow.Author.Rules.{rules}
 use Rattle.history.specs.Steps.{predicted_of}
 use Rattle.history.proofs.stoda_get_predicted_values.Goals as goal
 

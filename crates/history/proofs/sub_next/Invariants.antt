@@ -1,11 +1,8 @@
 -- `sub_next` meets its contract. The invariant: the turns that are left give the whole range.
 -- Assumes nothing.
-use Prim.Native.Nat.{◌-◌}
-use mathlib.Core.Path.{◌≡◌, refl}
-use native.Mathlib.Omega.{arith}
-use lib.ListN.{length, length-set}
+use mathlib.Core.Path.{◌≡◌}
+use lib.ListN.{length}
 use Rattle.loops.specs.For.{for}
-use Rattle.loops.proofs.For.{again, ended}
 use Rattle.history.specs.Columns.{sub_at, sub_range}
 use Rattle.history.proofs.sub_next.Given as goal
 

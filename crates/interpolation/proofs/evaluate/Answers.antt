@@ -2,11 +2,10 @@ use Prim.Native.Nat.{◌+◌, ◌-◌, ◌*◌, ◌≤◌}
 use mathlib.Core.Path.{◌≡◌, refl, sym}
 use native.Mathlib.Omega.{arith}
 use lib.ListN.{length}
-use Rattle.loops.specs.For.{for}
 use Rattle.loops.proofs.For.{onward, ended, within}
 use Rattle.loops.proofs.Part.{length_part}
 use Rattle.common.proofs.Laws.{small_product}
-use Rattle.interpolation.specs.Evaluate.{horner_turn, evaluate_of}
+use Rattle.interpolation.specs.Evaluate.{evaluate_of}
 use Rattle.interpolation.proofs.evaluate.Goals as goal
 
 pub overflow_mul-last : goal.overflow_mul-last

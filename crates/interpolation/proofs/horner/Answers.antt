@@ -1,10 +1,8 @@
-use Prim.Native.Nat.{◌-◌}
-use mathlib.Core.Path.{◌≡◌, refl}
+use mathlib.Core.Path.{refl}
 use native.Mathlib.Omega.{arith}
-use lib.ListN.{length, length-set}
-use Rattle.loops.specs.For.{for}
+use lib.ListN.{length-set}
 use Rattle.loops.proofs.For.{again, ended}
-use Rattle.interpolation.specs.Evaluate.{horner_at, horner_of}
+use Rattle.interpolation.specs.Evaluate.{horner_of}
 use Rattle.interpolation.proofs.horner.Goals as goal
 
 pub loop-i-init : goal.loop-i-init

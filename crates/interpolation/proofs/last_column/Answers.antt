@@ -1,10 +1,8 @@
-use Prim.Native.Nat.{◌-◌}
-use mathlib.Core.Path.{◌≡◌, refl}
+use mathlib.Core.Path.{refl}
 use native.Mathlib.Omega.{arith}
-use lib.ListN.{length, length-set}
-use Rattle.loops.specs.For.{for}
+use lib.ListN.{length-set}
 use Rattle.loops.proofs.For.{again, ended}
-use Rattle.interpolation.specs.Evaluate.{last_at, last_column_of}
+use Rattle.interpolation.specs.Evaluate.{last_column_of}
 use Rattle.interpolation.proofs.last_column.Goals as goal
 
 pub loop-i-init : goal.loop-i-init

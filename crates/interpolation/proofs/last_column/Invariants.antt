@@ -1,10 +1,7 @@
 -- `last_column` meets its contract. The invariant: the numbers that are left give the whole column. Assumes nothing.
-use Prim.Native.Nat.{◌-◌}
-use mathlib.Core.Path.{◌≡◌, refl}
-use native.Mathlib.Omega.{arith}
-use lib.ListN.{length, length-set}
+use mathlib.Core.Path.{◌≡◌}
+use lib.ListN.{length}
 use Rattle.loops.specs.For.{for}
-use Rattle.loops.proofs.For.{again, ended}
 use Rattle.interpolation.specs.Evaluate.{last_at, last_column_of}
 use Rattle.interpolation.proofs.last_column.Given as goal
 

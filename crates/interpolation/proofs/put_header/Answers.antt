@@ -2,7 +2,6 @@
 use mathlib.Core.Path.{refl}
 use native.Mathlib.Omega.{arith}
 use lib.ListN.{length-set}
-use borrow.Author.Rules.{rules}
 use Rattle.interpolation.specs.Snapshot.{header_of}
 use Rattle.interpolation.proofs.put_header.Goals as goal
 

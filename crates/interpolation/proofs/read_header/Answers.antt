@@ -1,7 +1,6 @@
 -- `read_header` meets its contract: each arm answers what `read_header_of` gives for the counts found. Assumes nothing.
 use native.Mathlib.Omega.{arith}
 use lib.ListN.{length}
-use borrow.Author.Rules.{rules}
 use borrow.Author.Tests.{lt-ltb, le-ltb}
 use Rattle.interpolation.specs.Header.{read_header_of}
 use Rattle.interpolation.proofs.read_header.Goals as goal

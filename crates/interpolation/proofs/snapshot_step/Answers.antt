@@ -1,12 +1,10 @@
-use Prim.Native.Nat.{◌+◌, ◌-◌, ◌≤◌}
-use mathlib.Core.Path.{◌≡◌, refl}
+use Prim.Native.Nat.{◌+◌, ◌≤◌}
+use mathlib.Core.Path.{refl}
 use native.Mathlib.Nat.{mul-le-mul, mul-le-mul_right}
 use native.Mathlib.Omega.{arith}
-use lib.ListN.{length, length-set}
-use borrow.Author.Rules.{rules}
-use Rattle.loops.specs.For.{for}
+use lib.ListN.{length-set}
 use Rattle.loops.proofs.For.{again, ended}
-use Rattle.interpolation.specs.Snapshot.{snapshot_at, snapshot_of}
+use Rattle.interpolation.specs.Snapshot.{snapshot_of}
 use Rattle.interpolation.proofs.snapshot_step.Goals as goal
 
 pub overflow_mul-i-end : goal.overflow_mul-i-end

@@ -1,14 +1,10 @@
 -- `snapshot_step` meets its contract. The invariant: the columns fit, and what is left to copy gives the whole after
 -- the header. Assumes nothing.
-use Prim.Native.Nat.{◌+◌, ◌-◌, ◌≤◌}
-use mathlib.Core.Path.{◌≡◌, refl}
-use native.Mathlib.Nat.{mul-le-mul, mul-le-mul_right}
-use native.Mathlib.Omega.{arith}
-use lib.ListN.{length, length-set}
-use borrow.Author.Rules.{rules}
+use Prim.Native.Nat.{◌+◌, ◌≤◌}
+use mathlib.Core.Path.{◌≡◌}
+use lib.ListN.{length}
 use Rattle.loops.specs.For.{for}
-use Rattle.loops.proofs.For.{again, ended}
-use Rattle.interpolation.specs.Snapshot.{snapshot_at, snapshot_of}
+use Rattle.interpolation.specs.Snapshot.{snapshot_at}
 use Rattle.interpolation.proofs.snapshot_step.Given as goal
 
 abbrev pub invariant-loop-i : goal.invariant-loop-i

@@ -1,10 +1,8 @@
-use Prim.Native.Nat.{◌+◌, ◌-◌}
-use mathlib.Core.Path.{◌≡◌, refl, sym, ◌∙◌}
+use Prim.Native.Nat.{◌+◌}
+use mathlib.Core.Path.{refl, sym, ◌∙◌}
 use native.Mathlib.Omega.{arith}
-use borrow.Author.Rules.{rules}
-use Rattle.loops.specs.For.{for}
 use Rattle.loops.proofs.For.{onward, ended, stays}
-use Rattle.interpolation.specs.declared.Count.TheVariants.{Is, NotWhole}
+use Rattle.interpolation.specs.declared.Count.TheVariants.{Is}
 use Rattle.interpolation.specs.Header.{whole_count_at, whole_count_of}
 use Rattle.interpolation.proofs.whole_count.Goals as goal
 

@@ -1,12 +1,9 @@
 -- `whole_count` meets its contract. The invariant: the counts that are left give the whole search; once one is found,
 -- no later one changes it. Assumes nothing.
-use Prim.Native.Nat.{◌+◌, ◌-◌}
-use mathlib.Core.Path.{◌≡◌, refl, sym, ◌∙◌}
-use native.Mathlib.Omega.{arith}
-use borrow.Author.Rules.{rules}
+use Prim.Native.Nat.{◌+◌}
+use mathlib.Core.Path.{◌≡◌}
 use Rattle.loops.specs.For.{for}
-use Rattle.loops.proofs.For.{onward, ended, stays}
-use Rattle.interpolation.specs.declared.Count.TheVariants.{Is, NotWhole}
+use Rattle.interpolation.specs.declared.Count.TheVariants.{NotWhole}
 use Rattle.interpolation.specs.Header.{whole_count_at, whole_count_of}
 use Rattle.interpolation.proofs.whole_count.Given as goal
 

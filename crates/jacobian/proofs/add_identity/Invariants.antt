@@ -1,11 +1,8 @@
 -- `add_identity` meets its contract. The invariant: the entries that are left give the whole.
 -- Assumes nothing.
-use Prim.Native.Nat.{◌-◌}
-use mathlib.Core.Path.{◌≡◌, refl}
-use native.Mathlib.Omega.{arith}
-use lib.ListN.{length, length-set}
+use mathlib.Core.Path.{◌≡◌}
+use lib.ListN.{length}
 use Rattle.loops.specs.For.{for}
-use Rattle.loops.proofs.For.{again, ended, within}
 use Rattle.jacobian.specs.Jacobian.{identity_at, identity_of}
 use Rattle.jacobian.proofs.add_identity.Given as goal
 

@@ -1,6 +1,5 @@
 -- `begin_jacobian` meets its contract: field by field. Assumes nothing.
 use mathlib.Core.Path.{refl}
-use borrow.Author.Rules.{rules}
 use Rattle.jacobian.specs.Jacobian.{begin_of}
 use Rattle.jacobian.proofs.begin_jacobian.Goals as goal
 

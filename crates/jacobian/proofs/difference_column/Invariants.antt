@@ -1,11 +1,8 @@
 -- `difference_column` meets its contract. The invariant: the rows that are left give the whole.
 -- Assumes nothing.
-use Prim.Native.Nat.{◌-◌}
-use mathlib.Core.Path.{◌≡◌, refl}
-use native.Mathlib.Omega.{arith}
-use lib.ListN.{length, length-set}
+use mathlib.Core.Path.{◌≡◌}
+use lib.ListN.{length}
 use Rattle.loops.specs.For.{for}
-use Rattle.loops.proofs.For.{again, ended}
 use Rattle.jacobian.specs.Jacobian.{difference_at, difference_of}
 use Rattle.jacobian.proofs.difference_column.Given as goal
 

@@ -1,6 +1,5 @@
 -- `factor` meets its contract: the identity, then the factors; the outcome tells the flag. Assumes nothing.
 use mathlib.Core.Path.{sym, ◌∙◌}
-use borrow.Author.Rules.{rules}
 use Rattle.jacobian.specs.Jacobian.{identity_factors_of}
 use Rattle.jacobian.proofs.Shared.{ok-done, ok-singular}
 use Rattle.jacobian.proofs.factor.Goals as goal

@@ -2,7 +2,6 @@
 use Prim.Native.Nat.{◌+◌, ◌-◌, ◌*◌}
 use mathlib.Core.Path.{◌≡◌}
 use native.Mathlib.Omega.{arith}
-use borrow.Author.Rules.{rules}
 use Rattle.common.specs.Layout.{ewt_at, savf_at, matrix_at}
 use Rattle.jacobian.specs.Jacobian.{finish_jacobian_of}
 use Rattle.jacobian.proofs.finish_jacobian.Goals as goal

@@ -1,5 +1,4 @@
 -- `in_force` meets its contract: field by field, and nlu is what the flag leaves. Assumes nothing.
-use borrow.Author.Rules.{rules}
 use Rattle.jacobian.proofs.in_force.Goals as goal
 
 pub returns-then-done : goal.returns-then-done

@@ -1,5 +1,4 @@
 -- `increment` meets its contract: the sum with what its callees give. Assumes nothing.
-use borrow.Author.Rules.{rules}
 use Rattle.jacobian.specs.Jacobian.{increment_of}
 use Rattle.jacobian.proofs.increment.Goals as goal
 

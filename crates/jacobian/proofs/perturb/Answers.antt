@@ -1,5 +1,4 @@
 -- `perturb` meets its contract: one store of what `increment` gives. Assumes nothing.
-use borrow.Author.Rules.{rules}
 use Rattle.jacobian.specs.Jacobian.{perturb_of}
 use Rattle.jacobian.proofs.perturb.Goals as goal
 

@@ -1,5 +1,4 @@
 -- `r0` meets its contract: on each way the test picks. Assumes nothing.
-use borrow.Author.Rules.{rules}
 use Rattle.jacobian.specs.Jacobian.{r0_of}
 use Rattle.jacobian.proofs.r0.Goals as goal
 

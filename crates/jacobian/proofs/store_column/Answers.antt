@@ -1,6 +1,5 @@
 -- `store_column` meets its contract: the column with the factor, then one store. Assumes nothing.
 use native.Mathlib.Omega.{arith}
-use borrow.Author.Rules.{rules}
 use Rattle.loops.proofs.For.{within}
 use Rattle.jacobian.specs.Jacobian.{restore_of}
 use Rattle.jacobian.proofs.store_column.Goals as goal

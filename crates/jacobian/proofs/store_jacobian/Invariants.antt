@@ -1,12 +1,9 @@
 -- `store_jacobian` meets its contract. The invariant: the numbers that are left give the whole matrix.
 -- Assumes nothing.
-use Prim.Native.Nat.{◌-◌}
-use mathlib.Core.Path.{◌≡◌, refl}
-use native.Mathlib.Omega.{arith}
-use lib.ListN.{length, length-set}
+use mathlib.Core.Path.{◌≡◌}
+use lib.ListN.{length}
 use Rattle.loops.specs.For.{for}
-use Rattle.loops.proofs.For.{again, ended}
-use Rattle.jacobian.specs.Jacobian.{scaled_at, scaled_of}
+use Rattle.jacobian.specs.Jacobian.{scaled_at}
 use Rattle.jacobian.proofs.store_jacobian.Given as goal
 
 abbrev pub invariant-loop-i : goal.invariant-loop-i

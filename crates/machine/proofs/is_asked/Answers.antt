@@ -8,14 +8,12 @@ use native.Mathlib.Nat.{mul-le-mul_right}
 use native.Mathlib.Omega.{arith}
 use denote.Enum.Declared.{tag_of}
 use types.Run.{OneOf, miss}
-use borrow.Author.Rules.{rules}
 use borrow.Enum.Refused.{opened}
 use Rattle.between_steps.specs.declared.Kind.{Kind}
 use Rattle.between_steps.specs.declared.Kind.TheVariants.{Derivative, Jacobian, Report}
 use Rattle.between_steps.specs.Replies.{is_derivative, is_jacobian, is_answer}
 use Rattle.between_steps.specs.contracts.Kind.{the_type as kinds}
 use Rattle.questions.specs.declared.Phase.{Phase}
-use Rattle.questions.specs.declared.Phase.TheVariants as Phase
 use Rattle.questions.specs.contracts.Phase.{the_type as phases}
 use Rattle.machine.specs.Resume.{is_asked}
 use Rattle.machine.proofs.is_asked.Goals as goal

@@ -2,14 +2,11 @@
 -- Assumes nothing.
 use mathlib.Core.Path.{sym, ap, ◌∙◌}
 use native.Mathlib.Omega.{arith}
-use borrow.Author.Rules.{rules}
 use borrow.Enum.Refused.{opened}
-use borrow.Author.Tests.{not-true, not-false}
 use Rattle.common.specs.State.{given, state}
 use Rattle.between_steps.specs.declared.Kind.{Kind}
 use Rattle.between_steps.proofs.Inside.{inside-ranges}
 use Rattle.questions.specs.declared.Phase.{Phase}
-use Rattle.questions.specs.declared.Phase.TheVariants as Phase
 use Rattle.machine.specs.Resume.{unasked, first_answered_of, answered_of, resume_at}
 use Rattle.machine.proofs.Replies.{derivative-length, jacobian-length, answer-length, held, asked_in}
 use Rattle.machine.proofs.Replies.{resume-asked, resume-unasked, first-unasked, report-unasked}

@@ -1,6 +1,5 @@
 -- `copysign` meets its contract: the magnitude, negated where the other's sign is set.
 use mathlib.Core.Path.{◌∙◌, sym}
-use borrow.Author.Rules.{rules}
 use Rattle.numbers.proofs.Sign.{copysign-positive, copysign-negative}
 use Rattle.numbers.proofs.copysign.Goals as goal
 

@@ -1,6 +1,5 @@
 -- `from_bits` meets its contract: past infinity's pattern lie the NaNs' alone.
 use mathlib.Core.Path.{sym, ◌∙◌}
-use borrow.Author.Rules.{rules}
 use Rattle.numbers.proofs.Bits.{to-infinity, past-infinity, zero-over-zero}
 use Rattle.numbers.proofs.from_bits.Goals as goal
 

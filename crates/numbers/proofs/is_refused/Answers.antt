@@ -1,5 +1,4 @@
 -- `is_refused` meets its contract: each way returns what `refused` says under the test that led there.
-use borrow.Author.Rules.{rules}
 use Rattle.numbers.specs.Sign.{refused}
 use Rattle.numbers.proofs.is_refused.Goals as goal
 

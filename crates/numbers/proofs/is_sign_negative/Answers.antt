@@ -1,5 +1,4 @@
 -- `is_sign_negative` meets its contract: a pattern's sign is its highest bit.
-use borrow.Author.Rules.{rules}
 use Rattle.numbers.proofs.Sign.{negative-bits}
 use Rattle.numbers.proofs.is_sign_negative.Goals as goal
 

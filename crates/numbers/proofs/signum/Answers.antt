@@ -1,6 +1,5 @@
 -- `signum` meets its contract: a NaN has none, and any other float one by its sign.
 use mathlib.Core.Path.{sym, ◌∙◌}
-use borrow.Author.Rules.{rules}
 use Rattle.numbers.specs.Sign.{signum_of}
 use Rattle.numbers.proofs.Bits.{nan-self}
 use Rattle.numbers.proofs.Sign.{signum-positive, signum-negative}

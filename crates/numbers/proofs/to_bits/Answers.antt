@@ -1,6 +1,5 @@
 -- `to_bits` meets its contract: a NaN has the pattern that `to_bits` writes, and only a NaN differs from itself.
 use lib.Ieee.{to_bits}
-use borrow.Author.Rules.{rules}
 use Rattle.numbers.proofs.Bits.{nan-self, no_nan}
 use Rattle.numbers.proofs.to_bits.Goals as goal
 

@@ -1,5 +1,4 @@
 -- `ask_column` meets its contract: the perturbed state, then the question. Assumes nothing.
-use borrow.Author.Rules.{rules}
 use Rattle.passes.specs.Pass.{ask_column_of}
 use Rattle.passes.proofs.ask_column.Goals as goal
 

@@ -3,7 +3,6 @@
 use mathlib.Core.Path.{◌≡◌}
 use mathlib.Core.Bool.{false}
 use native.Mathlib.Omega.{arith}
-use borrow.Author.Rules.{rules}
 use Rattle.jacobian.specs.Jacobian.{is_supplied, begin_of}
 use Rattle.passes.specs.Pass.{ask_jacobian_of, ask_jacobian_at}
 use Rattle.passes.proofs.ask_jacobian.Goals as goal

@@ -1,5 +1,4 @@
 -- `attempted` meets its contract: one question for each way that an attempt can end. Assumes nothing.
-use borrow.Author.Rules.{rules}
 use Rattle.passes.specs.Pass.{attempted_at}
 use Rattle.passes.proofs.attempted.Goals as goal
 

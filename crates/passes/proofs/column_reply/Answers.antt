@@ -1,7 +1,6 @@
 -- `column_reply` meets its contract: the column is stored, and the next is asked for or the matrix is factored.
 -- Assumes nothing.
 use native.Mathlib.Omega.{arith}
-use borrow.Author.Rules.{rules}
 use borrow.Author.Tests.{lt-ltb, le-ltb}
 use Rattle.between_steps.proofs.Inside.{inside-column, lent_length}
 use Rattle.passes.specs.Pass.{column_reply_of, column_reply_at}

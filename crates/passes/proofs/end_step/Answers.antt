@@ -1,6 +1,5 @@
 -- `end_step` meets its contract: a weight at most 0 is refused, else the report.
 -- Assumes nothing.
-use borrow.Author.Rules.{rules}
 use Rattle.passes.specs.Pass.{end_step_of, closed_at}
 use Rattle.passes.proofs.end_step.Goals as goal
 

@@ -1,7 +1,6 @@
 -- `error_test` meets its contract: the error test picks between the attempt's failure and acceptance.
 -- Assumes nothing.
 use native.Mathlib.Omega.{arith}
-use borrow.Author.Rules.{rules}
 use Rattle.attempt.proofs.Laws.{failed}
 use Rattle.passes.specs.Pass.{error_test_of, error_test_at}
 use Rattle.passes.proofs.error_test.Goals as goal

@@ -1,6 +1,5 @@
 -- `further_reply` meets its contract: savf is the reply, then an iteration. Assumes nothing.
 use native.Mathlib.Omega.{arith}
-use borrow.Author.Rules.{rules}
 use Rattle.between_steps.proofs.Inside.{lent_length}
 use Rattle.passes.specs.Pass.{further_reply_of}
 use Rattle.passes.proofs.further_reply.Goals as goal

@@ -3,7 +3,6 @@
 use mathlib.Core.Path.{ap, ◌∙◌}
 use native.Mathlib.Omega.{arith}
 use lib.ListN.{length}
-use borrow.Author.Rules.{rules}
 use Rattle.corrector.specs.Iterate.{Corrected}
 use Rattle.corrector.proofs.Iterated.{length-iteration}
 use Rattle.common.specs.Ranges.{Inside}

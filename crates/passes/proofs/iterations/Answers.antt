@@ -4,7 +4,6 @@ use native.Mathlib.Omega.{arith}
 use mathlib.Core.Path.{◌≡◌}
 use Prim.Native.Nat.{◌-◌}
 use Rattle.loops.proofs.Part.{length_part}
-use borrow.Author.Rules.{rules}
 use Rattle.common.specs.Layout.{acor_at, y_at}
 use Rattle.history.specs.Columns.{fill_of}
 use Rattle.between_steps.proofs.Inside.{lent_length}

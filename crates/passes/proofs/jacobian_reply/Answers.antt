@@ -3,7 +3,6 @@ use native.Mathlib.Omega.{arith}
 use mathlib.Core.Path.{◌≡◌}
 use Prim.Native.Nat.{◌+◌, ◌-◌}
 use lib.ListN.{length}
-use borrow.Author.Rules.{rules}
 use Rattle.common.specs.Layout.{matrix_at}
 use Rattle.between_steps.proofs.Inside.{lent_length}
 use Rattle.passes.specs.Pass.{jacobian_reply_of}

@@ -1,7 +1,6 @@
 -- `matrix_done` meets its contract: the factoring, then the iterations or no convergence.
 -- Assumes nothing.
 use native.Mathlib.Omega.{arith}
-use borrow.Author.Rules.{rules}
 use Rattle.passes.proofs.PassInside.{inside-factored, lent-factored}
 use Rattle.passes.specs.Pass.{matrix_done_of, matrix_done_at}
 use Rattle.passes.proofs.matrix_done.Goals as goal

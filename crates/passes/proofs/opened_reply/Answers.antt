@@ -5,7 +5,6 @@ use mathlib.Core.Bool.{Bool, true, false}
 use mathlib.Core.List.{List}
 use native.Mathlib.Omega.{arith}
 use lib.Ieee.{Float}
-use borrow.Author.Rules.{rules}
 use Rattle.common.specs.State.{Given, State, put_w}
 use Rattle.between_steps.specs.Start.{with_derivative}
 use Rattle.between_steps.proofs.Inside.{lent_length}

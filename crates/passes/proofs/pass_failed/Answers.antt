@@ -1,6 +1,5 @@
 -- `pass_failed` meets its contract: the attempt's failure, then what it leads to. Assumes nothing.
 use native.Mathlib.Omega.{arith}
-use borrow.Author.Rules.{rules}
 use Rattle.attempt.proofs.Laws.{unconverged}
 use Rattle.passes.specs.Pass.{pass_failed_of}
 use Rattle.passes.proofs.pass_failed.Goals as goal

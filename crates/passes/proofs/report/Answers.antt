@@ -1,5 +1,4 @@
 -- `report` meets its contract: field by field, and y by the copy. Assumes nothing.
-use borrow.Author.Rules.{rules}
 use Rattle.passes.specs.Pass.{reported_of}
 use Rattle.passes.proofs.report.Goals as goal
 

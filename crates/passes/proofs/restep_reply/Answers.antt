@@ -1,7 +1,6 @@
 -- `restep_reply` meets its contract: savf is the reply, then order 1 and a pass. Assumes nothing.
 use mathlib.Core.Path.{ap, ◌∙◌}
 use native.Mathlib.Omega.{arith}
-use borrow.Author.Rules.{rules}
 use Rattle.common.specs.State.{Moved}
 use Rattle.attempt.proofs.Laws.{restepped}
 use Rattle.between_steps.proofs.Inside.{in-range}

@@ -1,6 +1,5 @@
 -- `ask` meets its contract: field by field. Assumes nothing.
 use mathlib.Core.Path.{refl}
-use borrow.Author.Rules.{rules}
 use Rattle.questions.specs.Turns.{asked_of}
 use Rattle.questions.proofs.ask.Goals as goal
 

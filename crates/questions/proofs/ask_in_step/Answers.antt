@@ -1,6 +1,5 @@
 -- `ask_in_step` meets its contract: field by field. Assumes nothing.
 use mathlib.Core.Path.{refl}
-use borrow.Author.Rules.{rules}
 use Rattle.questions.specs.Turns.{asked_in_step_of}
 use Rattle.questions.proofs.ask_in_step.Goals as goal
 

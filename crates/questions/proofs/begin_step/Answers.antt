@@ -1,6 +1,5 @@
 -- `begin_step` meets its contract: the first prediction, the first pass. Assumes nothing.
 use native.Mathlib.Omega.{arith}
-use borrow.Author.Rules.{rules}
 use Rattle.between_steps.proofs.Lengths.{first-counts}
 use Rattle.questions.specs.Begin.{began_of}
 use Rattle.questions.proofs.begin_step.Goals as goal

@@ -1,7 +1,6 @@
 -- `go_on` meets its contract: each way returns what `go_on_of` picks under the tests that led there.
 -- Assumes nothing.
 use borrow.Author.Tests.{le-leb, lt-leb}
-use borrow.Author.Rules.{rules}
 use Rattle.questions.specs.Begin.{go_on_of, go_on_at}
 use Rattle.questions.proofs.go_on.Goals as goal
 

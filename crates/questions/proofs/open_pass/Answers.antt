@@ -1,5 +1,4 @@
 -- `open_pass` meets its contract: the copy, then the question. Assumes nothing.
-use borrow.Author.Rules.{rules}
 use Rattle.questions.specs.Begin.{open_pass_of}
 use Rattle.questions.proofs.open_pass.Goals as goal
 

@@ -1,7 +1,5 @@
 -- `raimsklo_question_length` meets its contract. Assumes nothing.
-use Prim.Native.Nat.{◌-◌}
 use borrow.Author.Tests.{lt-ltb, le-ltb}
-use borrow.Author.Rules.{rules}
 use Rattle.raimsklo.specs.Defaults.{question_length_for}
 use Rattle.raimsklo.proofs.raimsklo_question_length.Goals as goal
 

@@ -1,6 +1,5 @@
 -- `raimsklo_root` meets its contract: it hands on the value that `root` answers.
 -- Assumes nothing.
-use borrow.Author.Rules.{rules}
 use Rattle.raimsklo.proofs.raimsklo_root.Goals as goal
 
 pub returns : goal.returns

@@ -1,9 +1,7 @@
 -- `raimsklo_start` meets its contract. Assumes nothing.
-use Prim.Native.Nat.{◌-◌}
 use mathlib.Core.Path.{refl, sym, ap, ◌∙◌}
 use borrow.Author.Tests.{eq-eqb, ne_eqb}
 use native.Mathlib.Omega.{arith}
-use borrow.Author.Rules.{rules}
 use Rattle.refusals.proofs.Accepted.{accepted}
 use Rattle.refusals.specs.Start.{accepted_settings}
 use Rattle.refusals.specs.declared.Refusal.{Refusal}

@@ -1,9 +1,7 @@
 -- `raimsklo_work_length` meets its contract. Assumes nothing.
-use Prim.Native.Nat.{◌-◌}
 use native.Mathlib.Nat.{mul-le-mul_right}
 use borrow.Author.Tests.{lt-ltb, le-ltb}
 use native.Mathlib.Omega.{arith}
-use borrow.Author.Rules.{rules}
 use Rattle.raimsklo.specs.Defaults.{work_length_for}
 use Rattle.raimsklo.proofs.raimsklo_work_length.Goals as goal
 

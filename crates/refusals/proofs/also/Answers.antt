@@ -1,7 +1,5 @@
 -- `also` meets its contract. Assumes nothing.
-use Prim.Native.Nat.{◌-◌}
 use borrow.Author.Tests.{eq-eqb, ne_eqb}
-use borrow.Author.Rules.{rules}
 use Rattle.refusals.specs.Refusal.{also_of}
 use Rattle.refusals.proofs.also.Goals as goal
 

@@ -1,5 +1,4 @@
 -- `first_step` meets its contract. Assumes nothing.
-use Prim.Native.Nat.{◌-◌}
 use borrow.Author.Tests.{eq-eqb, ne_eqb}
 use Rattle.refusals.specs.Start.{given_step_of}
 use Rattle.refusals.proofs.first_step.Goals as goal

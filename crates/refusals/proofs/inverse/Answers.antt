@@ -1,5 +1,4 @@
 -- `inverse` meets its contract. Assumes nothing.
-use Prim.Native.Nat.{◌-◌}
 use Rattle.refusals.specs.Start.{inverse_of}
 use Rattle.refusals.proofs.inverse.Goals as goal
 

@@ -1,5 +1,4 @@
 -- `inverse_largest` meets its contract. Assumes nothing.
-use borrow.Author.Rules.{rules}
 use Rattle.refusals.specs.Start.{inverse_largest_of}
 use Rattle.refusals.proofs.inverse_largest.Goals as goal
 

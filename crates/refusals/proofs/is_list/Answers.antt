@@ -1,5 +1,4 @@
 -- `is_list` meets its contract. Assumes nothing.
-use Prim.Native.Nat.{◌-◌}
 use borrow.Author.Tests.{eq-eqb, ne_eqb}
 use Rattle.refusals.proofs.is_list.Goals as goal
 

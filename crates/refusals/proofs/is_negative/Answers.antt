@@ -1,7 +1,5 @@
 -- `is_negative` meets its contract. Assumes nothing.
-use Prim.Native.Nat.{◌-◌}
 use borrow.Author.Tests.{lt-ltb, le-ltb}
-use borrow.Author.Rules.{rules}
 use Rattle.refusals.proofs.is_negative.Goals as goal
 
 pub returns-then-i-list : goal.returns-then-i-list

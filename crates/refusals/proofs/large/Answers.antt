@@ -1,6 +1,4 @@
 -- `large` meets its contract. Assumes nothing.
-use Prim.Native.Nat.{◌-◌}
-use borrow.Author.Rules.{rules}
 use Rattle.refusals.specs.Refusal.{in_order}
 use Rattle.refusals.specs.Start.{large_refusal}
 use Rattle.refusals.proofs.large.Goals as goal

@@ -1,7 +1,5 @@
 -- `largest` meets its contract. Assumes nothing.
-use Prim.Native.Nat.{◌-◌}
 use borrow.Author.Tests.{eq-eqb, ne_eqb}
-use borrow.Author.Rules.{rules}
 use Rattle.refusals.specs.Start.{largest_of}
 use Rattle.refusals.proofs.largest.Goals as goal
 

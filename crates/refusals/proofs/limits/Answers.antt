@@ -1,6 +1,4 @@
 -- `limits` meets its contract. Assumes nothing.
-use Prim.Native.Nat.{◌-◌}
-use borrow.Author.Rules.{rules}
 use Rattle.refusals.specs.Refusal.{in_order}
 use Rattle.refusals.specs.Start.{limit_refusal}
 use Rattle.refusals.proofs.limits.Goals as goal

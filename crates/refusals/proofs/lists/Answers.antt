@@ -1,8 +1,6 @@
 -- `lists` meets its contract. Assumes nothing.
-use Prim.Native.Nat.{◌-◌}
 use native.Mathlib.Nat.{mul-le-mul_right}
 use native.Mathlib.Omega.{arith}
-use borrow.Author.Rules.{rules}
 use Rattle.refusals.specs.Refusal.{in_order}
 use Rattle.refusals.specs.Start.{length_refusal}
 use Rattle.refusals.proofs.lists.Goals as goal

@@ -1,6 +1,4 @@
 -- `settings` meets its contract. Assumes nothing.
-use Prim.Native.Nat.{◌-◌}
-use borrow.Author.Rules.{rules}
 use Rattle.refusals.specs.Start.{accepted_settings}
 use Rattle.refusals.proofs.settings.Goals as goal
 

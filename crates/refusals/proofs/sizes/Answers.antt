@@ -1,7 +1,5 @@
 -- `sizes` meets its contract. Assumes nothing.
-use Prim.Native.Nat.{◌-◌}
 use borrow.Author.Tests.{lt-ltb, le-ltb}
-use borrow.Author.Rules.{rules}
 use Rattle.refusals.specs.Start.{size_refusal}
 use Rattle.refusals.proofs.sizes.Goals as goal
 

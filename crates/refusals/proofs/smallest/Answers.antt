@@ -1,7 +1,5 @@
 -- `smallest` meets its contract. Assumes nothing.
-use Prim.Native.Nat.{◌-◌}
 use borrow.Author.Tests.{eq-eqb, ne_eqb}
-use borrow.Author.Rules.{rules}
 use Rattle.refusals.specs.Start.{smallest_of}
 use Rattle.refusals.proofs.smallest.Goals as goal
 

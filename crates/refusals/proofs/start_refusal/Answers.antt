@@ -1,7 +1,5 @@
 -- `start_refusal` meets its contract. Assumes nothing.
-use Prim.Native.Nat.{◌-◌}
 use borrow.Author.Tests.{eq-eqb, ne_eqb}
-use borrow.Author.Rules.{rules}
 use Rattle.refusals.specs.Refusal.{or_else}
 use Rattle.refusals.specs.Start.{start_refusal_of}
 use Rattle.refusals.proofs.start_refusal.Goals as goal

@@ -1,7 +1,5 @@
 -- `step` meets its contract. Assumes nothing.
-use Prim.Native.Nat.{◌-◌}
 use borrow.Author.Tests.{eq-eqb, ne_eqb}
-use borrow.Author.Rules.{rules}
 use Rattle.refusals.specs.Start.{step_refusal}
 use Rattle.refusals.proofs.step.Goals as goal
 

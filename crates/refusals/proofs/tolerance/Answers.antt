@@ -1,7 +1,5 @@
 -- `tolerance` meets its contract. Assumes nothing.
-use Prim.Native.Nat.{◌-◌}
 use borrow.Author.Tests.{eq-eqb, ne_eqb}
-use borrow.Author.Rules.{rules}
 use Rattle.refusals.specs.Refusal.{or_else}
 use Rattle.refusals.proofs.tolerance.Goals as goal
 

@@ -1,10 +1,6 @@
-use Prim.Native.Nat.{◌-◌}
-use mathlib.Core.Path.{◌≡◌}
 use native.Mathlib.Omega.{arith}
-use borrow.Author.Rules.{rules}
-use Rattle.loops.specs.For.{for}
 use Rattle.loops.proofs.For.{again, ended}
-use Rattle.refusals.specs.Start.{tolerance_at, tolerance_refusal}
+use Rattle.refusals.specs.Start.{tolerance_refusal}
 use Rattle.refusals.proofs.tolerances.Goals as goal
 
 pub loop-i-init : goal.loop-i-init

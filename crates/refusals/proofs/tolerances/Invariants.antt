@@ -1,10 +1,6 @@
 -- `tolerances` meets its contract. Assumes nothing.
-use Prim.Native.Nat.{◌-◌}
 use mathlib.Core.Path.{◌≡◌}
-use native.Mathlib.Omega.{arith}
-use borrow.Author.Rules.{rules}
 use Rattle.loops.specs.For.{for}
-use Rattle.loops.proofs.For.{again, ended}
 use Rattle.refusals.specs.Start.{tolerance_at, tolerance_refusal}
 use Rattle.refusals.proofs.tolerances.Given as goal
 

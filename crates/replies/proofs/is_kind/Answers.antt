@@ -1,5 +1,4 @@
 -- `is_kind` meets its contract. Assumes nothing.
-use Prim.Native.Nat.{◌-◌}
 use borrow.Author.Tests.{eq-eqb, ne_eqb}
 use Rattle.replies.proofs.is_kind.Goals as goal
 

@@ -2,14 +2,11 @@
 -- every case but the last
 use mathlib.Core.Bool.{false}
 use mathlib.Core.List.{[], ◌∷◌}
-use Prim.Native.Nat.{◌-◌}
 use mathlib.Core.Path.{◌≡◌, refl}
 use denote.Enum.Declared.{tag_of}
-use borrow.Author.Rules.{rules}
 use borrow.Enum.Refused.{opened}
 use types.Run.{OneOf, miss}
 use Rattle.questions.specs.declared.Question.{Question}
-use Rattle.questions.specs.declared.Question.TheVariants as Question
 use Rattle.questions.specs.contracts.Question.{the_type}
 use Rattle.replies.specs.Replies.{is_unasked}
 use Rattle.replies.proofs.is_unasked.Goals as goal

@@ -1,5 +1,4 @@
 -- `kind` meets its contract. Assumes nothing.
-use Prim.Native.Nat.{◌-◌}
 use borrow.Author.Tests.{eq-eqb, ne_eqb}
 use Rattle.replies.specs.Replies.{kind_of}
 use Rattle.replies.proofs.kind.Goals as goal

@@ -1,8 +1,6 @@
 -- `lengths` meets its contract. Assumes nothing.
-use Prim.Native.Nat.{◌-◌}
 use native.Mathlib.Nat.{mul-le-mul_right}
 use native.Mathlib.Omega.{arith}
-use borrow.Author.Rules.{rules}
 use Rattle.refusals.specs.Refusal.{in_order}
 use Rattle.replies.specs.Replies.{lengths_refusal}
 use Rattle.replies.proofs.lengths.Goals as goal

@@ -1,7 +1,5 @@
 -- `stored` meets its contract. Assumes nothing.
 use mathlib.Core.Path.{sym, ◌∙◌}
-use borrow.Author.Tests.{not-true, not-false}
-use borrow.Author.Rules.{rules}
 use Rattle.refusals.specs.Refusal.{in_order, also_of}
 use Rattle.replies.specs.Replies.{stored_refusal}
 use Rattle.replies.proofs.stored.Goals as goal

@@ -3,13 +3,11 @@ use mathlib.Core.List.{List, [], ◌∷◌}
 use mathlib.Core.Path.{◌≡◌, refl, sym}
 use denote.Enum.Declared.{tag_of}
 use lib.Ieee.{Float}
-use borrow.Author.Rules.{rules}
 use borrow.Enum.Refused.{opened}
 use types.Run.{OneOf, miss}
 use Rattle.common.specs.declared.Settings.{Settings}
 use Rattle.common.specs.declared.Common.{Common}
 use Rattle.questions.specs.declared.Phase.{Phase}
-use Rattle.questions.specs.declared.Phase.TheVariants as Phase
 use Rattle.questions.specs.contracts.Phase.{the_type}
 use Rattle.replies.specs.Replies.{question_of, with_y}
 use Rattle.replies.proofs.write_question.Goals as goal

@@ -1,7 +1,5 @@
 -- `write_turn` meets its contract. Assumes nothing.
 use mathlib.Core.Path.{sym, ◌∙◌}
-use Prim.Native.Nat.{◌-◌}
-use borrow.Author.Rules.{rules}
 use Rattle.session.specs.Session.{encode_of}
 use Rattle.replies.specs.Replies.{turn_written_of}
 use Rattle.replies.proofs.write_turn.Goals as goal

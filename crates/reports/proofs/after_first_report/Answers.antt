@@ -1,5 +1,4 @@
 -- `after_first_report` meets its contract: one way for each answer. Assumes nothing.
-use borrow.Author.Rules.{rules}
 use Rattle.between_steps.proofs.Inside.{inside-tn}
 use Rattle.reports.specs.Reports.{after_first_report_of}
 use Rattle.reports.proofs.after_first_report.Goals as goal

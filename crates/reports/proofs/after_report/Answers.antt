@@ -1,6 +1,5 @@
 -- `after_report` meets its contract: the state is taken, then one way for each answer. Assumes nothing.
 use native.Mathlib.Omega.{arith}
-use borrow.Author.Rules.{rules}
 use Rattle.between_steps.proofs.Inside.{inside-tn}
 use Rattle.reports.specs.Reports.{after_report_of}
 use Rattle.reports.proofs.after_report.Goals as goal

@@ -3,7 +3,6 @@
 use mathlib.Core.Path.{◌≡◌}
 use Prim.Native.Nat.{◌-◌}
 use native.Mathlib.Omega.{arith}
-use borrow.Author.Rules.{rules}
 use Rattle.common.specs.Layout.{ewt_at, savf_at}
 use Rattle.reports.specs.Reports.{weighted_at, first_derivative_of}
 use Rattle.reports.proofs.first_derivative.Goals as goal

@@ -1,6 +1,5 @@
 -- `first_modified` meets its contract: savf is the reply, column 1 is h times it, and the loop goes on.
 -- Assumes nothing.
-use borrow.Author.Rules.{rules}
 use Rattle.reports.specs.Reports.{first_modified_of}
 use Rattle.reports.proofs.first_modified.Goals as goal
 

@@ -1,7 +1,6 @@
 -- `modified` meets its contract: savf and column 1 from the reply, weights from the state, order 1; the loop goes on.
 -- Assumes nothing.
 use native.Mathlib.Omega.{arith}
-use borrow.Author.Rules.{rules}
 use Rattle.between_steps.proofs.Inside.{inside-restart}
 use Rattle.reports.specs.Reports.{modified_of}
 use Rattle.reports.proofs.modified.Goals as goal

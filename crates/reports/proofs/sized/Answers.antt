@@ -1,6 +1,5 @@
 -- `sized` meets its contract: the first step is refused, or limited and multiplied into column 1.
 -- Assumes nothing.
-use borrow.Author.Rules.{rules}
 use Rattle.reports.specs.Reports.{sized_of, sized_at}
 use Rattle.reports.proofs.sized.Goals as goal
 

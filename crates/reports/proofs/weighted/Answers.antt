@@ -5,7 +5,6 @@ use mathlib.Core.List.{List}
 use Prim.Native.Nat.{ℕ, ◌-◌, ◌*◌}
 use native.Mathlib.Omega.{arith}
 use lib.Ieee.{Float}
-use borrow.Author.Rules.{rules}
 use Rattle.loops.proofs.Part.{length_part}
 use Rattle.vectors.specs.FirstStep.{initial_step_of}
 use Rattle.common.specs.declared.Settings.{Settings}

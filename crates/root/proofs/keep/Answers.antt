@@ -1,6 +1,5 @@
 -- `keep` meets its contract: each way returns what `keep_of` picks under the test that led there.
 use native.Mathlib.Omega.{arith}
-use borrow.Author.Rules.{rules}
 use Rattle.numbers.proofs.Bits.{to-infinity}
 use Rattle.root.specs.Root.{keep_of}
 use Rattle.root.proofs.keep.Goals as goal

@@ -1,9 +1,7 @@
-use Prim.Native.Nat.{◌-◌}
-use mathlib.Core.Path.{◌≡◌, refl}
+use mathlib.Core.Path.{refl}
 use native.Mathlib.Omega.{arith}
-use Rattle.loops.specs.For.{for}
 use Rattle.loops.proofs.For.{again, ended}
-use Rattle.root.specs.Root.{factor, power_of}
+use Rattle.root.specs.Root.{power_of}
 use Rattle.root.proofs.power.Goals as goal
 
 pub loop-init : goal.loop-init

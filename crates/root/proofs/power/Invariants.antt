@@ -1,9 +1,6 @@
 -- `power` meets its contract: the factors still to come, multiplied onto what is there, give the whole product.
-use Prim.Native.Nat.{◌-◌}
-use mathlib.Core.Path.{◌≡◌, refl}
-use native.Mathlib.Omega.{arith}
+use mathlib.Core.Path.{◌≡◌}
 use Rattle.loops.specs.For.{for}
-use Rattle.loops.proofs.For.{again, ended}
 use Rattle.root.specs.Root.{factor, power_of}
 use Rattle.root.proofs.power.Given as goal
 

@@ -1,10 +1,8 @@
-use Prim.Native.Nat.{◌-◌}
-use mathlib.Core.Path.{◌≡◌, refl, ap}
+use mathlib.Core.Path.{refl, ap}
 use native.Mathlib.Omega.{arith}
-use Rattle.loops.specs.For.{for}
 use Rattle.loops.proofs.For.{again, ended}
-use Rattle.root.specs.Root.{Candidate, bit_turn, root_bits}
-use Rattle.root.proofs.Room.{Room, first, candidate, next}
+use Rattle.root.specs.Root.{Candidate, root_bits}
+use Rattle.root.proofs.Room.{first, candidate, next}
 use Rattle.root.proofs.root_bits.Goals as goal
 
 pub loop-init : goal.loop-init

@@ -1,12 +1,9 @@
 -- `root_bits` meets its contract: the bits still to be tried, from the pattern so far, give the whole pattern.
 -- No candidate lies past infinity's pattern (proofs/Room.antt).
-use Prim.Native.Nat.{◌-◌}
-use mathlib.Core.Path.{◌≡◌, refl, ap}
-use native.Mathlib.Omega.{arith}
+use mathlib.Core.Path.{◌≡◌}
 use Rattle.loops.specs.For.{for}
-use Rattle.loops.proofs.For.{again, ended}
-use Rattle.root.specs.Root.{Candidate, bit_turn, root_bits}
-use Rattle.root.proofs.Room.{Room, first, candidate, next}
+use Rattle.root.specs.Root.{bit_turn}
+use Rattle.root.proofs.Room.{Room}
 use Rattle.root.proofs.root_bits.Given as goal
 
 abbrev pub invariant-loop : goal.invariant-loop

@@ -4,7 +4,6 @@ use mathlib.Core.Path.{ap, ◌∙◌}
 use mathlib.Core.List.{List}
 use Prim.Native.Nat.{ℕ}
 use lib.Ieee.{Float}
-use borrow.Author.Rules.{rules}
 use Rattle.session.specs.Fields.{session_of}
 use Rattle.session.specs.Session.{stored_floats, decode_of}
 use Rattle.session.proofs.decode.Goals as goal

@@ -1,6 +1,5 @@
 -- `encode_floats` meets its contract. Assumes nothing.
 use mathlib.Core.Path.{◌∙◌}
-use borrow.Author.Rules.{rules}
 use Rattle.session.proofs.encode_floats.Goals as goal
 
 pub returns : goal.returns

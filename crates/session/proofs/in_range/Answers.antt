@@ -4,8 +4,6 @@ use mathlib.Core.Path.{◌≡◌, sym, ◌∙◌}
 use mathlib.Core.Bool.{◌&&◌}
 use mathlib.Core.List.{List, []}
 use Prim.Native.Nat.{ℕ}
-use borrow.Author.Rules.{rules}
-use borrow.Author.Tests.{not-true, not-false}
 use Rattle.questions.specs.declared.Session.{Session}
 use Rattle.session.specs.Session.{decode_of, fields_in_range, tolerances_in_range, pivots_below, in_range_of}
 use Rattle.session.specs.Session.{stored_counts}

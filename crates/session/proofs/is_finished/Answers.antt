@@ -1,6 +1,5 @@
 -- `is_finished` meets its contract: it looks at word 0 alone.
 -- Assumes nothing.
-use borrow.Author.Rules.{rules}
 use Rattle.session.proofs.is_finished.Goals as goal
 
 pub returns : goal.returns

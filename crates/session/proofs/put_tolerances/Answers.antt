@@ -1,7 +1,6 @@
 -- `put_tolerances` meets its contract: one list after the other.
 -- Assumes nothing.
 use mathlib.Core.Path.{◌∙◌}
-use borrow.Author.Rules.{rules}
 use Rattle.session.specs.Session.{put_tolerances_of}
 use Rattle.session.proofs.put_tolerances.Goals as goal
 

@@ -1,7 +1,6 @@
 -- `digit` meets its contract: each way returns what `digit_of` picks under the test that led there.
 use Prim.Native.Nat.{◌+◌, ◌*◌, ◌/◌}
 use native.Mathlib.Omega.{arith}
-use borrow.Author.Rules.{rules}
 use borrow.Author.Tests.{le-leb, lt-leb}
 use Rattle.sqrt.specs.Sqrt.{hidden, digit_of}
 use Rattle.sqrt.proofs.digit.Goals as goal

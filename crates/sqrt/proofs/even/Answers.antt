@@ -1,7 +1,6 @@
 -- `even` meets its contract: each way returns what `even_of` picks under the test that led there.
 use Prim.Native.Nat.{◌%◌}
 use native.Mathlib.Omega.{arith}
-use borrow.Author.Rules.{rules}
 use borrow.Author.Tests.{eq-eqb, ne_eqb}
 use Rattle.sqrt.specs.Sqrt.{even_of}
 use Rattle.sqrt.proofs.even.Goals as goal

@@ -4,7 +4,6 @@ use Prim.Native.Nat.{◌*◌, ◌%◌, ◌^◌, ◌<◌}
 use mathlib.Core.Path.{sym}
 use native.Mathlib.Nat.{mod-eq_of_lt}
 use native.Mathlib.Omega.{arith}
-use borrow.Author.Rules.{rules}
 use Rattle.sqrt.specs.Sqrt.{hidden, shift_of}
 use Rattle.sqrt.proofs.Pattern.{fraction, moved, low-is, high_is}
 use Rattle.sqrt.proofs.normalise.Goals as goal

@@ -3,7 +3,6 @@
 use Prim.Native.Nat.{ℕ, ◌<◌}
 use mathlib.Core.Path.{◌≡◌}
 use native.Mathlib.Omega.{arith}
-use borrow.Author.Rules.{rules}
 use Rattle.sqrt.specs.declared.Normal.{Normal}
 use Rattle.sqrt.specs.Sqrt.{normal_of, even_of, digits_of, sqrt_bits}
 use Rattle.sqrt.proofs.Pattern.{Evened, normal, evened}

@@ -1,11 +1,10 @@
-use Prim.Native.Nat.{◌-◌, ◌≤◌, ◌^◌}
-use mathlib.Core.Path.{◌≡◌, refl, sym, ap}
+use Prim.Native.Nat.{◌≤◌, ◌^◌}
+use mathlib.Core.Path.{refl, sym, ap}
 use native.Mathlib.Omega.{arith}
 use lib.Pow.{pow_mono}
-use Rattle.loops.specs.For.{for}
 use Rattle.loops.proofs.For.{onward, ended}
 use Rattle.sqrt.specs.Sqrt.{digit_turn, digits_of}
-use Rattle.sqrt.proofs.Turns.{Kept, starts, turned}
+use Rattle.sqrt.proofs.Turns.{starts, turned}
 use Rattle.sqrt.proofs.root_digits.Goals as goal
 
 pub loop-init : goal.loop-init

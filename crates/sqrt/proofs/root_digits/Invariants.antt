@@ -1,13 +1,10 @@
 -- `root_digits` meets its contract: its loop is that of `digits_of`, and what a turn keeps gives the bounds that the
 -- next one requires.
-use Prim.Native.Nat.{◌-◌, ◌≤◌, ◌^◌}
-use mathlib.Core.Path.{◌≡◌, refl, sym, ap}
-use native.Mathlib.Omega.{arith}
-use lib.Pow.{pow_mono}
+use Prim.Native.Nat.{◌≤◌}
+use mathlib.Core.Path.{◌≡◌}
 use Rattle.loops.specs.For.{for}
-use Rattle.loops.proofs.For.{onward, ended}
-use Rattle.sqrt.specs.Sqrt.{digit_turn, digits_of}
-use Rattle.sqrt.proofs.Turns.{Kept, starts, turned}
+use Rattle.sqrt.specs.Sqrt.{digit_turn}
+use Rattle.sqrt.proofs.Turns.{Kept}
 use Rattle.sqrt.proofs.root_digits.Given as goal
 
 abbrev pub invariant-loop : goal.invariant-loop

@@ -3,7 +3,6 @@
 use mathlib.Core.Path.{sym, ◌∙◌}
 use lib.Dec.{T}
 use lib.Ieee.{binary64, fits}
-use borrow.Author.Rules.{rules}
 use Rattle.numbers.proofs.Bits.{zero-over-zero}
 use Rattle.sqrt.proofs.Cases.{root-of-zero, root-of-infinity, root-of-other, above, finite-bits, root-of-bits}
 use Rattle.sqrt.proofs.sqrt.Goals as goal

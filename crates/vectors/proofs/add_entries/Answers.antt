@@ -1,5 +1,4 @@
 -- `add_entries` meets its contract. Assumes nothing.
-use borrow.Author.Rules.{rules}
 use Rattle.vectors.proofs.add_entries.Goals as goal
 
 pub returns : goal.returns

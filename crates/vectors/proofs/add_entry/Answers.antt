@@ -1,5 +1,4 @@
 -- `add_entry` meets its contract. Assumes nothing.
-use borrow.Author.Rules.{rules}
 use Rattle.vectors.proofs.add_entry.Goals as goal
 
 pub returns : goal.returns

@@ -1,5 +1,4 @@
 -- `entry` meets its contract. Assumes nothing.
-use borrow.Author.Rules.{rules}
 use Rattle.vectors.proofs.entry.Goals as goal
 
 pub returns : goal.returns

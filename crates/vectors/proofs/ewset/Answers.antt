@@ -1,11 +1,8 @@
-use Prim.Native.Nat.{◌-◌}
-use mathlib.Core.Path.{◌≡◌, refl}
+use mathlib.Core.Path.{refl}
 use native.Mathlib.Omega.{arith}
-use borrow.Author.Rules.{rules}
-use lib.ListN.{length, length-set}
-use Rattle.loops.specs.For.{for}
+use lib.ListN.{length-set}
 use Rattle.loops.proofs.For.{again, ended}
-use Rattle.vectors.specs.Weights.{ewset_at, ewset_of}
+use Rattle.vectors.specs.Weights.{ewset_of}
 use Rattle.vectors.proofs.Laws.{serves}
 use Rattle.vectors.proofs.ewset.Goals as goal
 

@@ -1,13 +1,8 @@
 -- `ewset` meets its contract. The invariant: the states that are left give all weights. Assumes nothing.
-use Prim.Native.Nat.{◌-◌}
-use mathlib.Core.Path.{◌≡◌, refl}
-use native.Mathlib.Omega.{arith}
-use borrow.Author.Rules.{rules}
-use lib.ListN.{length, length-set}
+use mathlib.Core.Path.{◌≡◌}
+use lib.ListN.{length}
 use Rattle.loops.specs.For.{for}
-use Rattle.loops.proofs.For.{again, ended}
 use Rattle.vectors.specs.Weights.{ewset_at, ewset_of}
-use Rattle.vectors.proofs.Laws.{serves}
 use Rattle.vectors.proofs.ewset.Given as goal
 
 abbrev pub invariant-loop-i : goal.invariant-loop-i

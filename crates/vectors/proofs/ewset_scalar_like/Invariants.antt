@@ -1,11 +1,7 @@
 -- `ewset_scalar_like` meets its contract. The invariant: the states that are left give all weights. Assumes nothing.
-use Prim.Native.Nat.{◌-◌}
-use mathlib.Core.Path.{◌≡◌, refl}
-use native.Mathlib.Omega.{arith}
-use borrow.Author.Rules.{rules}
-use lib.ListN.{length, length-set}
+use mathlib.Core.Path.{◌≡◌}
+use lib.ListN.{length}
 use Rattle.loops.specs.For.{for}
-use Rattle.loops.proofs.For.{again, ended}
 use Rattle.vectors.specs.Weights.{ewset_like_at, ewset_like_of}
 use Rattle.vectors.proofs.ewset_scalar_like.Given as goal
 

@@ -1,12 +1,9 @@
-use Prim.Native.Nat.{◌+◌, ◌-◌, ◌*◌, ◌/◌, ◌≤◌}
+use Prim.Native.Nat.{◌+◌, ◌*◌, ◌/◌}
 use mathlib.Core.Path.{◌≡◌, refl, ap}
 use native.Mathlib.Omega.{arith}
-use borrow.Author.Rules.{rules}
 use lib.Ieee.{Float}
-use Rattle.loops.specs.For.{for}
 use Rattle.loops.proofs.For.{again, again-four, ended}
-use Rattle.vectors.specs.Norm.{fnorm_turn, fnorm_of}
-use Rattle.numbers.proofs.Order.{Number}
+use Rattle.vectors.specs.Norm.{fnorm_of}
 use Rattle.vectors.proofs.Largest.{max-larger, zero_number}
 use Rattle.vectors.proofs.fnorm_dense.Goals as goal
 

@@ -1,15 +1,10 @@
 -- `fnorm_dense` meets its contract. The invariants: the rows that are left give the whole norm, and it is no NaN so
 -- far. Assumes nothing.
-use Prim.Native.Nat.{◌+◌, ◌-◌, ◌*◌, ◌/◌, ◌≤◌}
-use mathlib.Core.Path.{◌≡◌, refl, ap}
-use native.Mathlib.Omega.{arith}
-use borrow.Author.Rules.{rules}
-use lib.Ieee.{Float}
+use Prim.Native.Nat.{◌*◌, ◌/◌, ◌≤◌}
+use mathlib.Core.Path.{◌≡◌}
 use Rattle.loops.specs.For.{for}
-use Rattle.loops.proofs.For.{again, again-four, ended}
 use Rattle.vectors.specs.Norm.{fnorm_turn, fnorm_of}
 use Rattle.numbers.proofs.Order.{Number}
-use Rattle.vectors.proofs.Largest.{max-larger, zero_number}
 use Rattle.vectors.proofs.fnorm_dense.Given as goal
 
 abbrev pub invariant-loop-k : goal.invariant-loop-k

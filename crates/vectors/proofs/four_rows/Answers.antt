@@ -1,5 +1,4 @@
 -- `four_rows` meets its contract: a maximum of a number is a number. Assumes nothing.
-use borrow.Author.Rules.{rules}
 use Rattle.vectors.proofs.Largest.{max-larger}
 use Rattle.vectors.proofs.four_rows.Goals as goal
 

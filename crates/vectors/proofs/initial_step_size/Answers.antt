@@ -1,6 +1,5 @@
 -- `initial_step_size` meets its contract: the calls, the last one first, compute what the definition names.
 -- Assumes nothing.
-use borrow.Author.Rules.{rules}
 use Rattle.vectors.specs.FirstStep.{initial_step_of}
 use Rattle.vectors.proofs.initial_step_size.Goals as goal
 

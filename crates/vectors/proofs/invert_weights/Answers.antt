@@ -1,4 +1,4 @@
-use Prim.Native.Nat.{ℕ, ◌+◌, ◌-◌}
+use Prim.Native.Nat.{ℕ, ◌+◌}
 use mathlib.Core.Path.{◌≡◌, refl, sym, ap, ◌∙◌}
 use mathlib.Core.List.{List}
 use mathlib.Core.Bool.{true, false}
@@ -6,7 +6,6 @@ use native.Mathlib.Omega.{arith}
 use lib.ListN.{length, get_or, set, length-set}
 use lib.Ieee as Ieee
 use lib.Ieee.{Float, nan}
-use Rattle.loops.specs.For.{for}
 use Rattle.loops.proofs.For.{onward, ended, stays}
 use Rattle.numbers.specs.Float.{◌⊘◌, zero_f, one_f}
 use Rattle.vectors.specs.Weights.{Inversion, invert_at, invert_of, weights_outcome}

@@ -1,17 +1,12 @@
 -- `invert_weights` meets its contract. The invariant: the weights that are left give the whole inversion; after one
 -- that was refused, no later one changes anything. Assumes nothing.
-use Prim.Native.Nat.{ℕ, ◌+◌, ◌-◌}
-use mathlib.Core.Path.{◌≡◌, refl, sym, ap, ◌∙◌}
+use mathlib.Core.Path.{◌≡◌}
 use mathlib.Core.List.{List}
-use mathlib.Core.Bool.{true, false}
-use native.Mathlib.Omega.{arith}
-use lib.ListN.{length, get_or, set, length-set}
-use lib.Ieee as Ieee
-use lib.Ieee.{Float, nan}
+use mathlib.Core.Bool.{false}
+use lib.ListN.{length}
+use lib.Ieee.{Float}
 use Rattle.loops.specs.For.{for}
-use Rattle.loops.proofs.For.{onward, ended, stays}
-use Rattle.numbers.specs.Float.{◌⊘◌, zero_f, one_f}
-use Rattle.vectors.specs.Weights.{Inversion, invert_at, invert_of, weights_outcome}
+use Rattle.vectors.specs.Weights.{Inversion, invert_at, invert_of}
 use Rattle.vectors.proofs.invert_weights.Given as goal
 
 abbrev going : List Float → Inversion

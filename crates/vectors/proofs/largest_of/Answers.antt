@@ -1,5 +1,4 @@
 -- `largest_of` meets its contract. Assumes nothing.
-use borrow.Author.Rules.{rules}
 use Rattle.vectors.proofs.Largest.{max-larger}
 use Rattle.vectors.proofs.largest_of.Goals as goal
 

@@ -1,10 +1,7 @@
-use Prim.Native.Nat.{◌-◌}
-use mathlib.Core.Path.{◌≡◌, refl}
+use mathlib.Core.Path.{refl}
 use native.Mathlib.Omega.{arith}
-use lib.ListN.{length}
-use Rattle.loops.specs.For.{for}
 use Rattle.loops.proofs.For.{again, ended}
-use Rattle.vectors.specs.FirstStep.{relative_at, relative_of}
+use Rattle.vectors.specs.FirstStep.{relative_of}
 use Rattle.vectors.proofs.Laws.{serves}
 use Rattle.vectors.proofs.largest_relative.Goals as goal
 

@@ -1,13 +1,9 @@
 -- `largest_relative` meets its contract. The invariant: the states that are left give the whole maximum.
 -- Assumes nothing.
-use Prim.Native.Nat.{◌-◌}
-use mathlib.Core.Path.{◌≡◌, refl}
-use native.Mathlib.Omega.{arith}
+use mathlib.Core.Path.{◌≡◌}
 use lib.ListN.{length}
 use Rattle.loops.specs.For.{for}
-use Rattle.loops.proofs.For.{again, ended}
 use Rattle.vectors.specs.FirstStep.{relative_at, relative_of}
-use Rattle.vectors.proofs.Laws.{serves}
 use Rattle.vectors.proofs.largest_relative.Given as goal
 
 abbrev pub invariant-loop-i : goal.invariant-loop-i

@@ -1,10 +1,7 @@
-use Prim.Native.Nat.{◌-◌}
-use mathlib.Core.Path.{◌≡◌, refl}
+use mathlib.Core.Path.{refl}
 use native.Mathlib.Omega.{arith}
-use borrow.Author.Rules.{rules}
-use Rattle.loops.specs.For.{for}
 use Rattle.loops.proofs.For.{again, ended}
-use Rattle.vectors.specs.FirstStep.{largest_rtol_at, largest_rtol_of}
+use Rattle.vectors.specs.FirstStep.{largest_rtol_of}
 use Rattle.vectors.proofs.Laws.{serves}
 use Rattle.vectors.proofs.largest_rtol.Goals as goal
 

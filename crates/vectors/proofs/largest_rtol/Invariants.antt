@@ -1,12 +1,7 @@
 -- `largest_rtol` meets its contract. The invariant: the states that are left give the whole maximum. Assumes nothing.
-use Prim.Native.Nat.{◌-◌}
-use mathlib.Core.Path.{◌≡◌, refl}
-use native.Mathlib.Omega.{arith}
-use borrow.Author.Rules.{rules}
+use mathlib.Core.Path.{◌≡◌}
 use Rattle.loops.specs.For.{for}
-use Rattle.loops.proofs.For.{again, ended}
 use Rattle.vectors.specs.FirstStep.{largest_rtol_at, largest_rtol_of}
-use Rattle.vectors.proofs.Laws.{serves}
 use Rattle.vectors.proofs.largest_rtol.Given as goal
 
 abbrev pub invariant-loop-i : goal.invariant-loop-i

@@ -1,5 +1,4 @@
 -- `next_four` meets its contract. Assumes nothing.
-use borrow.Author.Rules.{rules}
 use Rattle.vectors.proofs.next_four.Goals as goal
 
 pub returns : goal.returns

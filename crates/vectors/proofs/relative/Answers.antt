@@ -1,6 +1,5 @@
 -- `relative` meets its contract: each way returns what `relative_at` picks under the test that led there.
 -- Assumes nothing.
-use borrow.Author.Rules.{rules}
 use Rattle.vectors.proofs.relative.Goals as goal
 
 pub returns-then-y-i : goal.returns-then-y-i

@@ -1,9 +1,7 @@
-use Prim.Native.Nat.{◌-◌}
-use mathlib.Core.Path.{◌≡◌, refl}
+use mathlib.Core.Path.{refl}
 use native.Mathlib.Omega.{arith}
-use Rattle.loops.specs.For.{for}
 use Rattle.loops.proofs.For.{again, ended, within}
-use Rattle.vectors.specs.Norm.{row_at, row_of}
+use Rattle.vectors.specs.Norm.{row_of}
 use Rattle.vectors.proofs.row_sum.Goals as goal
 
 pub loop-j-init : goal.loop-j-init

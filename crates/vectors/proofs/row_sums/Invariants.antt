@@ -1,10 +1,8 @@
 -- `row_sums` meets its contract. The invariant: of each row, the columns that are left give the whole sum.
 -- Assumes nothing.
-use Prim.Native.Nat.{◌+◌, ◌-◌}
-use mathlib.Core.Path.{◌≡◌, refl}
-use native.Mathlib.Omega.{arith}
+use Prim.Native.Nat.{◌+◌}
+use mathlib.Core.Path.{◌≡◌}
 use Rattle.loops.specs.For.{for}
-use Rattle.loops.proofs.For.{again, ended, within}
 use Rattle.vectors.specs.Norm.{row_at, row_of}
 use Rattle.vectors.proofs.row_sums.Given as goal
 

@@ -1,6 +1,5 @@
 -- `tolerance_used` meets its contract: each way returns the clamp that the definition picks under the test that led
 -- there. Assumes nothing.
-use borrow.Author.Rules.{rules}
 use Rattle.vectors.specs.FirstStep.{tolerance_used_of}
 use Rattle.vectors.proofs.tolerance_used.Goals as goal
 

@@ -1,16 +1,12 @@
-use Prim.Native.Nat.{◌+◌, ◌-◌, ◌*◌, ◌/◌, ◌≤◌}
+use Prim.Native.Nat.{◌+◌, ◌*◌, ◌/◌}
 use mathlib.Core.Path.{◌≡◌, refl, ap}
 use native.Mathlib.Omega.{arith}
-use borrow.Author.Rules.{rules}
 use lib.ListN.{length}
 use lib.Ieee.{Float}
-use Rattle.loops.specs.For.{for}
 use Rattle.loops.proofs.For.{again, ended}
-use Rattle.vectors.specs.Norm.{norm_turn, vmnorm_of}
-use Rattle.vectors.specs.Maxima.{top_of}
-use Rattle.numbers.proofs.Order.{Number}
+use Rattle.vectors.specs.Norm.{vmnorm_of}
 use Rattle.vectors.proofs.Largest.{max-larger}
-use Rattle.vectors.proofs.Maxima.{AllClean, all-clean, top-zero, clean-number, top-number, four-clean, four-on}
+use Rattle.vectors.proofs.Maxima.{all-clean, top-zero, clean-number, top-number, four-clean, four-on}
 use Rattle.vectors.proofs.vmnorm.Goals as goal
 
 pub loop-k-init : goal.loop-k-init

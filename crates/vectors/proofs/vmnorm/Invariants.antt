@@ -1,18 +1,13 @@
 -- `vmnorm` meets its contract. The invariants: the entries that are left give the whole norm, from the largest of the
 -- four and then from the one maximum. Assumes nothing.
-use Prim.Native.Nat.{◌+◌, ◌-◌, ◌*◌, ◌/◌, ◌≤◌}
-use mathlib.Core.Path.{◌≡◌, refl, ap}
-use native.Mathlib.Omega.{arith}
-use borrow.Author.Rules.{rules}
+use Prim.Native.Nat.{◌*◌, ◌/◌, ◌≤◌}
+use mathlib.Core.Path.{◌≡◌}
 use lib.ListN.{length}
-use lib.Ieee.{Float}
 use Rattle.loops.specs.For.{for}
-use Rattle.loops.proofs.For.{again, ended}
 use Rattle.vectors.specs.Norm.{norm_turn, vmnorm_of}
 use Rattle.vectors.specs.Maxima.{top_of}
 use Rattle.numbers.proofs.Order.{Number}
-use Rattle.vectors.proofs.Largest.{max-larger}
-use Rattle.vectors.proofs.Maxima.{AllClean, all-clean, top-zero, clean-number, top-number, four-clean, four-on}
+use Rattle.vectors.proofs.Maxima.{AllClean}
 use Rattle.vectors.proofs.vmnorm.Given as goal
 
 abbrev pub invariant-loop-k : goal.invariant-loop-k

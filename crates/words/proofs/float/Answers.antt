@@ -1,7 +1,6 @@
 -- `float` meets its contract.
 -- Assumes nothing.
 use mathlib.Core.Path.{◌∙◌}
-use borrow.Author.Rules.{rules}
 use Rattle.words.proofs.float.Goals as goal
 
 pub returns : goal.returns

@@ -1,6 +1,5 @@
 -- `get` meets its contract: the eight digits.
 -- Assumes nothing.
-use borrow.Author.Rules.{rules}
 use Rattle.words.specs.Words.{word_at}
 use Rattle.words.proofs.get.Goals as goal
 

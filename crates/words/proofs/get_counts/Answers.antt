@@ -1,10 +1,8 @@
-use mathlib.Core.Path.{◌≡◌, refl}
-use Prim.Native.Nat.{◌-◌}
+use mathlib.Core.Path.{refl}
 use native.Mathlib.Omega.{arith}
-use lib.ListN.{length, length-set}
-use Rattle.loops.specs.For.{for}
+use lib.ListN.{length-set}
 use Rattle.loops.proofs.For.{onward, ended}
-use Rattle.words.specs.Words.{count_at, counts_over}
+use Rattle.words.specs.Words.{counts_over}
 use Rattle.words.proofs.get_counts.Goals as goal
 
 pub loop-i-init : goal.loop-i-init

@@ -1,10 +1,8 @@
-use mathlib.Core.Path.{◌≡◌, refl}
-use Prim.Native.Nat.{◌-◌}
+use mathlib.Core.Path.{refl}
 use native.Mathlib.Omega.{arith}
-use lib.ListN.{length, length-set}
-use Rattle.loops.specs.For.{for}
+use lib.ListN.{length-set}
 use Rattle.loops.proofs.For.{onward, ended}
-use Rattle.words.specs.Words.{float_at, floats_over}
+use Rattle.words.specs.Words.{floats_over}
 use Rattle.words.proofs.get_floats.Goals as goal
 
 pub loop-i-init : goal.loop-i-init

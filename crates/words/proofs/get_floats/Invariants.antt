@@ -1,11 +1,8 @@
 -- `get_floats` meets its contract. The invariant: the words that are left give the whole row.
 -- Assumes nothing.
-use mathlib.Core.Path.{◌≡◌, refl}
-use Prim.Native.Nat.{◌-◌}
-use native.Mathlib.Omega.{arith}
-use lib.ListN.{length, length-set}
+use mathlib.Core.Path.{◌≡◌}
+use lib.ListN.{length}
 use Rattle.loops.specs.For.{for}
-use Rattle.loops.proofs.For.{onward, ended}
 use Rattle.words.specs.Words.{float_at, floats_over}
 use Rattle.words.proofs.get_floats.Given as goal
 

@@ -2,7 +2,6 @@
 -- Assumes nothing.
 use native.Mathlib.Omega.{arith}
 use lib.ListN.{length-set}
-use borrow.Author.Rules.{rules}
 use Rattle.words.specs.Words.{put_word}
 use Rattle.words.proofs.put.Goals as goal
 

@@ -1,10 +1,8 @@
-use mathlib.Core.Path.{◌≡◌, refl, sym, ap, ◌∙◌}
-use Prim.Native.Nat.{◌-◌}
+use mathlib.Core.Path.{refl, sym, ap, ◌∙◌}
 use native.Mathlib.Omega.{arith}
 use lib.ListN.{length}
-use Rattle.loops.specs.For.{for}
 use Rattle.loops.proofs.For.{onward, ended}
-use Rattle.words.specs.Words.{put_count_at, put_counts_of}
+use Rattle.words.specs.Words.{put_counts_of}
 use Rattle.words.proofs.Eight.{length-put}
 use Rattle.words.proofs.put_counts.Goals as goal
 

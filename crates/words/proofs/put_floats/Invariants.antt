@@ -1,14 +1,9 @@
 -- `put_floats` meets its contract. The invariant: the words that are left give the whole row.
 -- Assumes nothing.
-use mathlib.Core.Path.{◌≡◌, refl, sym, ap, ◌∙◌}
-use Prim.Native.Nat.{◌-◌}
-use native.Mathlib.Omega.{arith}
+use mathlib.Core.Path.{◌≡◌}
 use lib.ListN.{length}
-use borrow.Author.Rules.{rules}
 use Rattle.loops.specs.For.{for}
-use Rattle.loops.proofs.For.{onward, ended}
 use Rattle.words.specs.Words.{put_float_at, put_floats_of}
-use Rattle.words.proofs.Eight.{length-put}
 use Rattle.words.proofs.put_floats.Given as goal
 
 abbrev pub invariant-loop-i : goal.invariant-loop-i

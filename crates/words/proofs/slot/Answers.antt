@@ -4,7 +4,6 @@ use mathlib.Core.Path.{sym, ap, ◌∙◌}
 use native.Mathlib.Omega.{arith}
 use lib.ListN.{get_or-eq_default}
 use lib.Ieee.{binary64, nan, to_bits}
-use borrow.Author.Rules.{rules}
 use Rattle.numbers.specs.Float.{zero_f}
 use Rattle.words.proofs.Rows.{same-default, zero_bits}
 use Rattle.words.proofs.slot.Goals as goal

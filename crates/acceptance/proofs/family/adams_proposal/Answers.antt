@@ -1,6 +1,5 @@
 -- `adams_proposal` meets its contract: each way has the error, the order and the factor of its test.
 -- Assumes nothing.
-use borrow.Author.Rules.{rules}
 use borrow.Author.Tests.{le-leb, lt-leb}
 use Rattle.acceptance.specs.Family.{adams_proposal_of}
 use Rattle.acceptance.proofs.family.adams_proposal.Goals as goal

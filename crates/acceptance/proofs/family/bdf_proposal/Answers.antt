@@ -1,6 +1,5 @@
 -- `bdf_proposal` meets its contract: each way has the order and the error of its test.
 -- Assumes nothing.
-use borrow.Author.Rules.{rules}
 use borrow.Author.Tests.{lt-ltb, le-ltb}
 use Rattle.acceptance.specs.Family.{bdf_proposal_of}
 use Rattle.acceptance.proofs.family.bdf_proposal.Goals as goal

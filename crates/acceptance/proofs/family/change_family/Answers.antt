@@ -1,7 +1,6 @@
 -- `change_family` meets its contract: field by field, then by that of `stoda_adjust_step_size`.
 -- Assumes nothing.
 use mathlib.Core.Path.{refl}
-use borrow.Author.Rules.{rules}
 use Rattle.acceptance.specs.Family.{changed_of}
 use Rattle.history.proofs.Laws.{lower-range}
 use Rattle.acceptance.proofs.family.change_family.Goals as goal

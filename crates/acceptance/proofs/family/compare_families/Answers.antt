@@ -1,7 +1,6 @@
 -- `compare_families` meets its contract: each family has its own test.
 -- Assumes nothing.
 use mathlib.Core.Path.{sym, ap, ◌∙◌}
-use borrow.Author.Rules.{rules}
 use Rattle.common.specs.declared.MethodFamily.{MethodFamily}
 use Rattle.acceptance.specs.declared.family.Change.{Change}
 use Rattle.acceptance.specs.Family.{change_in, change_of}

@@ -1,6 +1,5 @@
 -- `size` meets its contract: by that of `root`.
 -- Assumes nothing.
-use borrow.Author.Rules.{rules}
 use Rattle.acceptance.specs.Size.{size_of}
 use Rattle.acceptance.proofs.family.size.Goals as goal
 

@@ -1,6 +1,5 @@
 -- `to_bdf` meets its contract: it moves where all four tests hold, and stays at the first that does not.
 -- Assumes nothing.
-use borrow.Author.Rules.{rules}
 use borrow.Author.Tests.{le-leb, lt-leb}
 use Rattle.acceptance.specs.Family.{move_if, to_bdf_of}
 use Rattle.acceptance.proofs.family.to_bdf.Goals as goal

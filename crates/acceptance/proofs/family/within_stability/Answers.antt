@@ -1,6 +1,5 @@
 -- `within_stability` meets its contract: each way has the limit that its test picks.
 -- Assumes nothing.
-use borrow.Author.Rules.{rules}
 use Rattle.acceptance.proofs.family.within_stability.Goals as goal
 
 pub returns-then-pdh-rh : goal.returns-then-pdh-rh

@@ -2,7 +2,6 @@
 -- Assumes nothing.
 use mathlib.Core.Path.{◌≡◌}
 use mathlib.Core.Bool.{false}
-use borrow.Author.Rules.{rules}
 use Rattle.acceptance.specs.Order.{same_largest, choose_of}
 use Rattle.acceptance.proofs.order.choose.Goals as goal
 use Rattle.acceptance.proofs.order.choose.Goals.{then-f+else-f-2, else-f}

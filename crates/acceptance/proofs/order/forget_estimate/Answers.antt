@@ -1,7 +1,6 @@
 -- `forget_estimate` meets its contract: the BDF family keeps its estimate.
 -- Assumes nothing.
 use mathlib.Core.Path.{sym, ◌∙◌}
-use borrow.Author.Rules.{rules}
 use Rattle.acceptance.proofs.order.forget_estimate.Goals as goal
 
 pub returns-then-is_bdf : goal.returns-then-is_bdf

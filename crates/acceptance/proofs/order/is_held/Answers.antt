@@ -1,7 +1,6 @@
 -- `is_held` meets its contract: the BDF family holds nothing.
 -- Assumes nothing.
 use mathlib.Core.Path.{sym, ◌∙◌}
-use borrow.Author.Rules.{rules}
 use Rattle.acceptance.proofs.order.is_held.Goals as goal
 
 pub returns-then-is_bdf : goal.returns-then-is_bdf

@@ -4,7 +4,6 @@ use Prim.Native.Nat.{◌+◌}
 use mathlib.Core.Path.{sym, ◌≡◌, ◌∙◌}
 use mathlib.Core.Bool.{cond}
 use lib.Dec.{ltb}
-use borrow.Author.Rules.{rules}
 use borrow.Author.Tests.{lt-ltb, le-ltb}
 use Rattle.numbers.specs.Float.{◌⊘◌}
 use Rattle.numbers.specs.Order.{min_of}

@@ -1,6 +1,5 @@
 -- `lower` meets its contract: order 1 has none below it.
 -- Assumes nothing.
-use borrow.Author.Rules.{rules}
 use borrow.Author.Tests.{eq-eqb, ne_eqb}
 use Rattle.acceptance.specs.Order.{lower_of}
 use Rattle.acceptance.proofs.order.lower.Goals as goal

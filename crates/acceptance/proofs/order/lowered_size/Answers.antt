@@ -1,6 +1,5 @@
 -- `lowered_size` meets its contract: none below order 1, else the norm of the last column.
 -- Assumes nothing.
-use borrow.Author.Rules.{rules}
 use borrow.Author.Tests.{eq-eqb, ne_eqb}
 use Rattle.acceptance.specs.Order.{lowered_size_of}
 use Rattle.acceptance.proofs.order.lowered_size.Goals as goal

@@ -1,7 +1,6 @@
 -- `raise` meets its contract: the column is written, and then the proposal is weighed.
 -- Assumes nothing.
 use native.Mathlib.Omega.{arith}
-use borrow.Author.Rules.{rules}
 use borrow.Author.Tests.{eq-eqb, ne_eqb}
 use Rattle.loops.proofs.For.{within}
 use Rattle.acceptance.specs.Order.{raise_of}

@@ -1,6 +1,5 @@
 -- `raised_size` meets its contract: none at the largest number of columns; else the norm of what `set_raised` leaves.
 -- Assumes nothing.
-use borrow.Author.Rules.{rules}
 use borrow.Author.Tests.{eq-eqb, ne_eqb}
 use Rattle.acceptance.specs.Order.{raised_size_of, raised_left_of}
 use Rattle.acceptance.proofs.order.raised_size.Goals as goal

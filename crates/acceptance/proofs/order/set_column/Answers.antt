@@ -1,10 +1,8 @@
-use Prim.Native.Nat.{◌-◌}
-use mathlib.Core.Path.{refl, ◌≡◌}
+use mathlib.Core.Path.{refl}
 use native.Mathlib.Omega.{arith}
-use lib.ListN.{length, length-set}
-use Rattle.loops.specs.For.{for}
+use lib.ListN.{length-set}
 use Rattle.loops.proofs.For.{again, ended, within}
-use Rattle.acceptance.specs.Order.{raise_column_at, raise_column_of}
+use Rattle.acceptance.specs.Order.{raise_column_of}
 use Rattle.acceptance.proofs.order.set_column.Goals as goal
 
 pub loop-i-init : goal.loop-i-init

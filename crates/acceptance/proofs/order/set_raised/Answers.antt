@@ -1,10 +1,9 @@
 use Prim.Native.Nat.{◌-◌}
-use mathlib.Core.Path.{refl, ◌≡◌}
+use mathlib.Core.Path.{refl}
 use native.Mathlib.Omega.{arith}
-use lib.ListN.{length, length-set}
-use Rattle.loops.specs.For.{for}
+use lib.ListN.{length-set}
 use Rattle.loops.proofs.For.{again, ended, within}
-use Rattle.acceptance.specs.Order.{raised_at, raised_work_of}
+use Rattle.acceptance.specs.Order.{raised_work_of}
 use Rattle.acceptance.proofs.order.set_raised.Goals as goal
 
 pub loop-i-init : goal.loop-i-init

@@ -1,11 +1,8 @@
 -- `set_raised` meets its contract. The invariant: the numbers that are left give the whole vector.
 -- Assumes nothing.
-use Prim.Native.Nat.{◌-◌}
-use mathlib.Core.Path.{refl, ◌≡◌}
-use native.Mathlib.Omega.{arith}
-use lib.ListN.{length, length-set}
+use mathlib.Core.Path.{◌≡◌}
+use lib.ListN.{length}
 use Rattle.loops.specs.For.{for}
-use Rattle.loops.proofs.For.{again, ended, within}
 use Rattle.acceptance.specs.Order.{raised_at, raised_work_of}
 use Rattle.acceptance.proofs.order.set_raised.Given as goal
 

@@ -1,7 +1,6 @@
 -- `settle` meets its contract: held, a small gain, or taken at the same or at another order.
 -- Assumes nothing.
 use mathlib.Core.Path.{sym, ◌∙◌}
-use borrow.Author.Rules.{rules}
 use borrow.Author.Tests.{eq-eqb, ne_eqb}
 use Rattle.acceptance.specs.Order.{settle_of}
 use Rattle.history.proofs.Laws.{reset-range}

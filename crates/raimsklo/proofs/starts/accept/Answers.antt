@@ -1,6 +1,5 @@
 -- `accept` meets its contract. Assumes nothing.
 use native.Mathlib.Omega.{arith}
-use borrow.Author.Rules.{rules}
 use Rattle.raimsklo.specs.Starts.{accepted_start_of}
 use Rattle.raimsklo.proofs.starts.accept.Goals as goal
 

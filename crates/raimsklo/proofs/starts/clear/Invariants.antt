@@ -1,10 +1,7 @@
 -- `clear` meets its contract. Assumes nothing.
-use Prim.Native.Nat.{◌-◌}
-use mathlib.Core.Path.{◌≡◌, refl}
-use native.Mathlib.Omega.{arith}
-use lib.ListN.{length, length-set}
+use mathlib.Core.Path.{◌≡◌}
+use lib.ListN.{length}
 use Rattle.loops.specs.For.{for}
-use Rattle.loops.proofs.For.{again, ended}
 use Rattle.raimsklo.specs.Starts.{clear_at, cleared_of}
 use Rattle.raimsklo.proofs.starts.clear.Given as goal
 

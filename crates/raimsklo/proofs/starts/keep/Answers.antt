@@ -1,6 +1,4 @@
 -- `keep` meets its contract. Assumes nothing.
-use Prim.Native.Nat.{◌-◌}
-use borrow.Author.Rules.{rules}
 use Rattle.session.specs.Session.{encode_of}
 use Rattle.raimsklo.specs.Starts.{kept_of}
 use Rattle.raimsklo.proofs.starts.keep.Goals as goal

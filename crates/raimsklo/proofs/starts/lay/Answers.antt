@@ -1,5 +1,4 @@
 -- `lay` meets its contract. Assumes nothing.
-use borrow.Author.Rules.{rules}
 use Rattle.raimsklo.proofs.starts.lay.Goals as goal
 
 pub returns : goal.returns

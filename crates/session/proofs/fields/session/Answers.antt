@@ -1,6 +1,5 @@
 -- `session` meets its contract: settings, record and phase.
 -- Assumes nothing.
-use borrow.Author.Rules.{rules}
 use Rattle.session.proofs.fields.session.Goals as goal
 
 pub returns : goal.returns

@@ -1,6 +1,5 @@
 -- `counters` meets its contract: each test is one of the definition's, in its order.
 -- Assumes nothing.
-use borrow.Author.Rules.{rules}
 use borrow.Author.Tests.{lt-ltb, le-ltb}
 use Rattle.session.specs.Session.{counters_in_range}
 use Rattle.session.proofs.ranges.counters.Goals as goal

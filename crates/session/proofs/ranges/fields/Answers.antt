@@ -1,8 +1,6 @@
 -- `fields` meets its contract. The words pass before two fields are held against each other, so that n is not 0.
 -- Assumes nothing.
 use mathlib.Core.Path.{sym, ◌∙◌}
-use borrow.Author.Rules.{rules}
-use borrow.Author.Tests.{not-true, not-false}
 use Rattle.session.specs.Session.{fields_in_range}
 use Rattle.session.proofs.Thirteen.{small}
 use Rattle.session.proofs.ranges.fields.Goals as goal

@@ -1,6 +1,5 @@
 -- `four_below` meets its contract: each test is one of the four, in their order.
 -- Assumes nothing.
-use native.Mathlib.Omega.{arith}
 use borrow.Author.Tests.{lt-ltb, le-ltb}
 use Rattle.session.proofs.Every.{run-of-four}
 use Rattle.session.proofs.ranges.four_below.Goals as goal

@@ -1,8 +1,6 @@
 -- `lists` meets its contract.
 -- Assumes nothing.
 use mathlib.Core.Path.{sym, ◌∙◌}
-use borrow.Author.Rules.{rules}
-use borrow.Author.Tests.{not-true, not-false}
 use Rattle.session.specs.Session.{lists_in_range}
 use Rattle.session.proofs.ranges.lists.Goals as goal
 

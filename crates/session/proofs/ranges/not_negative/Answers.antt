@@ -1,9 +1,7 @@
-use mathlib.Core.Path.{◌≡◌, refl, ap}
-use mathlib.Core.Bool.{true, not}
-use Prim.Native.Nat.{◌-◌}
+use mathlib.Core.Path.{refl, ap}
+use mathlib.Core.Bool.{not}
 use native.Mathlib.Omega.{arith}
-use Rattle.loops.specs.For.{for}
-use Rattle.session.specs.Session.{every, and_at, not_negative_at, not_negative}
+use Rattle.session.specs.Session.{every, not_negative}
 use Rattle.session.proofs.Every.{every-again, every-fails, every-ends}
 use Rattle.session.proofs.ranges.not_negative.Goals as goal
 

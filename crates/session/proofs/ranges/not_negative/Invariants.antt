@@ -1,12 +1,9 @@
 -- `not_negative` meets its contract. The invariant: the slots that are left give what all give.
 -- Assumes nothing.
-use mathlib.Core.Path.{◌≡◌, refl, ap}
-use mathlib.Core.Bool.{true, not}
-use Prim.Native.Nat.{◌-◌}
-use native.Mathlib.Omega.{arith}
+use mathlib.Core.Path.{◌≡◌}
+use mathlib.Core.Bool.{true}
 use Rattle.loops.specs.For.{for}
-use Rattle.session.specs.Session.{every, and_at, not_negative_at, not_negative}
-use Rattle.session.proofs.Every.{every-again, every-fails, every-ends}
+use Rattle.session.specs.Session.{and_at, not_negative_at, not_negative}
 use Rattle.session.proofs.ranges.not_negative.Given as goal
 
 abbrev pub invariant-loop-i : goal.invariant-loop-i

@@ -1,7 +1,6 @@
 -- `orders` meets its contract: each test is one of the definition's, in its order.
 -- Assumes nothing.
 use native.Mathlib.Omega.{arith}
-use borrow.Author.Rules.{rules}
 use borrow.Author.Tests.{eq-eqb, ne_eqb, lt-ltb, le-ltb, lt-leb, le-leb}
 use Rattle.common.proofs.Laws.{small_product}
 use Rattle.session.specs.Session.{orders_in_range}

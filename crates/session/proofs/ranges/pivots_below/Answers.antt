@@ -1,11 +1,9 @@
 use mathlib.Core.Path.{◌≡◌, refl, sym, ◌∙◌}
-use mathlib.Core.Bool.{true}
-use Prim.Native.Nat.{◌+◌, ◌-◌, ◌*◌, ◌/◌, ◌≤◌}
+use Prim.Native.Nat.{◌+◌, ◌*◌, ◌/◌}
 use native.Mathlib.Omega.{arith}
 use lib.ListN.{length}
-use borrow.Author.Tests.{lt-ltb, le-ltb, not-true, not-false}
-use Rattle.loops.specs.For.{for}
-use Rattle.session.specs.Session.{every, and_at, pivot_below, pivots_below}
+use borrow.Author.Tests.{lt-ltb, le-ltb}
+use Rattle.session.specs.Session.{every, pivots_below}
 use Rattle.session.proofs.Every.{every-again, every-fails, every-ends, run-again, run-fails}
 use Rattle.session.proofs.ranges.pivots_below.Goals as goal
 

@@ -1,14 +1,11 @@
 -- `pivots_below` meets its contract. The invariant of both loops: the pivots that are left give what all give.
 -- Assumes nothing.
-use mathlib.Core.Path.{◌≡◌, refl, sym, ◌∙◌}
+use mathlib.Core.Path.{◌≡◌}
 use mathlib.Core.Bool.{true}
-use Prim.Native.Nat.{◌+◌, ◌-◌, ◌*◌, ◌/◌, ◌≤◌}
-use native.Mathlib.Omega.{arith}
+use Prim.Native.Nat.{◌*◌, ◌≤◌}
 use lib.ListN.{length}
-use borrow.Author.Tests.{lt-ltb, le-ltb, not-true, not-false}
 use Rattle.loops.specs.For.{for}
-use Rattle.session.specs.Session.{every, and_at, pivot_below, pivots_below}
-use Rattle.session.proofs.Every.{every-again, every-fails, every-ends, run-again, run-fails}
+use Rattle.session.specs.Session.{and_at, pivot_below, pivots_below}
 use Rattle.session.proofs.ranges.pivots_below.Given as goal
 
 abbrev pub invariant-loop-k : goal.invariant-loop-k

@@ -1,11 +1,6 @@
-use mathlib.Core.Path.{◌≡◌, refl}
-use mathlib.Core.Bool.{true}
-use Prim.Native.Nat.{◌-◌}
+use mathlib.Core.Path.{refl}
 use native.Mathlib.Omega.{arith}
 use borrow.Author.Tests.{lt-leb, le-leb}
-use Rattle.loops.specs.For.{for}
-use Rattle.session.specs.Fields.{lowest, highest}
-use Rattle.session.specs.Session.{and_at, word_in_range}
 use Rattle.session.proofs.Every.{every-again, every-fails, every-ends}
 use Rattle.session.proofs.ranges.run.Goals as goal
 

@@ -1,14 +1,10 @@
 -- `run` meets its contract. The invariant: the words that are left give what all give.
 -- Assumes nothing.
-use mathlib.Core.Path.{◌≡◌, refl}
+use mathlib.Core.Path.{◌≡◌}
 use mathlib.Core.Bool.{true}
-use Prim.Native.Nat.{◌-◌}
-use native.Mathlib.Omega.{arith}
-use borrow.Author.Tests.{lt-leb, le-leb}
 use Rattle.loops.specs.For.{for}
 use Rattle.session.specs.Fields.{lowest, highest}
 use Rattle.session.specs.Session.{and_at, word_in_range}
-use Rattle.session.proofs.Every.{every-again, every-fails, every-ends}
 use Rattle.session.proofs.ranges.run.Given as goal
 
 abbrev pub invariant-loop-i : goal.invariant-loop-i

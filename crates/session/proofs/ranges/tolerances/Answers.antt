@@ -1,8 +1,6 @@
 -- `tolerances` meets its contract: one list after the other.
 -- Assumes nothing.
 use mathlib.Core.Path.{sym, ◌∙◌}
-use borrow.Author.Rules.{rules}
-use borrow.Author.Tests.{not-true, not-false}
 use Rattle.session.specs.Session.{tolerances_in_range}
 use Rattle.session.proofs.ranges.tolerances.Goals as goal
 

@@ -5,8 +5,6 @@ use mathlib.Core.Bool.{true}
 use mathlib.Core.List.{List}
 use Prim.Native.Nat.{ℕ, ◌/◌}
 use native.Mathlib.Omega.{arith}
-use borrow.Author.Rules.{rules}
-use borrow.Author.Tests.{not-true, not-false}
 use Rattle.loops.specs.For.{for}
 use Rattle.common.specs.SessionWords.{count_words}
 use Rattle.session.specs.Session.{every, and_at, word_in_range}
