@@ -1,5 +1,6 @@
 pub mod Decides
 pub mod FirstStep
 pub mod Rows
+pub mod Sections
 pub mod Table
 pub mod Accepted

@@ -3,10 +3,10 @@
 --     exactly-first     each row is returned exactly if it holds and no earlier one does
 --     at-most-eleven    every refusal is by 1 to 11
 -- Assumes nothing.
-use mathlib.Core.Bool.{Bool, true, false, cond, not, ◌||◌}
+use mathlib.Core.Bool.{Bool, true, false, cond}
 use mathlib.Core.List.{List, [], ◌∷◌, ◌++◌}
 use mathlib.Core.Logic.{◌⊎◌, inl, inr, ◌≢◌}
-use mathlib.Core.Path.{◌≡◌, refl, sym, ap, ◌∙◌}
+use mathlib.Core.Path.{◌≡◌, refl, sym, ◌∙◌}
 use Prim.Native.Nat.{ℕ, zero, suc, ◌+◌, ◌-◌, ◌≤◌, ◌<◌}
 use native.Mathlib.Omega.{arith}
 use lib.Dec.{eqb, ltb, lit<, lit≤}
@@ -15,98 +15,27 @@ use lib.Ieee as Ieee
 use lib.Ieee.{Float, nan}
 use Rattle.loops.proofs.Test.{differs}
 use Rattle.loops.specs.For.{times}
-use Rattle.loops.proofs.For.{stays-times}
 use Rattle.numbers.specs.Float.{◌⊖◌, zero_f}
 use Rattle.numbers.specs.Sign.{signum_of, refused}
-use Rattle.common.specs.Layout.{work_length, question_length}
-use Rattle.common.specs.Limits.{max_states}
-use Rattle.common.specs.SessionWords.{session_length}
 use Rattle.refusals.specs.declared.Options.{Options}
 use Rattle.refusals.specs.declared.Lengths.{Lengths}
 use Rattle.refusals.specs.declared.Refusal.{Refusal}
-use Rattle.refusals.specs.Refusal.{none, plain, also_of, in_order, or_else}
-use Rattle.refusals.specs.Start.{is_list, length_refusal, size_refusal, large_refusal, limit_refusal, is_negative}
+use Rattle.refusals.specs.Refusal.{none, or_else}
+use Rattle.refusals.specs.Start.{size_refusal, limit_refusal, is_negative}
 use Rattle.refusals.specs.Start.{tolerance_at, tolerance_refusal, step_refusal, start_refusal_of}
 use Rattle.refusals.specs.FirstStep.{StepRefused}
 use Rattle.refusals.specs.Rows.{Row, row, ExactlyFirst, NoneHolds}
-use Rattle.refusals.specs.Table.{NotOneOrN, WrongList, WrongSlice, LargeSetting, BelowZero, tolerance_rows}
+use Rattle.refusals.specs.Table.{LargeSetting, BelowZero, tolerance_rows}
 use Rattle.refusals.specs.Table.{step_row, start_rows}
-use Rattle.refusals.proofs.Decides.{Decides, equal, smaller, denied, either, neither}
+use Rattle.refusals.proofs.Decides.{Decides, equal, smaller, denied, either}
 use Rattle.refusals.proofs.FirstStep.{step-decides}
-use Rattle.refusals.proofs.Rows.{positive, IsFirst, Numbered, first-also, first_else, also-same, Each}
+use Rattle.refusals.proofs.Rows.{positive, IsFirst, Numbered, first-also, first_else, Each}
 use Rattle.refusals.proofs.Rows.{of-first, numbered, After, exactly}
+use Rattle.refusals.proofs.Sections.{size_rows, first-sizes, large, four, limits-are, tolerances-by}
 
--- ---- lengths and settings
-
-module _ (l : Lengths) where
-  listed : (len : ℕ) → Decides (not (is_list len l.n)) (NotOneOrN len l.n)
-  listed len = neither (eqb len 1) (eqb len l.n) (equal len 1) (equal len l.n)
-
-  abbrev lists : Bool
-  lists = not (is_list l.rtol l.n) || not (is_list l.atol l.n)
-
-  abbrev slices : Bool
-  slices =
-      not (eqb l.work (work_length l.n)) || (not (eqb l.pivots l.n)
-      || (not (eqb l.session session_length) || not (eqb l.question (question_length l.n))))
-
-  lists-are : length_refusal l l.n ≡ also_of (also_of none lists 2) slices 3
-  unfolding length_refusal in_order
-  lists-are =
-      also-same _ _ _ 3 (positive 2) ∙ also-same _ _ _ 3 (positive 2) ∙ also-same _ _ _ 3 (positive 2)
-      ∙ ap (λ (r : Refusal). also_of r slices 3) (also-same none _ _ 2 (positive 1))
-
-  abbrev unequal : (a b : ℕ) → Decides (not (eqb a b)) (a ≢ b)
-  unequal a b = denied (eqb a b) (equal a b)
-
-  abbrev size_rows : List Row
-  size_rows = row 1 (max_states < l.n) ∷ row 2 (WrongList l) ∷ row 3 (WrongSlice l) ∷ []
-
-  two : Decides lists (WrongList l)
-  two = either _ _ (listed l.rtol) (listed l.atol)
-
-  three : Decides slices (WrongSlice l)
-  three = either _ _ (unequal _ _) (either _ _ (unequal _ _) (either _ _ (unequal _ _) (unequal _ _)))
-
-  first-sizes : IsFirst size_rows (size_refusal l)
-  unfolding size_refusal
-  first-sizes = by (ltb max_states l.n) (smaller max_states l.n)
-    where
-      by : (t : Bool) → Decides t (max_states < l.n) → IsFirst size_rows (cond t (plain 1) (length_refusal l l.n))
-      by true d = inl (d.0 refl, refl)
-      by false d =
-          inr (
-            d.1 refl,
-            rw lists-are
-                (first-also (row 2 (WrongList l) ∷ []) _ slices 3 (positive 1, tt)
-                (first-also [] none lists 2 tt refl two) three),
-          )
+-- ---- settings
 
 module _ (o : Options) where
-  abbrev large : Bool
-  large =
-      ltb 1000000 o.max_steps || (ltb 1000000 o.mxordn || (ltb 1000000 o.mxords
-      || (ltb 1000000 o.maxcor || (ltb 1000000 o.msbp || ltb 1000000 o.mxncf))))
-
-  large_is : large_refusal o ≡ also_of none large 4
-  unfolding large_refusal in_order
-  large_is =
-      also-same _ _ _ 4 (positive 3) ∙ also-same _ _ _ 4 (positive 3) ∙ also-same _ _ _ 4 (positive 3)
-      ∙ also-same _ _ _ 4 (positive 3) ∙ also-same none _ _ 4 (positive 3)
-
-  four : Decides large (LargeSetting o)
-  four =
-      either _ _ (smaller _ _) (either _ _ (smaller _ _) (either _ _ (smaller _ _)
-      (either _ _ (smaller _ _) (either _ _ (smaller _ _) (smaller _ _)))))
-
-  limits-are : limit_refusal o ≡ also_of (also_of (also_of (also_of (also_of none large 4) (eqb o.max_steps 0) 5)
-      (eqb o.maxcor 0) 6) (eqb o.mxordn 0 || eqb o.mxords 0) 7) (not (eqb o.banded 0)) 8
-  unfolding limit_refusal in_order
-  limits-are =
-      ap (λ (r : Refusal). also_of r (not (eqb o.banded 0)) 8) (also-same _ _ _ 7 (positive 6))
-      ∙ ap (λ (r : Refusal). also_of (also_of (also_of (also_of r (eqb o.max_steps 0) 5) (eqb o.maxcor 0) 6)
-      (eqb o.mxordn 0 || eqb o.mxords 0) 7) (not (eqb o.banded 0)) 8) large_is
-
   abbrev r4 : Row
   r4 = row 4 (LargeSetting o)
 
@@ -124,12 +53,12 @@ module _ (o : Options) where
 
   first-limits : IsFirst limit_rows (limit_refusal o)
   first-limits =
-      rw limits-are
+      rw (limits-are o)
       (first-also (r4 ∷ r5 ∷ r6 ∷ r7 ∷ []) _ _ 8
       (positive 3, (positive 4, (positive 5, (positive 6, tt))))
       (first-also (r4 ∷ r5 ∷ r6 ∷ []) _ _ 7 (positive 3, (positive 4, (positive 5, tt)))
       (first-also (r4 ∷ r5 ∷ []) _ _ 6 (positive 3, (positive 4, tt))
-      (first-also (r4 ∷ []) _ _ 5 (positive 3, tt) (first-also [] none large 4 tt refl four) (equal _ _))
+      (first-also (r4 ∷ []) _ _ 5 (positive 3, tt) (first-also [] none (large o) 4 tt refl (four o)) (equal _ _))
       (equal _ _))
       (either _ _ (equal _ _) (equal _ _)))
       (denied (eqb o.banded 0) (equal o.banded 0)))
@@ -148,28 +77,12 @@ module _ (rtol atol : List Float) where
   abbrev rows : ℕ → ℕ → List Row → List Row
   rows k i rest = tolerance_rows rtol atol k i rest
 
-  tolerances-by : (rest : List Row) (y : Refusal) (k i : ℕ) (s t : Bool)
-      → IsFirst (rows k (i + 1) rest) (or_else (times (tolerance_at rtol atol) k (i + 1) none) y)
-      → Decides s (BelowZero rtol i) → Decides t (BelowZero atol i)
-      → IsFirst (rows (suc k) i rest)
-      (or_else (times (tolerance_at rtol atol) k (i + 1)
-      (cond s (record { number = 9; index = i; value = zero_f })
-      (cond t (record { number = 10; index = i; value = zero_f }) none))) y)
-  unfolding or_else
-  tolerances-by rest y k i true t f d g =
-      let nine : Refusal = record { number = 9; index = i; value = zero_f } in
-      inl (d.0 refl, rw (stays-times (tolerance_at rtol atol) nine (λ j. refl) k (i + 1)))
-  tolerances-by rest y k i false true f d g =
-      let ten : Refusal = record { number = 10; index = i; value = zero_f } in
-      inr (d.1 refl, inl (g.0 refl, rw (stays-times (tolerance_at rtol atol) ten (λ j. refl) k (i + 1))))
-  tolerances-by rest y k i false false f d g = inr (d.1 refl, inr (g.1 refl, f))
-
   first-tolerances : (rest : List Row) (y : Refusal) → IsFirst rest y → (k i : ℕ)
       → IsFirst (rows k i rest) (or_else (times (tolerance_at rtol atol) k i none) y)
   unfolding times or_else
   first-tolerances rest y f zero i = f
   first-tolerances rest y f (suc k) i =
-      tolerances-by rest y k i (is_negative rtol i) (is_negative atol i) (first-tolerances rest y f k (i + 1))
+      tolerances-by rtol atol rest y k i (is_negative rtol i) (is_negative atol i) (first-tolerances rest y f k (i + 1))
       (below rtol i) (below atol i)
 
 -- ---- the first step
