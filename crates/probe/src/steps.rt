@@ -1,4 +1,4 @@
-// For comparisons with the reference alone, by C's rules: the functions on the history, the record and the snapshot.
+// For comparisons with the reference alone: the functions on the history, the record and the snapshot.
 // Nothing is asked of the host: where a callee's requires is not met, the number 2 is answered, and what was lent stays
 // as it was. A record is lent as its 11 floats and 14 counts, in the order of specs/Lent.antt.
 ghost use Rattle.std.specs.Prelude.{◌≡◌, [], length};

@@ -5,14 +5,14 @@ ghost use Rattle.common.specs.Limits.{max_states};
 ghost use Rattle.replay_runs.specs.Answer.{asks_reply, report_numbers, is_stored_refusal, is_timed, is_stored_question};
 ghost use Rattle.replay_runs.specs.Answer.{is_stored_report, is_stored_end, is_stored_answer};
 
-use crate::words;
+use crate::stored_words;
 use raimsklo::Reply;
 
 // Whether the stored answer asks for a reply.
 pub fn is_asked(stored: &[u64], at: usize) -> bool
     ensures { result ≡ asks_reply stored.now at }
 {
-    let number = words::word(stored, at);
+    let number = stored_words::word(stored, at);
     if number < 100 {
         return false;
     }
@@ -32,7 +32,7 @@ pub fn size(stored: &[u64], at: usize, n: usize) -> usize
     requires { (at ≤ 1010000) × (n ≤ max_states) }
     ensures { (1 ≤ result) × (result ≤ 1000) }
 {
-    let number = words::word(stored, at);
+    let number = stored_words::word(stored, at);
     if number < 100 {
         return 3;
     }
@@ -40,7 +40,7 @@ pub fn size(stored: &[u64], at: usize, n: usize) -> usize
         return 2 + n;
     }
     if number == 103 {
-        return 5 + reported(words::limited(stored, at + 4, 12), n);
+        return 5 + reported(stored_words::limited(stored, at + 4, 12), n);
     }
     8
 }
@@ -49,10 +49,10 @@ fn is_refusal(stored: &[u64], at: usize, r: Reply) -> bool
     requires { at ≤ 1010000 }
     ensures { result ≡ is_stored_refusal stored.now at r }
 {
-    if !words::is_count(stored, at + 1, r.index) {
+    if !stored_words::is_count(stored, at + 1, r.index) {
         return false;
     }
-    words::is_float(stored, at + 2, r.value)
+    stored_words::is_float(stored, at + 2, r.value)
 }
 
 // The first report's previous time is its time; what is wanted has none.
@@ -73,10 +73,10 @@ fn is_question(stored: &[u64], at: usize, r: Reply, y: &[f64]) -> bool
     if !is_timed(r) {
         return false;
     }
-    if !words::is_float(stored, at + 1, r.time) {
+    if !stored_words::is_float(stored, at + 1, r.time) {
         return false;
     }
-    words::are_floats(stored, at + 2, y)
+    stored_words::are_floats(stored, at + 2, y)
 }
 
 // Previous time, time, count, order, y and snapshot.
@@ -84,32 +84,32 @@ fn is_report(stored: &[u64], at: usize, r: Reply, numbers: &[f64]) -> bool
     requires { (at ≤ 1010000) × (length numbers.now ≤ 1000) }
     ensures { result ≡ is_stored_report stored.now at r numbers.now }
 {
-    if !words::is_float(stored, at + 1, r.previous) {
+    if !stored_words::is_float(stored, at + 1, r.previous) {
         return false;
     }
-    if !words::is_float(stored, at + 2, r.time) {
+    if !stored_words::is_float(stored, at + 2, r.time) {
         return false;
     }
-    if !words::is_count(stored, at + 3, r.count) {
+    if !stored_words::is_count(stored, at + 3, r.count) {
         return false;
     }
-    if !words::is_count(stored, at + 4, r.order) {
+    if !stored_words::is_count(stored, at + 4, r.order) {
         return false;
     }
-    words::are_floats(stored, at + 5, numbers)
+    stored_words::are_floats(stored, at + 5, numbers)
 }
 
 fn is_end(stored: &[u64], at: usize, r: Reply) -> bool
     requires { at ≤ 1010000 }
     ensures { result ≡ is_stored_end stored.now at r }
 {
-    if !words::is_float(stored, at + 1, r.h) {
+    if !stored_words::is_float(stored, at + 1, r.h) {
         return false;
     }
-    if !words::are_three(stored, at + 2, r.nfe, r.nje, r.nlu) {
+    if !stored_words::are_three(stored, at + 2, r.nfe, r.nje, r.nlu) {
         return false;
     }
-    words::are_three(stored, at + 5, r.total, r.accepted, r.rejected)
+    stored_words::are_three(stored, at + 5, r.total, r.accepted, r.rejected)
 }
 
 // Whether the call answered what is stored.
@@ -117,7 +117,7 @@ pub fn is_stored(stored: &[u64], at: usize, n: usize, r: Reply, question: &[f64]
     requires { (at ≤ 1010000) × (n ≤ max_states) × (question_length n ≤ length question.now) }
     ensures { result ≡ is_stored_answer stored.now at n r question.now }
 {
-    if !words::is_count(stored, at, r.number) {
+    if !stored_words::is_count(stored, at, r.number) {
         return false;
     }
     if r.number < 100 {
@@ -127,7 +127,7 @@ pub fn is_stored(stored: &[u64], at: usize, n: usize, r: Reply, question: &[f64]
         return is_question(stored, at, r, &question[0..n]);
     }
     if r.number == 103 {
-        let end = reported(words::limited(stored, at + 4, 12), n);
+        let end = reported(stored_words::limited(stored, at + 4, 12), n);
         return is_report(stored, at, r, &question[0..end]);
     }
     is_end(stored, at, r)

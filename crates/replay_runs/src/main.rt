@@ -9,8 +9,8 @@ ghost use Rattle.replay_runs.specs.Words.{most_numbers};
 
 mod answer;
 mod runs;
+mod stored_words;
 mod sums;
-mod words;
 
 use raimsklo::Reply;
 use refusals::Options;
@@ -46,20 +46,20 @@ fn options(stored: &[u64], at: usize) -> Options
     requires { at ≤ 1000000 }
 {
     Options {
-        max_steps: words::count(stored, at + 3),
-        mxordn: words::count(stored, at + 4),
-        mxords: words::count(stored, at + 5),
-        maxcor: words::count(stored, at + 6),
-        msbp: words::count(stored, at + 7),
-        mxncf: words::count(stored, at + 8),
-        banded: words::count(stored, at + 9),
-        supplied: words::count(stored, at + 10),
-        has_max_step: words::count(stored, at + 11),
-        has_min_step: words::count(stored, at + 12),
-        has_first_step: words::count(stored, at + 13),
-        max_step: words::float(stored, at + 14),
-        min_step: words::float(stored, at + 15),
-        first_step: words::float(stored, at + 16),
+        max_steps: stored_words::count(stored, at + 3),
+        mxordn: stored_words::count(stored, at + 4),
+        mxords: stored_words::count(stored, at + 5),
+        maxcor: stored_words::count(stored, at + 6),
+        msbp: stored_words::count(stored, at + 7),
+        mxncf: stored_words::count(stored, at + 8),
+        banded: stored_words::count(stored, at + 9),
+        supplied: stored_words::count(stored, at + 10),
+        has_max_step: stored_words::count(stored, at + 11),
+        has_min_step: stored_words::count(stored, at + 12),
+        has_first_step: stored_words::count(stored, at + 13),
+        max_step: stored_words::float(stored, at + 14),
+        min_step: stored_words::float(stored, at + 15),
+        first_step: stored_words::float(stored, at + 16),
     }
 }
 
@@ -79,11 +79,11 @@ fn start(
     let rtol = n + head.nrtol;
     let atol = rtol + head.natol;
     let at = head.at + 17;
-    let read = words::floats(stored, at + 2);
+    let read = stored_words::floats(stored, at + 2);
     let lists = &read[..];
     raimsklo::raimsklo_start(
-        words::float(stored, at),
-        words::float(stored, at + 1),
+        stored_words::float(stored, at),
+        stored_words::float(stored, at + 1),
         &lists[0..n],
         &lists[n..rtol],
         &lists[rtol..atol],
@@ -137,9 +137,9 @@ fn replied(
 ) -> Reply
     requires { (at ≤ 1000000) × (n ≤ max_states) × (squared ≤ most_numbers) }
 {
-    let kind = words::count(stored, at);
-    let time = words::float(stored, at + 1);
-    let numbers = words::floats(stored, at + 2);
+    let kind = stored_words::count(stored, at);
+    let time = stored_words::float(stored, at + 1);
+    let numbers = stored_words::floats(stored, at + 2);
     let end = size(kind, n, squared);
     raimsklo::raimsklo_reply(
         kind,
@@ -160,7 +160,7 @@ fn passed(stored: &[u64], f: Found, n: usize, squared: usize) -> Found
         × (result.differ ≤ result.at) × (result.runs ≡ f.runs) }
 {
     let mut g = f;
-    g.at = f.at + 2 + size(words::count(stored, f.at), n, squared);
+    g.at = f.at + 2 + size(stored_words::count(stored, f.at), n, squared);
     g
 }
 
@@ -240,9 +240,9 @@ fn run(stored: &[u64], f: Found) -> Found
         × (result.differ ≤ result.at) × (result.runs ≡ f.runs + 1) }
 {
     let at = f.at;
-    let n = words::limited(stored, at, common::MAX_STATES);
-    let nrtol = words::limited(stored, at + 1, common::MAX_STATES);
-    let natol = words::limited(stored, at + 2, common::MAX_STATES);
+    let n = stored_words::limited(stored, at, common::MAX_STATES);
+    let nrtol = stored_words::limited(stored, at + 1, common::MAX_STATES);
+    let natol = stored_words::limited(stored, at + 2, common::MAX_STATES);
     let head = Head {
         at: at,
         n: n,

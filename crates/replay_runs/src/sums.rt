@@ -135,13 +135,14 @@ fn outcome_of(sum: Sum) -> Outcome {
 
 // ---- what is printed
 
-fn count(rt: &impl Print, name: &str, n: usize) -> io::Result<()> {
-    print!(rt; "{name}{n}")
+fn count(rt: &impl Print, name: &[u8], n: usize) -> io::Result<()> {
+    rt.write_all(name)?;
+    rt.print(n)
 }
 
 // NaN, a small whole number, or the pattern.
-fn float(rt: &impl Print, name: &str, x: f64) -> io::Result<()> {
-    rt.print(name)?;
+fn float(rt: &impl Print, name: &[u8], x: f64) -> io::Result<()> {
+    rt.write_all(name)?;
     let bits = numbers::to_bits(x);
     if x != x {
         print!(rt; "NaN")
@@ -170,24 +171,24 @@ fn end(rt: &impl Print, number: usize) -> io::Result<()> {
     } else if number == 115 {
         print!(rt; "coefficient gap")
     } else {
-        count(rt, "", number)
+        count(rt, b"", number)
     }
 }
 
-fn line(rt: &impl Print, name: &str, sum: Sum) -> io::Result<()> {
+fn line(rt: &impl Print, name: &[u8], sum: Sum) -> io::Result<()> {
     let outcome = outcome_of(sum);
     let e = outcome.end;
-    rt.print(name)?;
+    rt.write_all(name)?;
     end(rt, e.number)?;
     if e.number < 100 {
-        float(rt, ", value ", e.value)?;
+        float(rt, b", value ", e.value)?;
     } else {
-        float(rt, ", h ", e.h)?;
-        count(rt, ", derivatives ", e.nfe)?;
-        count(rt, ", steps ", e.total)?;
-        count(rt, ", ", e.accepted)?;
-        count(rt, ", ", e.rejected)?;
-        float(rt, ", pose ", outcome.pose)?;
+        float(rt, b", h ", e.h)?;
+        count(rt, b", derivatives ", e.nfe)?;
+        count(rt, b", steps ", e.total)?;
+        count(rt, b", ", e.accepted)?;
+        count(rt, b", ", e.rejected)?;
+        float(rt, b", pose ", outcome.pose)?;
     }
     println!(rt; "")
 }
@@ -274,21 +275,21 @@ fn with_min_step(sum: Sum, least: f64) -> Sum {
 }
 
 pub fn lines(rt: &impl Print) -> io::Result<()> {
-    line(rt, "(8): ", eight())?;
-    line(rt, "(9): ", nine())?;
-    line(rt, "(10): ", ten())?;
-    line(rt, "(11): ", eleven())?;
-    line(rt, "(12): ", twelve())?;
+    line(rt, b"(8): ", eight())?;
+    line(rt, b"(9): ", nine())?;
+    line(rt, b"(10): ", ten())?;
+    line(rt, b"(11): ", eleven())?;
+    line(rt, b"(12): ", twelve())?;
     line(
         rt,
-        "start equal to end, no first step: ",
+        b"start equal to end, no first step: ",
         without_first_step(empty()),
     )?;
-    line(rt, "start equal to end, first step 1: ", empty())?;
+    line(rt, b"start equal to end, first step 1: ", empty())?;
     line(
         rt,
-        "start equal to end, first step 1, minimum step 2: ",
+        b"start equal to end, first step 1, minimum step 2: ",
         with_min_step(empty(), 2.0),
     )?;
-    line(rt, "(8), minimum step 2: ", with_min_step(eight(), 2.0))
+    line(rt, b"(8), minimum step 2: ", with_min_step(eight(), 2.0))
 }

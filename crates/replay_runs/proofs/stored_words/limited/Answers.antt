@@ -2,7 +2,7 @@
 use native.Mathlib.Omega.{arith}
 use borrow.Author.Tests.{lt-ltb, le-ltb}
 use Rattle.replay_runs.specs.Words.{limited_word}
-use Rattle.replay_runs.proofs.words.limited.Goals as goal
+use Rattle.replay_runs.proofs.stored_words.limited.Goals as goal
 
 pub returns-then-n-most : goal.returns-then-n-most
 unfolding limited_word

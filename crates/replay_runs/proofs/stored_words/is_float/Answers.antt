@@ -1,6 +1,6 @@
 -- `is_float` meets its contract. Assumes nothing.
 use Rattle.replay_runs.specs.Words.{is_stored_float}
-use Rattle.replay_runs.proofs.words.is_float.Goals as goal
+use Rattle.replay_runs.proofs.stored_words.is_float.Goals as goal
 
 pub returns : goal.returns
 unfolding is_stored_float

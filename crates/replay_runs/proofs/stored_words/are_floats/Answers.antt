@@ -7,7 +7,7 @@ use native.Mathlib.Omega.{arith}
 use lib.ListN.{length, get_or}
 use lib.Ieee.{Float, nan}
 use Rattle.replay_runs.specs.Words.{is_stored_float, are_stored_from, are_stored_floats}
-use Rattle.replay_runs.proofs.words.are_floats.Goals as goal
+use Rattle.replay_runs.proofs.stored_words.are_floats.Goals as goal
 
 module _ (words : List ℕ) (at : ℕ) (list : List Float) (i : ℕ) (r : Bool) where
   turn : i < length list → are_stored_from words at list (length list - i) i

@@ -3,7 +3,7 @@ use Prim.Native.Nat.{◌-◌}
 use mathlib.Core.Path.{◌≡◌}
 use lib.ListN.{length}
 use Rattle.replay_runs.specs.Words.{are_stored_from, are_stored_floats}
-use Rattle.replay_runs.proofs.words.are_floats.Given as goal
+use Rattle.replay_runs.proofs.stored_words.are_floats.Given as goal
 
 abbrev pub invariant-loop-i : goal.invariant-loop-i
 invariant-loop-i l =

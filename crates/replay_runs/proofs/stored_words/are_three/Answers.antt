@@ -1,7 +1,7 @@
 -- `are_three` meets its contract: each way returns what `are_stored_three` says under the tests that led there.
 -- Assumes nothing.
 use Rattle.replay_runs.specs.Words.{are_stored_three}
-use Rattle.replay_runs.proofs.words.are_three.Goals as goal
+use Rattle.replay_runs.proofs.stored_words.are_three.Goals as goal
 
 pub returns-then-not-is_count : goal.returns-then-not-is_count
 unfolding are_stored_three
