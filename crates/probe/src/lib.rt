@@ -1,6 +1,6 @@
 // For comparisons with the reference alone: the functions that a host cannot reach otherwise. crates/probe_c exports
-// them by C's rules. Nothing is asked of the host: where a callee's requires is not met, a NaN or the number 2 is answered, and what was
-// lent stays as it was. The functions on the history and the record are in steps.rt.
+// them by C's rules. Nothing is asked of the host: where a callee's requires is not met, a NaN or the number 2 is
+// answered, and what was lent stays as it was. The functions on the history and the record are in steps.rt.
 #![tactic(auto)]
 
 ghost use Rattle.std.specs.Prelude.{◌≡◌, true, ℕ, ◌≤◌, ◌<◌, length, get_or};

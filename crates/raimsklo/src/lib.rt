@@ -1,5 +1,5 @@
-// What the host calls; crates/raimsklo_c exports it by C's rules. Nothing is asked of the host: each function answers at
-// every argument, and its contract is one equation for the answer and for the whole contents of every lent slice,
+// What the host calls; crates/raimsklo_c exports it by C's rules. Nothing is asked of the host: each function answers
+// at every argument, and its contract is one equation for the answer and for the whole contents of every lent slice,
 // refused calls included.
 #![tactic(auto)]
 
