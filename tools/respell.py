@@ -3,8 +3,8 @@
 
 Words are in snake case: a definition `orderInForceOf` is `order_in_force_of`, a setter `with-h` is `with_h`, a constant
 `d1·2e-6` is `d1_2e_6`. Types, modules and facts keep their capitals; the dash of a lemma's name, which joins two names,
-stays. A lemma that would fall together with a definition gets `_lem`. Functions of src/, exported names, strings, inputs
-and outputs keep theirs: of an .rt file only the clauses, the `ghost use` items and the comments are read.
+stays. A lemma that would fall together with a definition gets `_lem`. Functions of src/, exported names, strings,
+inputs and outputs keep theirs: of an .rt file only the clauses, the `ghost use` items and the comments are read.
 """
 import os
 import re
