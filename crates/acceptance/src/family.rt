@@ -142,6 +142,7 @@ fn adams_proposal(s: Settings, c: Common, dsm: f64, work: &[f64]) -> AdamsPropos
     }
 }
 
+#[tactic(auto, unfolding(crate::specs::Family::to_adams_of, crate::specs::Family::move_if))]
 fn to_adams(s: Settings, c: Common, dsm: f64, work: &[f64]) -> Change
     requires step_in_range { StepInRange s c }
     requires le_mxordn { (1 ≤ s.mxordn) × (matrix_at s.n ≤ length work.now) }

@@ -73,6 +73,7 @@ fn keep_family(s: Settings, c: Common, dsm: f64, work: &mut [f64]) -> Chosen
 }
 
 // The family test where icount is below 0, then order and size.
+#[tactic(auto, unfolding(crate::specs::Accept::test_family_of, crate::specs::Accept::tested_of))]
 fn test_family(s: Settings, c: Common, dsm: f64, work: &mut [f64]) -> Chosen
     requires step_in_range { StepInRange s c }
     requires le_mxordn { (1 ≤ s.mxordn) × (1 ≤ s.mxords) }

@@ -61,6 +61,7 @@ pub struct Factors {
 }
 
 // In the Adams family each factor is within its order's stability limit.
+#[tactic(auto, unfolding(crate::specs::Order::limited_factors_of))]
 fn limited_factors(c: Common, f: Factors) -> Factors
     requires { (1 ≤ c.nq) × (c.nq ≤ 12) × (c.nq + 1 ≤ c.lmax) × (c.lmax ≤ 13) }
     ensures { result ≡ limited_factors_of c f }
@@ -196,6 +197,7 @@ fn lower(s: Settings, c: Common, down: f64, work: &mut [f64]) -> Chosen
 }
 
 // The largest of the three factors decides.
+#[tactic(auto, unfolding(crate::specs::Order::choose_of))]
 fn choose(s: Settings, c: Common, f: Factors, work: &mut [f64]) -> Chosen
     requires step_in_range { StepInRange s c }
     requires nq_bound { (c.nq + 1 ≤ c.lmax) × (c.lmax ≤ 13) × (matrix_at s.n ≤ length work.old) }

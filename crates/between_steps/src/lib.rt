@@ -102,6 +102,7 @@ pub fn first_prediction(s: Settings, c: Common, work: &mut [f64]) -> Common
 // ---- the start and the reports
 
 // The first step within the largest step, the interval and the smallest step.
+#[tactic(auto, unfolding(crate::specs::Start::first_size_of))]
 pub fn first_size(s: Settings, c: Common, h: f64) -> f64
     ensures { result ≡ first_size_of s c h }
 {

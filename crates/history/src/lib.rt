@@ -173,6 +173,7 @@ pub fn pdh(c: Common) -> f64
 }
 
 // The factor of a rescale within its limits: rmax, the largest step, and in the Adams family the stability limit SM1.
+#[tactic(auto, unfolding(crate::specs::Steps::limited_of))]
 pub fn limited(c: Common, rh: f64) -> f64
     requires { (1 ≤ c.nq) × (c.nq ≤ 12) }
     ensures { result ≡ limited_of c rh }
