@@ -98,13 +98,10 @@ module _ (o : Options) where
 -- ---- tolerances
 
 module _ (rtol atol : List Float) where
-  abbrev rows : ℕ → ℕ → List Row → List Row
-  rows k i rest = tolerance_rows rtol atol k i rest
-
   pub tolerances-by : (rest : List Row) (y : Refusal) (k i : ℕ) (s t : Bool)
-      → IsFirst (rows k (i + 1) rest) (or_else (times (tolerance_at rtol atol) k (i + 1) none) y)
+      → IsFirst (tolerance_rows rtol atol k (i + 1) rest) (or_else (times (tolerance_at rtol atol) k (i + 1) none) y)
       → Decides s (BelowZero rtol i) → Decides t (BelowZero atol i)
-      → IsFirst (rows (suc k) i rest)
+      → IsFirst (tolerance_rows rtol atol (suc k) i rest)
       (or_else (times (tolerance_at rtol atol) k (i + 1)
       (cond s (record { number = 9; index = i; value = zero_f })
       (cond t (record { number = 10; index = i; value = zero_f }) none))) y)

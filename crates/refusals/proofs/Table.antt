@@ -74,11 +74,8 @@ below list i = by (ltb i (length list)) (smaller i (length list))
     by false d = (λ e. differs e, λ e h. d.1 refl h.0)
 
 module _ (rtol atol : List Float) where
-  abbrev rows : ℕ → ℕ → List Row → List Row
-  rows k i rest = tolerance_rows rtol atol k i rest
-
   first-tolerances : (rest : List Row) (y : Refusal) → IsFirst rest y → (k i : ℕ)
-      → IsFirst (rows k i rest) (or_else (times (tolerance_at rtol atol) k i none) y)
+      → IsFirst (tolerance_rows rtol atol k i rest) (or_else (times (tolerance_at rtol atol) k i none) y)
   unfolding times or_else
   first-tolerances rest y f zero i = f
   first-tolerances rest y f (suc k) i =
