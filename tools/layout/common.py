@@ -51,17 +51,16 @@ session_length = 8 * session_words
 
 
 def setter(field):
-    rows = record_of((f.name, "v" if f is field else f"c.{f.name}") for f in COMMON_FIELDS)
     return f"""\
 abbrev pub with_{field.name} : {TYPES[field.kind]} → Common → Common
-with_{field.name} v c = {rows}
+with_{field.name} v c = record c {{ {field.name} = v }}
 """
 
 
 def setters():
     text = """\
--- The record of a run, by its fields: a setter for each field of Common that a run changes (antt has no record
--- update); a start fixes hmin and hmxi. Made by tools/record.py from the structs of src/lib.rt.
+-- The record of a run, by its fields: a setter for each field of Common that a run changes; a start fixes hmin and
+-- hmxi. Made by tools/record.py from the structs of src/lib.rt.
 use Rattle.std.specs.Prelude.{Bool, true, false, ℕ, Float}
 use Rattle.common.specs.declared.MethodFamily.{MethodFamily}
 use Rattle.common.specs.declared.MethodFamily.TheVariants.{Adams, Bdf}
@@ -93,29 +92,17 @@ initial_of s x0 h hmin hmxi = {record_of((f.name, f.initial[1]) for f in COMMON_
 
 
 def functions():
-    family = lines((f"{f.name}: {'meth' if f.name == 'meth' else f.code}," for f in COMMON_FIELDS), "        ")
-    start = lines((f"{f.name}: {f.initial[0]}," for f in COMMON_FIELDS), "        ")
-    return f"""// The record with another family.
-pub fn with_family(c: Common, meth: MethodFamily) -> Common
-    ensures {{ result ≡ with_meth meth c }}
-{{
-    Common {{
-{family}    }}
-}}
-
-// The record at the start, with the first step where it is given; the first derivative is asked for.
-pub fn initial(s: Settings, x0: f64, h: f64, hmin: f64, hmxi: f64) -> Common
-    ensures {{ result ≡ initial_of s x0 h hmin hmxi }}
-{{
-    let a = mxordn(s);
-    let b = mxords(s);
-    let mut order = a;
-    if a < b {{
-        order = b;
+    start = lines((f"{f.name}: {f.initial[0]}," for f in COMMON_FIELDS), " " * 12)
+    return f"""\
+impl Common {{
+    // The record at the start, with the first step where it is given; the first derivative is asked for.
+    #[tactic(auto, unfolding(crate::specs::Initial::initial_of))]
+    pub fn initial(s: Settings, x0: f64, h: f64, hmin: f64, hmxi: f64) -> Common
+        ensures {{ result ≡ initial_of s x0 h hmin hmxi }}
+    {{
+        Common {{
+{start}        }}
     }}
-    let lmax = order + 1;
-    Common {{
-{start}    }}
 }}
 """
 
@@ -125,4 +112,4 @@ def make(put):
     put(f"{COMMON}/specs/Record.antt", setters())
     put(f"{COMMON}/specs/Initial.antt", initial())
     put(f"{COMMON}/src/lib.rt", constants(), "the words of a session")
-    put(f"{COMMON}/src/lib.rt", functions(), "the functions that name every field")
+    put(f"{COMMON}/src/lib.rt", functions(), "the record at the start")

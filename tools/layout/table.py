@@ -88,7 +88,7 @@ INITIAL = {
     "el0": ("1.0", "one_f"),
     "convrate": ("0.7", "d0_7"),
     "nq": ("1", "1"),
-    "lmax": ("lmax", "max (mxordn_of s) (mxords_of s) + 1"),
+    "lmax": ("s.mxordn().max(s.mxords()) + 1", "max (mxordn_of s) (mxords_of s) + 1"),
     "nqnyh": ("s.n", "s.n"),
     "ialth": ("2", "2"),
     "icount": ("1000020", "icount20"),

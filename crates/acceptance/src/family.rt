@@ -69,7 +69,7 @@ fn bdf_proposal(s: Settings, c: Common, dsm: f64, work: &[f64]) -> Proposal
     requires nq_bound { (c.nq ≤ 5) × (1 ≤ s.mxords) × (matrix_at s.n ≤ length work.now) }
     ensures { result ≡ bdf_proposal_of s c dsm work.now }
 {
-    let mxords = common::mxords(s);
+    let mxords = s.mxords();
     if mxords < c.nq {
         let dm2 = column_size(work, s.n, mxords + 1) / coefficients::cm2(c.table, mxords);
         return Proposal {
@@ -125,7 +125,7 @@ fn adams_proposal(s: Settings, c: Common, dsm: f64, work: &[f64]) -> AdamsPropos
     requires nq_bound { (c.nq ≤ 5) × (1 ≤ s.mxordn) × (matrix_at s.n ≤ length work.now) }
     ensures { result ≡ adams_proposal_of s c dsm work.now }
 {
-    let mxordn = common::mxordn(s);
+    let mxordn = s.mxordn();
     if c.nq <= mxordn {
         let dm1 = dsm * (coefficients::cm2(c.table, c.nq) / coefficients::cm1(c.table, c.nq));
         return AdamsProposal {
@@ -173,8 +173,7 @@ pub fn compare_families(s: Settings, c: Common, dsm: f64, work: &[f64]) -> Chang
     requires le_mxordn { (1 ≤ s.mxordn) × (1 ≤ s.mxords) × (matrix_at s.n ≤ length work.now) }
     ensures { result ≡ change_of s c dsm work.now }
 {
-    let meth = c.meth;
-    match meth {
+    match c.meth {
         MethodFamily::Adams => to_bdf(s, c, dsm, work),
         MethodFamily::Bdf => to_adams(s, c, dsm, work),
     }
@@ -197,10 +196,12 @@ pub fn change_family(s: Settings, c: Common, to: Move, work: &mut [f64]) -> Comm
     ensures { ◌≡◌ {A = Moved} (record { common = result; work = work.new })
         (changed_of s c to work.old) }
 {
-    let meth = c.meth;
-    let mut d = common::with_family(c, other(meth));
-    d.icount = 1000020;
-    d.pdlast = 0.0;
-    d.nq = to.order;
+    let d = Common {
+        meth: other(c.meth),
+        icount: 1000020,
+        pdlast: 0.0,
+        nq: to.order,
+        ..c
+    };
     history::stoda_adjust_step_size(s, d, to.rh, work)
 }

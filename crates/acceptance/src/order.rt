@@ -66,8 +66,7 @@ fn limited_factors(c: Common, f: Factors) -> Factors
     requires { (1 ≤ c.nq) × (c.nq ≤ 12) × (c.nq + 1 ≤ c.lmax) × (c.lmax ≤ 13) }
     ensures { result ≡ limited_factors_of c f }
 {
-    let meth = c.meth;
-    if common::is_bdf(meth) {
+    if c.meth.is_bdf() {
         return f;
     }
     let d = history::pdh(c);
@@ -97,8 +96,7 @@ fn is_held(c: Common, p: Proposal) -> bool
     requires { (1 ≤ p.order) × (p.order ≤ 12) }
     ensures { result ≡ held_of c p }
 {
-    let meth = c.meth;
-    if common::is_bdf(meth) {
+    if c.meth.is_bdf() {
         return false;
     }
     p.rh * history::pdh(c) * 1.00001 >= coefficients::sm1(p.order)
@@ -134,7 +132,7 @@ fn settle(s: Settings, c: Common, p: Proposal, branch: Branch, work: &mut [f64])
     }
     let mut e = c;
     e.nq = p.order;
-    let f = common::stoda_reset(s, e);
+    let f = e.stoda_reset(s);
     Chosen {
         branch: branch,
         common: history::stoda_adjust_step_size(s, f, rh, work),
@@ -164,7 +162,7 @@ fn raise(s: Settings, c: Common, up: f64, work: &mut [f64]) -> Chosen
         };
     }
     let count = l as u32;
-    let r = common::el(s, c, c.nq) / count as f64;
+    let r = c.el(s, c.nq) / count as f64;
     set_column(work, s.n, l, r);
     settle(s, c, Proposal { order: l, rh: up }, Branch::Raised, work)
 }
@@ -228,8 +226,7 @@ fn choose(s: Settings, c: Common, f: Factors, work: &mut [f64]) -> Chosen
 fn forget_estimate(c: Common) -> Common
     ensures { result ≡ forgotten_of c }
 {
-    let meth = c.meth;
-    if common::is_bdf(meth) {
+    if c.meth.is_bdf() {
         return c;
     }
     let mut d = c;

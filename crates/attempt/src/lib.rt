@@ -62,20 +62,19 @@ pub fn no_convergence(s: Settings, c: Common, work: &mut [f64]) -> Attempted
 {
     let mut d = retract(s, c, work);
     d.ncf = c.ncf + 1;
-    if common::is_tiny(d) {
+    if d.is_tiny() {
         return Attempted {
             next: Next::Poor,
             common: d,
         };
     }
-    if d.ncf == common::mxncf(s) {
+    if d.ncf == s.mxncf() {
         return Attempted {
             next: Next::Poor,
             common: d,
         };
     }
-    let meth = d.meth;
-    d.due = common::is_bdf(meth);
+    d.due = d.meth.is_bdf();
     d.rejected = c.rejected + 1;
     let rh = numbers::max(0.25, history::least(d));
     Attempted {
@@ -119,7 +118,7 @@ fn missed(s: Settings, c: Common, dsm: f64, work: &mut [f64]) -> Attempted
     ensures { ◌≡◌ {A = Attempt} (record { next = result.next; common = result.common; work = work.new })
         (missed_of s c dsm work.old) }
 {
-    if common::is_tiny(c) {
+    if c.is_tiny() {
         return Attempted {
             next: Next::TooSmall,
             common: c,
@@ -170,13 +169,12 @@ pub fn restep(s: Settings, c: Common, work: &mut [f64]) -> Common
         (restep_of s c work.old) }
 {
     history::set_slope(work, s.n, c.h);
-    let meth = c.meth;
     let mut d = c;
-    d.due = common::is_bdf(meth);
+    d.due = c.meth.is_bdf();
     d.ialth = 5;
     if c.nq == 1 {
         return history::stoda_get_predicted_values(s, d, work);
     }
     d.nq = 1;
-    history::stoda_get_predicted_values(s, common::stoda_reset(s, d), work)
+    history::stoda_get_predicted_values(s, d.stoda_reset(s), work)
 }

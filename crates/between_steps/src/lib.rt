@@ -59,9 +59,8 @@ fn setup(s: Settings, c: Common) -> Common
     requires { Accepted s }
     ensures { result ≡ setup_of s c }
 {
-    let mut d = c;
-    d.setup = false;
-    common::stoda_reset(s, common::stoda_first_call_init(s, d))
+    let d = Common { setup: false, ..c };
+    d.stoda_first_call_init(s).stoda_reset(s)
 }
 
 // What comes before a step's first prediction: the cut, else the setup if it is due.
@@ -144,10 +143,12 @@ pub fn take_state(n: usize, y: &[f64], work: &mut [f64])
 pub fn restart(c: Common) -> Common
     ensures { result ≡ restart_of c }
 {
-    let mut d = common::with_family(c, MethodFamily::Adams);
-    d.setup = true;
-    d.nq = 1;
-    d
+    Common {
+        meth: MethodFamily::Adams,
+        setup: true,
+        nq: 1,
+        ..c
+    }
 }
 
 // The weights of a modified state, 1 / max(|y|, 2^-52).

@@ -5,7 +5,7 @@
 #![tactic(auto)]
 
 ghost use Rattle.std.specs.Prelude.{◌≡◌, Bool, ◌+◌, ◌*◌, ◌≤◌, ◌<◌};
-ghost use Rattle.common.specs.Record.{is_bdf, with_meth};
+ghost use Rattle.common.specs.Record.{is_bdf};
 ghost use Rattle.common.specs.Limits.{max_states, mxordn_of, mxords_of, msbp_of, mxncf_of, maxord_of};
 ghost use Rattle.common.specs.Rules.{first_call_init_of, reset_of, tiny_of, order_in_force_of, el_of};
 ghost use Rattle.common.specs.Initial.{initial_of};
@@ -49,7 +49,7 @@ pub const SESSION_WORDS: usize = ATOL_AT + MAX_STATES;
 pub const SESSION_LENGTH: usize = 8 * SESSION_WORDS;
 // end of the words of a session
 
-#[derive(Clone, Copy)]
+#[derive(Clone, Copy, PartialEq, Eq)]
 pub enum MethodFamily {
     Adams,
     Bdf,
@@ -115,222 +115,164 @@ pub struct Common {
     pub setup: bool, // 1: first-call setup is due
 }
 
-// The largest Adams order in force.
-pub fn mxordn(s: Settings) -> usize
-    ensures { result ≡ mxordn_of s }
-{
-    if 12 < s.mxordn {
-        return 12;
-    }
-    s.mxordn
-}
-
-// The largest BDF order in force.
-pub fn mxords(s: Settings) -> usize
-    ensures { result ≡ mxords_of s }
-{
-    if 5 < s.mxords {
-        return 5;
-    }
-    s.mxords
-}
-
-pub fn msbp(s: Settings) -> usize
-    ensures { result ≡ msbp_of s }
-{
-    if s.msbp == 0 {
-        return 1;
-    }
-    s.msbp
-}
-
-pub fn mxncf(s: Settings) -> usize
-    ensures { result ≡ mxncf_of s }
-{
-    if s.mxncf == 0 {
-        return 1;
-    }
-    s.mxncf
-}
-
-pub fn is_bdf(meth: MethodFamily) -> bool
-    ensures { result ≡ is_bdf meth }
-{
-    match meth {
-        MethodFamily::Adams => false,
-        MethodFamily::Bdf => true,
+impl MethodFamily {
+    pub fn is_bdf(self) -> bool
+        ensures { result ≡ is_bdf self }
+    {
+        self == MethodFamily::Bdf
     }
 }
 
-// The largest order of the family in force.
-pub fn maxord(s: Settings, c: Common) -> usize
-    ensures { result ≡ maxord_of s c.meth }
-{
-    let meth = c.meth;
-    match meth {
-        MethodFamily::Adams => mxordn(s),
-        MethodFamily::Bdf => mxords(s),
+impl Settings {
+    // The largest Adams order in force.
+    pub fn mxordn(self) -> usize
+        ensures { result ≡ mxordn_of self }
+    {
+        self.mxordn.min(12)
+    }
+
+    // The largest BDF order in force.
+    pub fn mxords(self) -> usize
+        ensures { result ≡ mxords_of self }
+    {
+        self.mxords.min(5)
+    }
+
+    pub fn msbp(self) -> usize
+        ensures { result ≡ msbp_of self }
+    {
+        self.msbp.max(1)
+    }
+
+    pub fn mxncf(self) -> usize
+        ensures { result ≡ mxncf_of self }
+    {
+        self.mxncf.max(1)
+    }
+
+    // The largest order of a family in force.
+    pub fn maxord(self, meth: MethodFamily) -> usize
+        ensures { result ≡ maxord_of self meth }
+    {
+        match meth {
+            MethodFamily::Adams => self.mxordn(),
+            MethodFamily::Bdf => self.mxords(),
+        }
     }
 }
 
-pub fn stoda_first_call_init(s: Settings, c: Common) -> Common
-    requires { (s.mxordn ≤ 1000000) × (s.mxords ≤ 1000000) }
-    ensures { result ≡ first_call_init_of s c }
-{
-    let meth = c.meth;
-    let mut d = c;
-    d.lmax = maxord(s, c) + 1;
-    d.nq = 1;
-    d.ialth = 2;
-    d.rmax = 10000.0;
-    d.rc = 0.0;
-    d.el0 = 1.0;
-    d.convrate = 0.7;
-    d.nslp = 0;
-    d.due = is_bdf(meth);
-    d.icount = 1000020;
-    d.pdest = 0.0;
-    d.pdlast = 0.0;
-    d.table = 1;
-    d
-}
+// What needs the settings too is passed them.
+impl Common {
+    #[tactic(auto, unfolding(crate::specs::Rules::first_call_init_of))]
+    pub fn stoda_first_call_init(self, s: Settings) -> Common
+        requires { (s.mxordn ≤ 1000000) × (s.mxords ≤ 1000000) }
+        ensures { result ≡ first_call_init_of s self }
+    {
+        Common {
+            lmax: s.maxord(self.meth) + 1,
+            nq: 1,
+            ialth: 2,
+            rmax: 10000.0,
+            rc: 0.0,
+            el0: 1.0,
+            convrate: 0.7,
+            nslp: 0,
+            due: self.meth.is_bdf(),
+            icount: 1000020,
+            pdest: 0.0,
+            pdlast: 0.0,
+            table: 1,
+            ..self
+        }
+    }
 
-// The order whose coefficients el, el0 and conit are in force: that of the last reset.
-pub fn order_in_force(s: Settings, c: Common) -> usize
-    requires { 1 ≤ s.n }
-    ensures { result ≡ order_in_force_of s c }
-{
-    c.nqnyh / s.n
-}
+    // The order whose coefficients el, el0 and conit are in force: that of the last reset.
+    pub fn order_in_force(self, s: Settings) -> usize
+        requires { 1 ≤ s.n }
+        ensures { result ≡ order_in_force_of s self }
+    {
+        self.nqnyh / s.n
+    }
 
-// Coefficient j of the order in force.
-pub fn el(s: Settings, c: Common, j: usize) -> f64
-    requires { (1 ≤ s.n) × (c.table ≤ 2) × (s.n ≤ c.nqnyh) × (c.nqnyh ≤ 12 * s.n) × (j ≤ 12) }
-    ensures { result ≡ el_of s c j }
-{
-    coefficients::elco(c.table, order_in_force(s, c), j)
-}
+    // Coefficient j of the order in force.
+    pub fn el(self, s: Settings, j: usize) -> f64
+        requires { (1 ≤ s.n) × (self.table ≤ 2) × (s.n ≤ self.nqnyh) × (self.nqnyh ≤ 12 * s.n) × (j ≤ 12) }
+        ensures { result ≡ el_of s self j }
+    {
+        coefficients::elco(self.table, self.order_in_force(s), j)
+    }
 
-pub fn stoda_reset(s: Settings, c: Common) -> Common
-    requires { (s.n ≤ max_states) × (c.table ≤ 2) × (1 ≤ c.nq) × (c.nq ≤ 12) }
-    ensures { result ≡ reset_of s c }
-{
-    let el0 = coefficients::elco(c.table, c.nq, 0);
-    let nq = c.nq as u32;
-    let mut d = c;
-    d.nqnyh = c.nq * s.n;
-    d.rc = c.rc * el0 / c.el0;
-    d.el0 = el0;
-    d.conit = 0.5 / (nq as f64 + 2.0);
-    d
-}
+    #[tactic(auto, unfolding(crate::specs::Rules::reset_of))]
+    pub fn stoda_reset(self, s: Settings) -> Common
+        requires { (s.n ≤ max_states) × (self.table ≤ 2) × (1 ≤ self.nq) × (self.nq ≤ 12) }
+        ensures { result ≡ reset_of s self }
+    {
+        let el0 = coefficients::elco(self.table, self.nq, 0);
+        Common {
+            nqnyh: self.nq * s.n,
+            rc: self.rc * el0 / self.el0,
+            el0,
+            conit: 0.5 / (self.nq as u32 as f64 + 2.0),
+            ..self
+        }
+    }
 
-// Whether the step is as small as it may be: |h| ≤ hmin·1.00001.
-pub fn is_tiny(c: Common) -> bool
-    ensures { result ≡ tiny_of c }
-{
-    numbers::abs(c.h) <= c.hmin * 1.00001
-}
-
-// made by tools/record.py: the functions that name every field
-// The record with another family.
-pub fn with_family(c: Common, meth: MethodFamily) -> Common
-    ensures { result ≡ with_meth meth c }
-{
-    Common {
-        hmin: c.hmin,
-        hmxi: c.hmxi,
-        tn: c.tn,
-        h: c.h,
-        hu: c.hu,
-        told: c.told,
-        rc: c.rc,
-        el0: c.el0,
-        conit: c.conit,
-        rmax: c.rmax,
-        pdest: c.pdest,
-        pdlast: c.pdlast,
-        pdnorm: c.pdnorm,
-        convrate: c.convrate,
-        pnorm: c.pnorm,
-        rate: c.rate,
-        delp: c.delp,
-        nq: c.nq,
-        lmax: c.lmax,
-        nqnyh: c.nqnyh,
-        ialth: c.ialth,
-        icount: c.icount,
-        table: c.table,
-        nslp: c.nslp,
-        nst: c.nst,
-        nfe: c.nfe,
-        nje: c.nje,
-        nlu: c.nlu,
-        rejected: c.rejected,
-        total: c.total,
-        count: c.count,
-        kflag: c.kflag,
-        ncf: c.ncf,
-        m: c.m,
-        column: c.column,
-        meth: meth,
-        due: c.due,
-        jcur: c.jcur,
-        setup: c.setup,
+    // Whether the step is as small as it may be: |h| ≤ hmin·1.00001.
+    pub fn is_tiny(self) -> bool
+        ensures { result ≡ tiny_of self }
+    {
+        numbers::abs(self.h) <= self.hmin * 1.00001
     }
 }
 
-// The record at the start, with the first step where it is given; the first derivative is asked for.
-pub fn initial(s: Settings, x0: f64, h: f64, hmin: f64, hmxi: f64) -> Common
-    ensures { result ≡ initial_of s x0 h hmin hmxi }
-{
-    let a = mxordn(s);
-    let b = mxords(s);
-    let mut order = a;
-    if a < b {
-        order = b;
-    }
-    let lmax = order + 1;
-    Common {
-        hmin: hmin,
-        hmxi: hmxi,
-        tn: x0,
-        h: h,
-        hu: 0.0,
-        told: x0,
-        rc: 0.0,
-        el0: 1.0,
-        conit: 0.0,
-        rmax: 0.0,
-        pdest: 0.0,
-        pdlast: 0.0,
-        pdnorm: 0.0,
-        convrate: 0.7,
-        pnorm: 0.0,
-        rate: 0.0,
-        delp: 0.0,
-        nq: 1,
-        lmax: lmax,
-        nqnyh: s.n,
-        ialth: 2,
-        icount: 1000020,
-        table: 0,
-        nslp: 0,
-        nst: 0,
-        nfe: 1,
-        nje: 0,
-        nlu: 0,
-        rejected: 0,
-        total: 0,
-        count: 0,
-        kflag: 0,
-        ncf: 0,
-        m: 0,
-        column: 0,
-        meth: MethodFamily::Adams,
-        due: false,
-        jcur: false,
-        setup: true,
+// made by tools/record.py: the record at the start
+impl Common {
+    // The record at the start, with the first step where it is given; the first derivative is asked for.
+    #[tactic(auto, unfolding(crate::specs::Initial::initial_of))]
+    pub fn initial(s: Settings, x0: f64, h: f64, hmin: f64, hmxi: f64) -> Common
+        ensures { result ≡ initial_of s x0 h hmin hmxi }
+    {
+        Common {
+            hmin: hmin,
+            hmxi: hmxi,
+            tn: x0,
+            h: h,
+            hu: 0.0,
+            told: x0,
+            rc: 0.0,
+            el0: 1.0,
+            conit: 0.0,
+            rmax: 0.0,
+            pdest: 0.0,
+            pdlast: 0.0,
+            pdnorm: 0.0,
+            convrate: 0.7,
+            pnorm: 0.0,
+            rate: 0.0,
+            delp: 0.0,
+            nq: 1,
+            lmax: s.mxordn().max(s.mxords()) + 1,
+            nqnyh: s.n,
+            ialth: 2,
+            icount: 1000020,
+            table: 0,
+            nslp: 0,
+            nst: 0,
+            nfe: 1,
+            nje: 0,
+            nlu: 0,
+            rejected: 0,
+            total: 0,
+            count: 0,
+            kflag: 0,
+            ncf: 0,
+            m: 0,
+            column: 0,
+            meth: MethodFamily::Adams,
+            due: false,
+            jcur: false,
+            setup: true,
+        }
     }
 }
-// end of the functions that name every field
+// end of the record at the start

@@ -65,7 +65,7 @@ fn correct_adams(s: Settings, c: Common, work: &mut [f64]) -> Correction
     let n = s.n;
     adams_residual(work, n, c.h);
     let del = history::norm_at(work, n, common::Y * n).value;
-    adams_update(work, n, common::el(s, c, 0));
+    adams_update(work, n, c.el(s, 0));
     Correction {
         solved: true,
         del: del,
@@ -110,7 +110,7 @@ fn correct_bdf(s: Settings, c: Common, work: &mut [f64], ipiv: &[usize]) -> Corr
         },
         dense::Outcome::Done => {
             let del = history::norm_at(work, n, common::Y * n).value;
-            bdf_update(work, n, common::el(s, c, 0));
+            bdf_update(work, n, c.el(s, 0));
             Correction {
                 solved: true,
                 del: del,
@@ -127,8 +127,7 @@ pub fn correct(s: Settings, c: Common, work: &mut [f64], ipiv: &[usize]) -> Corr
     ensures { ◌≡◌ {A = Corrected} (record { solved = result.solved; del = result.del; work = work.new })
         (correct_of s c ipiv.now work.old) }
 {
-    let meth = c.meth;
-    if common::is_bdf(meth) {
+    if c.meth.is_bdf() {
         return correct_bdf(s, c, work, ipiv);
     }
     correct_adams(s, c, work)
@@ -188,7 +187,7 @@ fn estimated(s: Settings, c: Common) -> Common
     requires { StepInRange s c }
     ensures { result ≡ estimated_of s c }
 {
-    let pdest = numbers::max(c.pdest, c.rate / numbers::abs(c.h * common::el(s, c, 0)));
+    let pdest = numbers::max(c.pdest, c.rate / numbers::abs(c.h * c.el(s, 0)));
     let mut d = c;
     d.pdest = pdest;
     if pdest != 0.0 {
@@ -214,8 +213,7 @@ fn give_up(c: Common) -> Verdict
     ensures { result ≡ give_up_of c }
 {
     let current = c.jcur;
-    let meth = c.meth;
-    if common::is_bdf(meth) {
+    if c.meth.is_bdf() {
         if current {
             return Verdict {
                 pass: Pass::NoConvergence,
@@ -285,8 +283,7 @@ pub fn judge(s: Settings, c: Common, x: Correction, pnorm: f64) -> Verdict
         return converged(c);
     }
     if c.m == 0 {
-        let meth = c.meth;
-        if !common::is_bdf(meth) {
+        if !c.meth.is_bdf() {
             return further(s, c, del);
         }
     }

@@ -115,7 +115,7 @@ pub fn correct_columns(s: Settings, c: Common, work: &mut [f64])
 {
     let n = s.n;
     for j in 0..c.nq + 1 {
-        add_scaled(work, n, j, common::el(s, c, j), common::ACOR * n);
+        add_scaled(work, n, j, c.el(s, j), common::ACOR * n);
     }
 }
 
@@ -180,8 +180,7 @@ pub fn limited(c: Common, rh: f64) -> f64
 {
     let rh1 = numbers::min(rh, c.rmax);
     let rh2 = rh1 / numbers::max(1.0, numbers::abs(c.h) * c.hmxi * rh1);
-    let meth = c.meth;
-    if common::is_bdf(meth) {
+    if c.meth.is_bdf() {
         return rh2;
     }
     let d = pdh(c);
@@ -215,7 +214,7 @@ fn is_stale(s: Settings, c: Common) -> bool
     if numbers::abs(c.rc - 1.0) > 0.3 {
         return true;
     }
-    c.nslp + common::msbp(s) <= c.nst
+    c.nslp + s.msbp() <= c.nst
 }
 
 pub fn stoda_get_predicted_values(s: Settings, c: Common, work: &mut [f64]) -> Common
@@ -224,11 +223,10 @@ pub fn stoda_get_predicted_values(s: Settings, c: Common, work: &mut [f64]) -> C
     ensures { (result ≡ predicted_of s c) × (work.new ≡ predicted_work_of s c work.old) }
 {
     predict_columns(work, s.n, c.nq, c.nqnyh);
-    let meth = c.meth;
     let mut d = c;
     d.tn = c.tn + c.h;
     if is_stale(s, c) {
-        d.due = common::is_bdf(meth);
+        d.due = c.meth.is_bdf();
         return d;
     }
     d

@@ -253,8 +253,7 @@ fn ask_jacobian(s: Settings, c: Common, work: &mut [f64]) -> Turn
         ≡ ask_jacobian_of s (state c work.old p) }
 {
     let d = jacobian::begin_jacobian(c);
-    let meth = c.meth;
-    if common::is_bdf(meth) {
+    if c.meth.is_bdf() {
         let supplied = s.supplied;
         if supplied {
             return Turn {

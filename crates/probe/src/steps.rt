@@ -293,7 +293,7 @@ pub fn probe_stoda_first_call_init(floats: &mut [f64], counts: &mut [usize]) -> 
     if is_usable(floats, counts, ENOUGH_WORK) {
         let s = settings(floats, counts);
         let c = common(floats, counts);
-        let d = common::stoda_first_call_init(s, c);
+        let d = c.stoda_first_call_init(s);
         put_floats(d, floats);
         put_counts(d, counts);
         return 0;
@@ -309,7 +309,7 @@ pub fn probe_stoda_reset(floats: &mut [f64], counts: &mut [usize]) -> usize
     if is_usable(floats, counts, ENOUGH_WORK) {
         let s = settings(floats, counts);
         let c = common(floats, counts);
-        let d = common::stoda_reset(s, c);
+        let d = c.stoda_reset(s);
         put_floats(d, floats);
         put_counts(d, counts);
         return 0;

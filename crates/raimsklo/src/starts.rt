@@ -79,7 +79,7 @@ pub fn accept(
 {
     lay(s.n, y0, work);
     clear(pivots);
-    keep(s, common::initial(s, x0, h, hmin, hmxi), rtol, atol, bytes);
+    keep(s, Common::initial(s, x0, h, hmin, hmxi), rtol, atol, bytes);
     history::store(question, 0, y0);
     answers::answer(Question::Derivative(At { time: x0 }))
 }

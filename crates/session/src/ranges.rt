@@ -87,7 +87,7 @@ fn orders(s: Settings, c: Common) -> bool
 fn counters(s: Settings, c: Common) -> bool
     ensures { result ≡ counters_in_range s c }
 {
-    if c.ncf >= common::mxncf(s) {
+    if c.ncf >= s.mxncf() {
         return false;
     }
     if c.m >= s.maxcor {

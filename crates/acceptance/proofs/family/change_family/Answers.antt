@@ -8,7 +8,6 @@ use Rattle.acceptance.proofs.family.change_family.Goals as goal
 pub stoda_adjust_step_size-requires : goal.stoda_adjust_step_size-requires
 stoda_adjust_step_size-requires c =
     let t = c.requires.le_order in
-    rw c.with_family-d.ensures
     record {
       step_in_range = lower-range _ c.args.to.order refl refl refl refl t.0 t.1 c.requires.step_in_range;
       n_in_bounds = t.2;
@@ -18,4 +17,4 @@ pub returns : goal.returns
 unfolding changed_of
 returns c =
     let scaled = c.stoda_adjust_step_size.ensures in
-    rw (scaled.0, scaled.1, c.with_family-d.ensures, c.other.ensures)
+    rw (scaled.0, scaled.1, c.other.ensures)
