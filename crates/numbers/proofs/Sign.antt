@@ -3,6 +3,7 @@
 --     negative-bits             the sign is set where the pattern is 2^63 or more
 --     copysign_negative, copysign_positive    the magnitude, negated where the other's sign is set
 --     signum_is, negative_is, nan_positive    the library's words for the same, and that a NaN counts as positive
+--     is_positive               what is above 0 and not infinity
 -- Assumes nothing.
 use mathlib.Core.Path.{◌≡◌, refl, sym}
 use mathlib.Core.Bool.{Bool, true, false}
@@ -10,15 +11,16 @@ use Prim.Native.Nat.{zero, suc, ◌*◌, ◌^◌, ◌<◌}
 use native.Mathlib.Nat.{zero-mul, zero-add, one-mul, mul-one, mul-pos, zero-lt-suc, pow-suc}
 use native.Mathlib.Omega.{arith}
 use lib.IntN.{ℤ, pos, negsuc}
-use lib.Dec.{T, eqb→eq, leb}
+use lib.Dec.{T, eqb→eq, leb, lt→ltb}
 use lib.Ieee as Ieee
 use lib.Ieee.{Float, nan, inf, fin, binary64, up, down, top}
 use lib.Ieee.Fits.{up_pos}
 use lib.Ieee.Bits.{to_bits-lt}
+use lib.Ieee.Positive.{positive}
 use borrow.Author.Tests.{lt-ltb, le-leb, lt-leb}
 use Rattle.std.specs.Float.{float_signum, is_sign_negative}
 use Rattle.loops.proofs.Test.{differs}
-use Rattle.numbers.specs.Float.{zero_f}
+use Rattle.numbers.specs.Float.{lit, zero_f}
 use Rattle.numbers.specs.Sign.{abs_of, negative, signum_of, copysign_of}
 use Rattle.numbers.proofs.Unique.{round-own}
 
@@ -93,3 +95,15 @@ unfolding Ieee.is_nan negative
 nan_positive nan h = refl
 nan_positive (inf s) h = differs h
 nan_positive (fin s m e) h = differs h
+
+-- a number above 0, short of infinity
+pub is_positive : (x : Float) → Ieee.eq x (lit 0x7ff0_0000_0000_0000) ≡ false → Ieee.lt zero_f x ≡ true
+    → T (positive x)
+unfolding Ieee.eq Ieee.lt Ieee.of_bits
+is_positive nan g h = differs h
+is_positive (inf true) g h = differs h
+is_positive (inf false) g h = differs (sym g)
+is_positive (fin true zero e) g h = differs h
+is_positive (fin false zero e) g h = differs (simp zero-mul at h)
+is_positive (fin true (suc m) e) g h = differs h
+is_positive (fin false (suc m) e) g h = lt→ltb 0 (suc m) (zero-lt-suc m)
