@@ -33,3 +33,5 @@ module _ (b : ℕ) (p : 0 < b) (h : b < 0x7ff0_0000_0000_0000) where
 
   pub root_digits_short : digits_of (even_of (normal_of b)).digits < 2 ^ 54
   root_digits_short = (root _ even_digits).short
+
+pub ruleset bounds = (normal_digits, normal_exponent, even_digits, even_exponent, root_digits_short)

@@ -2,6 +2,7 @@
 --     root_of_zero, root_of_infinity, root_of_other     what the code returns without a digit
 --     positive-bits                 the bits of a finite number above 0 lie above 0 and below infinity's
 --     finite_bits, root_of_bits     those bits of such an x, and the root by them
+--     tests                         these, by one name
 -- Assumes nothing.
 use mathlib.Core.Path.{◌≡◌, refl, sym, ◌∙◌}
 use mathlib.Core.Bool.{Bool, true, false}
@@ -18,7 +19,8 @@ use lib.Ieee.Positive.{positive}
 use borrow.Author.Tests.{ne_eqb, lt-ltb}
 use Rattle.loops.proofs.Test.{differs}
 use Rattle.numbers.specs.Float.{lit, zero_f}
-use Rattle.numbers.proofs.Bits.{past-infinity}
+use Rattle.numbers.proofs.Bits.{nan_literal, past-infinity}
+use Rattle.numbers.proofs.Sign.{is_positive}
 use Rattle.sqrt.specs.Sqrt.{sqrt_bits, sqrt_of}
 
 -- a number that is not 0, as the tests see it: its size times the other denominator, which is 1
@@ -117,3 +119,6 @@ root_of_bits (inf s) p = absurd p
 root_of_bits (fin true m e) p = absurd p
 root_of_bits (fin false zero e) p = absurd p
 root_of_bits (fin false (suc m) e) p = refl
+
+-- what the tests of `sqrt` say
+pub ruleset tests = (root_of_zero, root_of_infinity, root_of_other, finite_bits, root_of_bits, is_positive, nan_literal)

@@ -102,7 +102,7 @@ fn root_digits(n: u64) -> u64
 }
 
 // The pattern of the root of a pattern above 0 and finite: 53 digits, the 54th rounds.
-#[tactic(auto, using(crate::proofs::Bounds::normal_digits, crate::proofs::Bounds::normal_exponent, crate::proofs::Bounds::even_digits, crate::proofs::Bounds::even_exponent, crate::proofs::Bounds::root_digits_short))]
+#[tactic(auto, using(crate::proofs::Bounds::bounds))]
 fn root_bits(bits: u64) -> u64
     requires { (0 < bits) × (bits < 0x7ff0_0000_0000_0000) }
     ensures { result ≡ sqrt_bits bits }
@@ -114,7 +114,7 @@ fn root_bits(bits: u64) -> u64
 }
 
 // Both zeros and +infinity give themselves; a NaN and every number below 0 a NaN.
-#[tactic(auto, using(crate::proofs::Cases::root_of_zero, crate::proofs::Cases::root_of_infinity, crate::proofs::Cases::root_of_other, crate::proofs::Cases::finite_bits, crate::proofs::Cases::root_of_bits, numbers::proofs::Sign::is_positive, numbers::proofs::Bits::nan_literal))]
+#[tactic(auto, using(crate::proofs::Cases::tests))]
 pub fn sqrt(x: f64) -> f64
     ensures { result ≡ sqrt_of x }
 {
