@@ -41,10 +41,8 @@ fn root_bits(x: f64, k: usize) -> u64
     ensures { result ≡ root_bits x k }
 {
     let mut bits = 0;
-    let mut bit = 0x4000_0000_0000_0000;
-    for _ in 0..63usize {
-        bits = keep(x, k, bits, bit);
-        bit /= 2;
+    for place in (0..63u32).rev() {
+        bits = keep(x, k, bits, 1 << place);
     }
     bits
 }
