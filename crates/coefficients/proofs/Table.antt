@@ -13,19 +13,19 @@ use Rattle.coefficients.specs.Cfode.{cfode_of}
 use Rattle.coefficients.specs.Table.{elco_of, tesco_of, cm1_of, cm2_of}
 
 pub elco_is : (t q i : ℕ)
-    → elco_of t q i ≡ cond (eqb t 0) zero_f (get_or cfode_of (192 * (t - 1) + 0 + 13 * (q - 1) + i) nan)
+    → elco_of t q i ≡ cond (eqb t 0) zero_f (get_or cfode_of (192 * (t - 1) + 13 * (q - 1) + i) nan)
 unfolding elco_of
 elco_is zero q i = refl
 elco_is (suc t) q i =
-    let e : 192 * (suc t - 1) + 0 + 13 * (q - 1) + i ≡ 192 * t + 13 * (q - 1) + i = omega arith in
+    let e : suc t - 1 ≡ t = omega arith in
     rw (e, ne_eqb (suc t) 0 (λ e. omega arith))
 
 pub tesco_is : (t q i : ℕ)
-    → tesco_of t q i ≡ cond (eqb t 0) zero_f (get_or cfode_of (192 * (t - 1) + 156 + 3 * (q - 1) + i) nan)
+    → tesco_of t q i ≡ cond (eqb t 0) zero_f (get_or cfode_of (192 * (t - 1) + 3 * (q - 1) + (156 + i)) nan)
 unfolding tesco_of
 tesco_is zero q i = refl
 tesco_is (suc t) q i =
-    let e : suc t - 1 ≡ t = omega arith in
+    let e : 192 * (suc t - 1) + 3 * (q - 1) + (156 + i) ≡ 192 * t + 156 + 3 * (q - 1) + i = omega arith in
     rw (e, ne_eqb (suc t) 0 (λ e. omega arith))
 
 pub cm1_is : (t q : ℕ) → cm1_of t q ≡ cond (eqb t 0) zero_f (tesco_of 1 q 1 ⊗ elco_of 1 q q)

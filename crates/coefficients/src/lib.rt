@@ -446,17 +446,17 @@ pub fn coefficient(i: usize) -> f64
     }
 }
 
-// Number i of an order in the table in force, 0 where there is none yet: each family's part of the table has such
-// numbers from place `first` on, `count` an order.
+// The number of an order in the table in force, 0 where there is none yet. Order 1's stands at `place`, that of each
+// further order `count` numbers on.
 // A table is a number, 0 none yet, 1 Adams, 2 BDF, since it is a word of a stored session (docs/SESSION.md).
-fn number(table: usize, first: usize, count: usize, order: usize, i: usize) -> f64
-    requires { (table ≤ 2) × (1 ≤ order) × (order ≤ 12) × (first + count * (order - 1) + i < 192) }
-    ensures { result ≡ cond (eqb table 0) zero_f (get_or cfode_of (192 * (table - 1) + first + count * (order - 1) + i) nan) }
+fn number(table: usize, place: usize, count: usize, order: usize) -> f64
+    requires { (table ≤ 2) × (1 ≤ order) × (order ≤ 12) × (count * (order - 1) + place < 192) }
+    ensures { result ≡ cond (eqb table 0) zero_f (get_or cfode_of (192 * (table - 1) + count * (order - 1) + place) nan) }
 {
     if table == 0 {
         0.0
     } else {
-        coefficient(192 * (table - 1) + first + count * (order - 1) + i)
+        coefficient(192 * (table - 1) + count * (order - 1) + place)
     }
 }
 
@@ -466,7 +466,7 @@ pub fn elco(table: usize, order: usize, i: usize) -> f64
     requires { (table ≤ 2) × (1 ≤ order) × (order ≤ 12) × (i ≤ 12) }
     ensures { result ≡ elco_of table order i }
 {
-    number(table, 0, 13, order, i)
+    number(table, i, 13, order)
 }
 
 // Error entry i of the given order in the table in force.
@@ -475,7 +475,7 @@ pub fn tesco(table: usize, order: usize, i: usize) -> f64
     requires { (table ≤ 2) × (1 ≤ order) × (order ≤ 12) × (i ≤ 2) }
     ensures { result ≡ tesco_of table order i }
 {
-    number(table, 156, 3, order, i)
+    number(table, 156 + i, 3, order)
 }
 
 // The error constant of a family's method of the given order; 0 before the first setup.
