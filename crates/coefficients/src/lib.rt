@@ -446,17 +446,17 @@ pub fn coefficient(i: usize) -> f64
     }
 }
 
-// The number of an order in the table in force, 0 where there is none yet. Order 1's stands at `place`, that of each
-// further order `count` numbers on.
+// The number of an order in the table in force, 0 where there is none yet. Order 1's stands at `base`, that of each
+// further order `size` numbers on.
 // A table is a number, 0 none yet, 1 Adams, 2 BDF, since it is a word of a stored session (docs/SESSION.md).
-fn number(table: usize, place: usize, count: usize, order: usize) -> f64
-    requires { (table ≤ 2) × (1 ≤ order) × (order ≤ 12) × (count * (order - 1) + place < 192) }
-    ensures { result ≡ cond (eqb table 0) zero_f (get_or cfode_of (192 * (table - 1) + count * (order - 1) + place) nan) }
+fn number(table: usize, base: usize, size: usize, order: usize) -> f64
+    requires { (table ≤ 2) × (1 ≤ order) × (order ≤ 12) × (size * (order - 1) + base < 192) }
+    ensures { result ≡ cond (eqb table 0) zero_f (get_or cfode_of (192 * (table - 1) + size * (order - 1) + base) nan) }
 {
     if table == 0 {
         0.0
     } else {
-        coefficient(192 * (table - 1) + count * (order - 1) + place)
+        coefficient(192 * (table - 1) + size * (order - 1) + base)
     }
 }
 
