@@ -3,3 +3,4 @@ pub mod Test
 pub mod Product
 pub mod Published
 pub mod Setup
+pub mod Table

@@ -4,36 +4,25 @@
 -- Assumes nothing.
 use mathlib.Core.Path.{subst}
 use mathlib.Core.Logic.{inl, inr}
-use mathlib.Core.Bool.{Bool, true, false}
+use mathlib.Core.Bool.{Bool, true, false, ◌&&◌}
 use Prim.Native.Nat.{ℕ, zero, suc, ◌+◌, ◌-◌, ◌*◌, ◌≤◌, ◌<◌}
 use native.Mathlib.Nat.{eq-or-lt_of_le}
 use native.Mathlib.Omega.{arith}
 use lib.Dec.{T, leb, ltb, leb→le, ltb→lt}
+use lib.Ieee.Fits.{and_l, and_r}
 use lib.Ieee.{Float, nan, inf, fin, binary64, up, down, of_bits, to_bits}
 use Rattle.coefficients.specs.Published.{Ratio, ◌over◌, bottom, AtMost, AtLeast, WithinUnits}
 
-abbrev pub both : Bool → Bool → Bool
-both true b = b
-both false b = false
-
-both_left : (a b : Bool) → T (both a b) → T a
-both_left true b t = tt
-both_left false b t = t
-
-both_right : (a b : Bool) → T (both a b) → T b
-both_right true b t = t
-both_right false b t = absurd t
-
 abbrev pub all : ℕ → ℕ → (ℕ → Bool) → Bool
 all zero a f = true
-all (suc n) a f = both (f a) (all n (suc a) f)
+all (suc n) a f = f a && all n (suc a) f
 
 pub all-at : (n a : ℕ) (f : ℕ → Bool) → T (all n a f) → (k : ℕ) → a ≤ k → k < a + n → T (f k)
 all-at zero a f t k h g = absurd (omega arith)
 all-at (suc n) a f t k h g =
     elim (eq-or-lt_of_le h) [
-      | inl e ↦ subst (λ (j : ℕ). T (f j)) e (both_left (f a) (all n (suc a) f) t)
-      | inr l ↦ all-at n (suc a) f (both_right (f a) (all n (suc a) f) t) k l (omega arith)
+      | inl e ↦ subst (λ (j : ℕ). T (f j)) e (and_l (f a) (all n (suc a) f) t)
+      | inr l ↦ all-at n (suc a) f (and_r (f a) (all n (suc a) f) t) k l (omega arith)
     ]
 
 abbrev at_most : Float → Ratio → Bool
@@ -68,14 +57,14 @@ module _ (n : ℕ) (x : Float) (f : Ratio) where
   above = at_least (of_bits binary64 (to_bits binary64 x + n)) f
 
   abbrev within : Bool
-  within = both (ltb 0 (bottom f)) (both below above)
+  within = ltb 0 (bottom f) && (below && above)
 
   is_within : T within → WithinUnits n x f
   is_within t =
-      let u = both_right (ltb 0 (bottom f)) (both below above) t in record {
-        proper = ltb→lt 0 (bottom f) (both_left (ltb 0 (bottom f)) (both below above) t);
-        low = at-most (of_bits binary64 (to_bits binary64 x - n)) f (both_left below above u);
-        high = at-least (of_bits binary64 (to_bits binary64 x + n)) f (both_right below above u);
+      let u = and_r (ltb 0 (bottom f)) (below && above) t in record {
+        proper = ltb→lt 0 (bottom f) (and_l (ltb 0 (bottom f)) (below && above) t);
+        low = at-most (of_bits binary64 (to_bits binary64 x - n)) f (and_l below above u);
+        high = at-least (of_bits binary64 (to_bits binary64 x + n)) f (and_r below above u);
       }
 
 -- orders 1 to m, and at order q the entries from `first q` to `last q`

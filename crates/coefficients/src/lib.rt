@@ -2,8 +2,9 @@
 // One table of 384 numbers: for each family 12 orders of 13 numbers (elco) and 12 of 3 (tesco). Unset ones are 0.
 #![tactic(auto)]
 
-ghost use Rattle.std.specs.Prelude.{◌≡◌, ◌≤◌, ◌<◌, get_or};
+ghost use Rattle.std.specs.Prelude.{◌≡◌, ◌+◌, ◌-◌, ◌*◌, ◌≤◌, ◌<◌, cond, eqb, get_or};
 ghost use Rattle.std.specs.Float.{nan};
+ghost use Rattle.numbers.specs.Float.{◌⊗◌, zero_f};
 ghost use Rattle.coefficients.specs.Cfode.{cfode_of};
 ghost use Rattle.coefficients.specs.Table.{elco_of, tesco_of, cm1_of, cm2_of, sm1_of};
 
@@ -403,6 +404,7 @@ const SM1: [f64; 12] = [
 ];
 
 // Entry i of the table.
+#[tactic(auto, unfolding(crate::specs::Cfode::cfode_of))]
 fn entry(i: usize) -> f64
     requires { i < 384 }
     ensures { result ≡ get_or cfode_of i nan }
@@ -412,6 +414,7 @@ fn entry(i: usize) -> f64
 
 // Entry i of the table. A variable index writes the whole array to the stack, a literal one is a constant: so the
 // places of orders 1 and 2, which runs read, are named here.
+#[tactic(auto, unfolding(crate::specs::Cfode::cfode_of))]
 pub fn coefficient(i: usize) -> f64
     requires { i < 384 }
     ensures { result ≡ get_or cfode_of i nan }
@@ -443,51 +446,70 @@ pub fn coefficient(i: usize) -> f64
     }
 }
 
-// Coefficient i of the given order in the table in force: 0 none yet, all zeros; 1 Adams; 2 BDF.
+// The number of an order in the table in force, 0 where there is none yet. Order 1's stands at `base`, that of each
+// further order `size` numbers on.
+// A table is a number, 0 none yet, 1 Adams, 2 BDF, since it is a word of a stored session (docs/SESSION.md).
+fn number(table: usize, base: usize, size: usize, order: usize) -> f64
+    requires { (table ≤ 2) × (1 ≤ order) × (order ≤ 12) × (size * (order - 1) + base < 192) }
+    ensures { result ≡ cond (eqb table 0) zero_f (get_or cfode_of (192 * (table - 1) + size * (order - 1) + base) nan) }
+{
+    if table == 0 {
+        0.0
+    } else {
+        coefficient(192 * (table - 1) + size * (order - 1) + base)
+    }
+}
+
+// Coefficient i of the given order in the table in force: all zeros before the first setup.
+#[tactic(auto, using(crate::proofs::Table::elco_is))]
 pub fn elco(table: usize, order: usize, i: usize) -> f64
     requires { (table ≤ 2) × (1 ≤ order) × (order ≤ 12) × (i ≤ 12) }
     ensures { result ≡ elco_of table order i }
 {
-    if table == 0 {
-        return 0.0;
-    }
-    coefficient(192 * (table - 1) + 13 * (order - 1) + i)
+    number(table, i, 13, order)
 }
 
 // Error entry i of the given order in the table in force.
+#[tactic(auto, using(crate::proofs::Table::tesco_is))]
 pub fn tesco(table: usize, order: usize, i: usize) -> f64
     requires { (table ≤ 2) × (1 ≤ order) × (order ≤ 12) × (i ≤ 2) }
     ensures { result ≡ tesco_of table order i }
 {
-    if table == 0 {
-        return 0.0;
-    }
-    coefficient(192 * (table - 1) + 156 + 3 * (order - 1) + i)
+    number(table, 156 + i, 3, order)
 }
 
-// The error constant of the Adams method of the given order; 0 before the first setup.
+// The error constant of a family's method of the given order; 0 before the first setup.
+fn error_constant(table: usize, family: usize, order: usize) -> f64
+    requires { (1 ≤ family) × (family ≤ 2) × (1 ≤ order) × (order ≤ 12) }
+    ensures { result ≡ cond (eqb table 0) zero_f (tesco_of family order 1 ⊗ elco_of family order order) }
+{
+    if table == 0 {
+        0.0
+    } else {
+        tesco(family, order, 1) * elco(family, order, order)
+    }
+}
+
+// The error constant of the Adams method of the given order.
+#[tactic(auto, using(crate::proofs::Table::cm1_is))]
 pub fn cm1(table: usize, order: usize) -> f64
     requires { (1 ≤ order) × (order ≤ 12) }
     ensures { result ≡ cm1_of table order }
 {
-    if table == 0 {
-        return 0.0;
-    }
-    tesco(1, order, 1) * elco(1, order, order)
+    error_constant(table, 1, order)
 }
 
-// The error constant of the BDF method of the given order; 0 before the first setup.
+// The error constant of the BDF method of the given order.
+#[tactic(auto, using(crate::proofs::Table::cm2_is))]
 pub fn cm2(table: usize, order: usize) -> f64
     requires { (1 ≤ order) × (order ≤ 5) }
     ensures { result ≡ cm2_of table order }
 {
-    if table == 0 {
-        return 0.0;
-    }
-    tesco(2, order, 1) * elco(2, order, order)
+    error_constant(table, 2, order)
 }
 
 // The stability limit of the Adams method of the given order.
+#[tactic(auto, unfolding(crate::specs::Table::sm1_of))]
 pub fn sm1(order: usize) -> f64
     requires { (1 ≤ order) × (order ≤ 12) }
     ensures { result ≡ sm1_of order }

@@ -1,6 +1,9 @@
 -- The sign, by the tests that the code makes.
---     abs_positive, abs-other   a number above 0 is its own magnitude; any other is subtracted from 0
+--     abs_positive, abs_other   a number above 0 is its own magnitude; any other is subtracted from 0
 --     negative-bits             the sign is set where the pattern is 2^63 or more
+--     copysign_negative, copysign_positive    the magnitude, negated where the other's sign is set
+--     signum_is, negative_is, nan_positive    the library's words for the same, and that a NaN counts as positive
+--     is_positive               what is above 0 and not infinity
 -- Assumes nothing.
 use mathlib.Core.Path.{◌≡◌, refl, sym}
 use mathlib.Core.Bool.{Bool, true, false}
@@ -8,14 +11,16 @@ use Prim.Native.Nat.{zero, suc, ◌*◌, ◌^◌, ◌<◌}
 use native.Mathlib.Nat.{zero-mul, zero-add, one-mul, mul-one, mul-pos, zero-lt-suc, pow-suc}
 use native.Mathlib.Omega.{arith}
 use lib.IntN.{ℤ, pos, negsuc}
-use lib.Dec.{T, eqb→eq, leb}
+use lib.Dec.{T, eqb→eq, leb, lt→ltb}
 use lib.Ieee as Ieee
 use lib.Ieee.{Float, nan, inf, fin, binary64, up, down, top}
 use lib.Ieee.Fits.{up_pos}
 use lib.Ieee.Bits.{to_bits-lt}
+use lib.Ieee.Positive.{positive}
 use borrow.Author.Tests.{lt-ltb, le-leb, lt-leb}
+use Rattle.std.specs.Float.{float_signum, is_sign_negative}
 use Rattle.loops.proofs.Test.{differs}
-use Rattle.numbers.specs.Float.{zero_f, one_f}
+use Rattle.numbers.specs.Float.{lit, zero_f}
 use Rattle.numbers.specs.Sign.{abs_of, negative, signum_of, copysign_of}
 use Rattle.numbers.proofs.Unique.{round-own}
 
@@ -38,16 +43,16 @@ abs_positive (inf false) h = refl
 abs_positive (fin true m e) h = differs h
 abs_positive (fin false m e) h = refl
 
-pub abs-other : (x : Float) → T (Ieee.fits binary64 x) → Ieee.lt zero_f x ≡ false
+pub abs_other : (x : Float) → T (Ieee.fits binary64 x) → Ieee.lt zero_f x ≡ false
     → abs_of x ≡ Ieee.sub binary64 zero_f x
 unfolding abs_of Ieee.lt Ieee.sub Ieee.add Ieee.sum Ieee.neg Ieee.of_bits Ieee.fits
-abs-other nan g h = refl
-abs-other (inf true) g h = refl
-abs-other (inf false) g h = differs (sym h)
-abs-other (fin true zero e) g h = rw (zero_exponent true e g)
-abs-other (fin false zero e) g h = rw (zero_exponent false e g)
-abs-other (fin true (suc m) e) g h = rw (zero-mul, zero-add, mul-one, one-mul) (sym (round-own binary64 false m e g))
-abs-other (fin false (suc m) e) g h =
+abs_other nan g h = refl
+abs_other (inf true) g h = refl
+abs_other (inf false) g h = differs (sym h)
+abs_other (fin true zero e) g h = rw (zero_exponent true e g)
+abs_other (fin false zero e) g h = rw (zero_exponent false e g)
+abs_other (fin true (suc m) e) g h = rw (zero-mul, zero-add, mul-one, one-mul) (sym (round-own binary64 false m e g))
+abs_other (fin false (suc m) e) g h =
     let p : 0 * down e < suc m * up e * 1 = omega (arith, mul-pos (zero-lt-suc m) (up_pos e), zero-mul (down e)) in
     differs (sym (rw (lt-ltb (0 * down e) (suc m * up e * 1) p) at h))
 
@@ -61,27 +66,44 @@ negative-bits (fin true m e) g = le-leb (top binary64) (Ieee.to_bits binary64 (f
 negative-bits (fin false m e) g =
     lt-leb (top binary64) (Ieee.to_bits binary64 (fin false m e)) (omega (arith, to_bits-lt binary64 (fin true m e) g))
 
--- 1 with the sign, by the tests that the code makes
-pub signum-negative : (x : Float) → negative x ≡ true → Ieee.neg one_f ≡ signum_of x
-unfolding signum_of negative Ieee.neg Ieee.of_bits
-signum-negative nan h = differs h
-signum-negative (inf s) h = rw h
-signum-negative (fin s m e) h = rw h
-
-pub signum-positive : (x : Float) → Ieee.ne x x ≡ false → negative x ≡ false → one_f ≡ signum_of x
-unfolding signum_of negative Ieee.ne Ieee.of_bits
-signum-positive nan n h = differs (sym n)
-signum-positive (inf s) n h = rw h
-signum-positive (fin s m e) n h = rw h
-
-pub copysign-negative : (x y : Float) → negative y ≡ true → Ieee.neg (abs_of x) ≡ copysign_of x y
+pub copysign_negative : (x y : Float) → negative y ≡ true → Ieee.neg (abs_of x) ≡ copysign_of x y
 unfolding copysign_of abs_of Ieee.neg
-copysign-negative nan y h = refl
-copysign-negative (inf s) y h = rw h
-copysign-negative (fin s m e) y h = rw h
+copysign_negative nan y h = refl
+copysign_negative (inf s) y h = rw h
+copysign_negative (fin s m e) y h = rw h
 
-pub copysign-positive : (x y : Float) → negative y ≡ false → abs_of x ≡ copysign_of x y
+pub copysign_positive : (x y : Float) → negative y ≡ false → abs_of x ≡ copysign_of x y
 unfolding copysign_of abs_of
-copysign-positive nan y h = refl
-copysign-positive (inf s) y h = rw h
-copysign-positive (fin s m e) y h = rw h
+copysign_positive nan y h = refl
+copysign_positive (inf s) y h = rw h
+copysign_positive (fin s m e) y h = rw h
+
+pub signum_is : (x : Float) → float_signum x ≡ signum_of x
+unfolding float_signum signum_of
+signum_is nan = refl
+signum_is (inf s) = refl
+signum_is (fin s m e) = refl
+
+pub negative_is : (x : Float) → is_sign_negative x ≡ negative x
+unfolding is_sign_negative negative
+negative_is nan = refl
+negative_is (inf s) = refl
+negative_is (fin s m e) = refl
+
+pub nan_positive : (x : Float) → Ieee.is_nan x ≡ true → negative x ≡ false
+unfolding Ieee.is_nan negative
+nan_positive nan h = refl
+nan_positive (inf s) h = differs h
+nan_positive (fin s m e) h = differs h
+
+-- a number above 0, short of infinity
+pub is_positive : (x : Float) → Ieee.eq x (lit 0x7ff0_0000_0000_0000) ≡ false → Ieee.lt zero_f x ≡ true
+    → T (positive x)
+unfolding Ieee.eq Ieee.lt Ieee.of_bits
+is_positive nan g h = differs h
+is_positive (inf true) g h = differs h
+is_positive (inf false) g h = differs (sym g)
+is_positive (fin true zero e) g h = differs h
+is_positive (fin false zero e) g h = differs (simp zero-mul at h)
+is_positive (fin true (suc m) e) g h = differs h
+is_positive (fin false (suc m) e) g h = lt→ltb 0 (suc m) (zero-lt-suc m)

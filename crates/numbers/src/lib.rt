@@ -8,123 +8,95 @@ ghost use Rattle.std.specs.Float.{nan, binary64};
 ghost use Rattle.numbers.specs.Sign.{abs_of, negative, signum_of, copysign_of, refused};
 ghost use Rattle.numbers.specs.Order.{max_of, min_of, clamp_of};
 
+use std::num::{f64_from_bits_with_nan, f64_to_bits_with_nan};
+
 // x with its sign cleared: -0.0 gives +0.0, and a NaN stays a NaN.
+#[tactic(auto, using(crate::proofs::Sign::abs_positive, crate::proofs::Sign::abs_other))]
 pub fn abs(x: f64) -> f64
     ensures { result ≡ abs_of x }
 {
-    if x > 0.0 {
-        return x;
-    }
-    0.0 - x
+    if x > 0.0 { x } else { 0.0 - x }
 }
 
-// The larger of the two; a NaN is ignored.
+// The larger of the two; a NaN is ignored. Of +0 and -0 the first is taken, here and in `min`: std's leave that open.
+#[tactic(auto, unfolding(crate::specs::Order::max_of), using(crate::proofs::Bits::nan_test))]
 pub fn max(a: f64, b: f64) -> f64
     ensures { result ≡ max_of a b }
 {
-    if a < b {
-        return b;
-    }
-    if a != a {
-        return b;
-    }
-    a
+    if a < b || a.is_nan() { b } else { a }
 }
 
 // The smaller of the two; a NaN is ignored.
+#[tactic(auto, unfolding(crate::specs::Order::min_of), using(crate::proofs::Bits::nan_test))]
 pub fn min(a: f64, b: f64) -> f64
     ensures { result ≡ min_of a b }
 {
-    if b < a {
-        return b;
-    }
-    if a != a {
-        return b;
-    }
-    a
+    if b < a || a.is_nan() { b } else { a }
 }
 
-// x moved into low to high; a NaN stays a NaN.
+// x moved into low to high; a NaN stays a NaN. std's asks that low is at most high; here high counts where it is not.
+#[tactic(auto, unfolding(crate::specs::Order::clamp_of))]
 pub fn clamp(x: f64, low: f64, high: f64) -> f64
     ensures { result ≡ clamp_of x low high }
 {
     if x < low {
-        if high < low {
-            return high;
-        }
-        return low;
+        if high < low { high } else { low }
+    } else if high < x {
+        high
+    } else {
+        x
     }
-    if high < x {
-        return high;
-    }
-    x
 }
 
-// A NaN: there is no literal for one.
+#[tactic(auto, using(crate::proofs::Bits::nan_literal))]
 pub fn not_a_number() -> f64
     ensures { result ≡ nan }
 {
-    0.0 / 0.0
+    f64::NAN
 }
 
 // The pattern of any float; every NaN has the same one.
 pub fn to_bits(x: f64) -> u64
     ensures { result ≡ Ieee.to_bits binary64 x }
 {
-    if x != x {
-        return 0x7ff8_0000_0000_0000;
-    }
-    f64::to_bits(x)
+    f64_to_bits_with_nan(x)
 }
 
 // The float of any pattern; every pattern of a NaN gives a NaN.
 pub fn from_bits(b: u64) -> f64
     ensures { result ≡ Ieee.of_bits binary64 b }
 {
-    let magnitude = b % 0x8000_0000_0000_0000;
-    if magnitude <= 0x7ff0_0000_0000_0000 {
-        return f64::from_bits(b);
-    }
-    0.0 / 0.0
+    f64_from_bits_with_nan(b)
 }
 
 // Whether the sign is set: of -0.0 too, and of no NaN.
+#[tactic(auto, using(crate::proofs::Sign::negative_is, crate::proofs::Sign::nan_positive))]
 pub fn is_sign_negative(x: f64) -> bool
     ensures { result ≡ negative x }
 {
-    0x8000_0000_0000_0000 <= to_bits(x)
+    !x.is_nan() && x.is_sign_negative()
 }
 
 // 1.0 with the sign of x, zeros included, or a NaN.
+#[tactic(auto, using(crate::proofs::Sign::signum_is))]
 pub fn signum(x: f64) -> f64
     ensures { result ≡ signum_of x }
 {
-    if x != x {
-        return x;
-    }
-    if is_sign_negative(x) {
-        return -1.0;
-    }
-    1.0
+    x.signum()
 }
 
-// x with the sign of s, where a NaN counts as positive; a NaN stays a NaN.
+// x with the sign of s, where a NaN counts as positive: std's asks that s is none. An x that is a NaN stays one.
+#[tactic(auto, using(crate::proofs::Sign::copysign_negative, crate::proofs::Sign::copysign_positive))]
 pub fn copysign(x: f64, s: f64) -> f64
     ensures { result ≡ copysign_of x s }
 {
-    let a = abs(x);
-    if is_sign_negative(s) {
-        return -a;
-    }
-    a
+    if is_sign_negative(s) { -abs(x) } else { abs(x) }
 }
 
 // Condition 11: a step size that is zero, a NaN, or of another sign than the direction, which may be a NaN.
+#[tactic(auto, unfolding(crate::specs::Sign::refused))]
 pub fn is_refused(h: f64, direction: f64) -> bool
     ensures { result ≡ refused h direction }
 {
-    if h == 0.0 {
-        return true;
-    }
-    signum(h) != direction
+    h == 0.0 || signum(h) != direction
 }

@@ -4,13 +4,12 @@ use mathlib.Core.Path.{◌≡◌, refl, sym}
 use mathlib.Core.Bool.{true, false}
 use Prim.Native.Nat.{ℕ, zero, suc, ◌*◌, ◌≤◌, ◌<◌}
 use native.Mathlib.Nat.{zero-mul, mul-pos, zero-lt-suc}
+use native.Mathlib.Decide.{dec_le}
 use native.Mathlib.Omega.{arith}
 use lib.IntN.{ℤ}
-use lib.Dec.{T, lt→ltb}
 use lib.Ieee as Ieee
 use lib.Ieee.{Float, nan, inf, fin, binary64, up, down}
 use lib.Ieee.Fits.{up_pos}
-use lib.Ieee.Positive.{positive}
 use borrow.Author.Tests.{lt-ltb, ne_eqb, le-leb, lt-leb}
 use Rattle.loops.proofs.Test.{differs}
 use Rattle.numbers.specs.Float.{lit, zero_f}
@@ -21,13 +20,12 @@ pub accepted : (x : Float) (k : ℕ) → 2 ≤ k → k ≤ 13 → root_of x k �
 unfolding root_of
 accepted x k g h = rw (le-leb 2 k g, le-leb k 13 h)
 
-pub too-low : (x : Float) (k : ℕ) → k < 2 → root_of x k ≡ record { value = nan }
+pub refused : (x : Float) (k : ℕ) → (2 ≤ k → k ≤ 13 → ⊥) → root_of x k ≡ record { value = nan }
 unfolding root_of
-too-low x k h = rw (lt-leb 2 k h)
-
-pub too-high : (x : Float) (k : ℕ) → 13 < k → root_of x k ≡ record { value = nan }
-unfolding root_of
-too-high x k h = rw (le-leb 2 k (omega arith), lt-leb k 13 h)
+refused x k h = elim (dec_le 2 k) [
+  | yes g ↦ rw (le-leb 2 k g, lt-leb k 13 (omega (arith, h g)))
+  | no g ↦ rw (lt-leb 2 k (omega arith))
+]
 
 -- a number other than 0, over the denominator of 0
 size-pos : (m : ℕ) (e : ℤ) → 0 * down e < suc m * up e * 1
@@ -44,12 +42,12 @@ of_zero (fin true (suc m) e) k h =
 of_zero (fin false (suc m) e) k h =
     differs (rw (ne_eqb (suc m * up e * 1) (0 * down e) (λ q. omega (arith, size-pos m e))) at h)
 
-pub of-infinity : (x : Float) (k : ℕ) → Ieee.eq x (lit infinity_bits) ≡ true → x ≡ root_value x k
+pub of_infinity : (x : Float) (k : ℕ) → Ieee.eq x (lit infinity_bits) ≡ true → x ≡ root_value x k
 unfolding root_value Ieee.eq Ieee.of_bits
-of-infinity nan k h = differs h
-of-infinity (inf true) k h = differs h
-of-infinity (inf false) k h = refl
-of-infinity (fin s m e) k h = differs h
+of_infinity nan k h = differs h
+of_infinity (inf true) k h = differs h
+of_infinity (inf false) k h = refl
+of_infinity (fin s m e) k h = differs h
 
 pub of_positive : (x : Float) (k : ℕ) → Ieee.eq x (lit infinity_bits) ≡ false → Ieee.lt zero_f x ≡ true
     → Ieee.of_bits binary64 (root_bits x k) ≡ root_value x k
@@ -61,17 +59,6 @@ of_positive (fin true zero e) k g h = differs h
 of_positive (fin false zero e) k g h = differs (simp zero-mul at h)
 of_positive (fin true (suc m) e) k g h = differs h
 of_positive (fin false (suc m) e) k g h = refl
-
--- such an x is finite and above 0
-pub is_positive : (x : Float) → Ieee.eq x (lit infinity_bits) ≡ false → Ieee.lt zero_f x ≡ true → T (positive x)
-unfolding Ieee.eq Ieee.lt Ieee.of_bits
-is_positive nan g h = differs h
-is_positive (inf true) g h = differs h
-is_positive (inf false) g h = differs (sym g)
-is_positive (fin true zero e) g h = differs h
-is_positive (fin false zero e) g h = differs (simp zero-mul at h)
-is_positive (fin true (suc m) e) g h = differs h
-is_positive (fin false (suc m) e) g h = lt→ltb 0 (suc m) (zero-lt-suc m)
 
 pub of_other : (x : Float) (k : ℕ) → Ieee.eq x zero_f ≡ false → Ieee.eq x (lit infinity_bits) ≡ false
     → Ieee.lt zero_f x ≡ false → nan ≡ root_value x k

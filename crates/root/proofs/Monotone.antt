@@ -13,17 +13,19 @@ use native.Mathlib.Nat.{eq-zero-or-pos, eq-or-lt_of_le, mod-eq_of_lt, pow-succ',
 use native.Mathlib.Omega.{arith}
 use lib.IntN.{pos}
 use lib.Dec.{T}
-use lib.Ieee.{Float, nan, inf, fin, binary64, of_bits, to_bits, fits, mul, le, lt}
+use lib.Ieee.{Float, nan, inf, fin, binary64, of_bits, nan_bits, to_bits, fits, mul, le, lt}
 use lib.Ieee.Bits.{is_true, of_bits-to_bits}
 use lib.Ieee.Positive.{positive}
+use Rattle.std.proofs.lemmas.Float.{not_nan_f64_bits}
 use Rattle.loops.proofs.Test.{differs}
 use Rattle.loops.specs.For.{times}
 use Rattle.loops.proofs.For.{stays}
-use Rattle.numbers.proofs.Bits.{past-infinity}
+use Rattle.numbers.proofs.Bits.{nan_literal, past-infinity}
+use Rattle.numbers.proofs.Sign.{is_positive}
 use Rattle.root.specs.Root.{factor, power_of, keep_of, bit_turn, root_bits, root_value, root_of}
 use Rattle.root.specs.Largest.{infinity_bits, unsigned, product_of, Largest, LargestFloat}
 use Rattle.root.proofs.Laws.{alike}
-use Rattle.root.proofs.Cases.{accepted}
+use Rattle.root.proofs.Cases.{accepted, refused, of_zero, of_infinity, of_positive, of_other}
 use Rattle.numbers.proofs.Order.{le_trans}
 use Rattle.root.proofs.Unsigned.{zero-le, le-inf, infinity-above, lt-is}
 use Rattle.root.proofs.Unsigned.{positive-unsigned, above-unsigned, mul-unsigned, mul-up}
@@ -156,6 +158,9 @@ largest x k p =
       passed = λ b l h. fails-is x k p b h ∙ ap not (s.beyond b (omega arith) h);
     }
 
+pub root_number : (x : Float) (k : ℕ) → T (positive x) → T (not (nan_bits binary64 (root_bits x k)))
+root_number x k p = not_nan_f64_bits _ (omega (arith, (largest x k p).finite))
+
 -- ---- the root itself
 pub root_is : (x : Float) (k : ℕ) → T (positive x) → 2 ≤ k → k ≤ 13
     → root_of x k ≡ record { value = of_bits binary64 (root_bits x k) }
@@ -187,3 +192,16 @@ largest-float x k p g h =
           rw (of_bits-to_bits binary64 z f) at
           (l.passed (to_bits binary64 z) (above-bits r z l.finite u f a) (bits_of z u f));
     })
+
+-- what the tests of `root` say, and that what the search finds is no NaN's
+pub ruleset tests = (
+  accepted,
+  refused,
+  of_zero,
+  of_infinity,
+  of_positive,
+  of_other,
+  is_positive,
+  nan_literal,
+  root_number,
+)

@@ -1,10 +1,10 @@
 -- The root by the tests that the code makes, and the bits of a number above 0.
---     root-of-zero, root-of-infinity, root-of-other     what the code returns without a digit
+--     root_of_zero, root_of_infinity, root_of_other     what the code returns without a digit
 --     positive-bits                 the bits of a finite number above 0 lie above 0 and below infinity's
---     above                         what `x > 0.0` says: infinity, or a finite number above 0
---     finite-bits, root-of-bits     those bits, and the root by them, where they are not infinity's
+--     finite_bits, root_of_bits     those bits of such an x, and the root by them
+--     tests                         these, by one name
 -- Assumes nothing.
-use mathlib.Core.Path.{◌≡◌, refl, sym, ap, ◌∙◌}
+use mathlib.Core.Path.{◌≡◌, refl, sym, ◌∙◌}
 use mathlib.Core.Bool.{Bool, true, false}
 use Prim.Native.Nat.{ℕ, zero, suc, ◌*◌, ◌%◌, ◌<◌}
 use native.Mathlib.Nat.{zero-mul, mul-pos, zero-lt-suc, mod-eq_of_lt}
@@ -15,10 +15,12 @@ use lib.Ieee as Ieee
 use lib.Ieee.{Float, nan, inf, fin, binary64, up, down, top, of_bits, to_bits}
 use lib.Ieee.Fits.{up_pos}
 use lib.Ieee.Bits.{of_bits-to_bits, to_bits-lt}
+use lib.Ieee.Positive.{positive}
 use borrow.Author.Tests.{ne_eqb, lt-ltb}
 use Rattle.loops.proofs.Test.{differs}
-use Rattle.numbers.specs.Float.{zero_f}
-use Rattle.numbers.proofs.Bits.{past-infinity}
+use Rattle.numbers.specs.Float.{lit, zero_f}
+use Rattle.numbers.proofs.Bits.{nan_literal, past-infinity}
+use Rattle.numbers.proofs.Sign.{is_positive}
 use Rattle.sqrt.specs.Sqrt.{sqrt_bits, sqrt_of}
 
 -- a number that is not 0, as the tests see it: its size times the other denominator, which is 1
@@ -39,31 +41,31 @@ unfolding Ieee.lt Ieee.of_bits
 above_zero m e = lt-ltb (0 * down e) (suc m * up e * 1) (omega (arith, size-pos m e))
 
 -- x == 0.0
-pub root-of-zero : (x : Float) → Ieee.eq x zero_f ≡ true → x ≡ sqrt_of x
+pub root_of_zero : (x : Float) → Ieee.eq x zero_f ≡ true → x ≡ sqrt_of x
 unfolding sqrt_of Ieee.eq
-root-of-zero nan h = refl
-root-of-zero (inf true) h = differs h
-root-of-zero (inf false) h = refl
-root-of-zero (fin s zero e) h = refl
-root-of-zero (fin s (suc m) e) h = differs (sym (not-zero s m e) ∙ h)
+root_of_zero nan h = refl
+root_of_zero (inf true) h = differs h
+root_of_zero (inf false) h = refl
+root_of_zero (fin s zero e) h = refl
+root_of_zero (fin s (suc m) e) h = differs (sym (not-zero s m e) ∙ h)
 
 -- neither x == 0.0 nor x > 0.0
-pub root-of-other : (x : Float) → Ieee.eq x zero_f ≡ false → Ieee.lt zero_f x ≡ false → nan ≡ sqrt_of x
+pub root_of_other : (x : Float) → Ieee.eq x zero_f ≡ false → Ieee.lt zero_f x ≡ false → nan ≡ sqrt_of x
 unfolding sqrt_of Ieee.eq Ieee.lt Ieee.of_bits
-root-of-other nan g h = refl
-root-of-other (inf true) g h = refl
-root-of-other (inf false) g h = differs (sym h)
-root-of-other (fin s zero e) g h = differs (sym g ∙ is_zero s e)
-root-of-other (fin true (suc m) e) g h = refl
-root-of-other (fin false (suc m) e) g h = differs (sym h ∙ above_zero m e)
+root_of_other nan g h = refl
+root_of_other (inf true) g h = refl
+root_of_other (inf false) g h = differs (sym h)
+root_of_other (fin s zero e) g h = differs (sym g ∙ is_zero s e)
+root_of_other (fin true (suc m) e) g h = refl
+root_of_other (fin false (suc m) e) g h = differs (sym h ∙ above_zero m e)
 
--- the pattern of +infinity
-pub root-of-infinity : (x : Float) → T (Ieee.fits binary64 x) → to_bits binary64 x ≡ 0x7ff0_0000_0000_0000
-    → x ≡ sqrt_of x
-unfolding sqrt_of Ieee.of_bits
-root-of-infinity x f h =
-    let e : x ≡ inf false = sym (of_bits-to_bits binary64 x f) ∙ ap (of_bits binary64) h in
-    rw e
+-- x == f64::INFINITY
+pub root_of_infinity : (x : Float) → Ieee.eq x (lit 0x7ff0_0000_0000_0000) ≡ true → x ≡ sqrt_of x
+unfolding sqrt_of Ieee.eq Ieee.of_bits
+root_of_infinity nan h = differs h
+root_of_infinity (inf true) h = differs h
+root_of_infinity (inf false) h = refl
+root_of_infinity (fin s m e) h = differs h
 
 -- the bits of a number above 0: without the sign's bit, not those of 0, of an infinity or of a NaN
 unsigned : (m : ℕ) (e : ℤ) → T (Ieee.fits binary64 (fin false m e)) → to_bits binary64 (fin false m e) < top binary64
@@ -102,31 +104,21 @@ positive-bits m e f =
     let x = fin false (suc m) e in
     between (to_bits binary64 x) m e (of_bits-to_bits binary64 x f) (unsigned (suc m) e f)
 
--- x > 0.0
-pub data Above : Float → Type 0 where
-  infinite : Above (inf false)
-  number : (m : ℕ) (e : ℤ) → Above (fin false (suc m) e)
-
-pub above : (x : Float) → Ieee.lt zero_f x ≡ true → Above x
-unfolding Ieee.lt Ieee.of_bits
-above nan h = differs h
-above (inf true) h = differs h
-above (inf false) h = infinite
-above (fin true m e) h = differs h
-above (fin false zero e) h = differs (rw (zero-mul (up e), zero-mul (down e)) at h)
-above (fin false (suc m) e) h = number m e
-
-infinity-bits : to_bits binary64 (inf false) ≡ 0x7ff0_0000_0000_0000
-unfolding to_bits
-infinity-bits = refl
-
-pub finite-bits : (x : Float) → T (Ieee.fits binary64 x) → Above x → (to_bits binary64 x ≡ 0x7ff0_0000_0000_0000 → ⊥)
+pub finite_bits : (x : Float) → T (Ieee.fits binary64 x) → T (positive x)
     → (0 < to_bits binary64 x) × (to_bits binary64 x < 0x7ff0_0000_0000_0000)
-finite-bits x f infinite n = absurd (n infinity-bits)
-finite-bits x f (number m e) n = positive-bits m e f
+finite_bits nan f p = absurd p
+finite_bits (inf s) f p = absurd p
+finite_bits (fin true m e) f p = absurd p
+finite_bits (fin false zero e) f p = absurd p
+finite_bits (fin false (suc m) e) f p = positive-bits m e f
 
-pub root-of-bits : (x : Float) → Above x → (to_bits binary64 x ≡ 0x7ff0_0000_0000_0000 → ⊥)
-    → of_bits binary64 (sqrt_bits (to_bits binary64 x)) ≡ sqrt_of x
+pub root_of_bits : (x : Float) → T (positive x) → of_bits binary64 (sqrt_bits (to_bits binary64 x)) ≡ sqrt_of x
 unfolding sqrt_of
-root-of-bits x infinite n = absurd (n infinity-bits)
-root-of-bits x (number m e) n = refl
+root_of_bits nan p = absurd p
+root_of_bits (inf s) p = absurd p
+root_of_bits (fin true m e) p = absurd p
+root_of_bits (fin false zero e) p = absurd p
+root_of_bits (fin false (suc m) e) p = refl
+
+-- what the tests of `sqrt` say
+pub ruleset tests = (root_of_zero, root_of_infinity, root_of_other, finite_bits, root_of_bits, is_positive, nan_literal)

@@ -2,6 +2,7 @@ pub mod Laws
 pub mod Fractions
 pub mod Pattern
 pub mod Turns
+pub mod Bounds
 pub mod Cases
 pub mod Halves
 pub mod Value

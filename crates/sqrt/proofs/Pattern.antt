@@ -1,7 +1,7 @@
 -- A pattern above 0 and below infinity's as 53 digits and an exponent, and the same with an odd exponent.
 --     zeros, fraction     the place of a fraction's leading digit: from 0 to 51
 --     moved               moved up by its leading zeros less 11, that digit stands in place 52
---     low-is, high_is     `normal_of` by the test that the code makes of the exponent's field
+--     low_is, high_is     `normal_of` by the test that the code makes of the exponent's field
 --     normal              what `normal_of` gives: 53 digits, the exponent from 1 to 2098
 --     evened              what `even_of` makes of that: at most 54 digits, an odd exponent and the same number
 -- Assumes nothing.
@@ -52,10 +52,10 @@ moved t p h =
     rw s (rw (← pow-add 2 j (52 - j), up) at low, rw over at high)
 
 -- the two ways of `normal_of`
-pub low-is : (b : ℕ) → b / hidden ≡ 0
+pub low_is : (b : ℕ) → b / hidden ≡ 0
     → normal_of b ≡ record { digits = b % hidden * 2 ^ shift_of (b % hidden); exponent = 53 - shift_of (b % hidden) }
 unfolding normal_of normal_at
-low-is b h = rw h
+low_is b h = rw h
 
 high-at : (x t : ℕ) → (x ≡ 0 → ⊥) → normal_at x t ≡ record { digits = t + hidden; exponent = x + 52 }
 unfolding normal_at

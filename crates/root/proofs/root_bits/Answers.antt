@@ -1,12 +1,9 @@
-use mathlib.Core.Path.{refl, ap}
+use mathlib.Core.Path.{ap}
 use native.Mathlib.Omega.{arith}
 use Rattle.loops.proofs.For.{again, ended}
 use Rattle.root.specs.Root.{Candidate, root_bits}
-use Rattle.root.proofs.Room.{first, candidate, next}
+use Rattle.root.proofs.Room.{candidate, next}
 use Rattle.root.proofs.root_bits.Goals as goal
-
-pub loop-init : goal.loop-init
-loop-init c = (first, refl)
 
 pub keep-bits-requires : goal.keep-bits-requires
 keep-bits-requires c = candidate _ _ _ c.loop.invariant.0

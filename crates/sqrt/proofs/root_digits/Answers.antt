@@ -1,17 +1,14 @@
 use Prim.Native.Nat.{◌≤◌, ◌^◌}
-use mathlib.Core.Path.{refl, sym, ap}
+use mathlib.Core.Path.{sym, ap}
 use native.Mathlib.Omega.{arith}
 use lib.Pow.{pow_mono}
 use Rattle.loops.proofs.For.{onward, ended}
 use Rattle.sqrt.specs.Sqrt.{digit_turn, digits_of}
-use Rattle.sqrt.proofs.Turns.{starts, turned}
+use Rattle.sqrt.proofs.Turns.{turned}
 use Rattle.sqrt.proofs.root_digits.Goals as goal
 
-pub loop-init : goal.loop-init
-loop-init c = (omega arith, starts c.args.n c.requires, refl)
-
-pub digit-s-requires : goal.digit-s-requires
-digit-s-requires c =
+pub next-s-requires : goal.next-s-requires
+next-s-requires c =
     let k = c.loop.invariant.1 in
     let h : c.loop.counter ≤ 54 = omega arith in
     let p : 2 ^ c.loop.counter ≤ 2 ^ 54 = pow_mono h in
@@ -20,8 +17,8 @@ digit-s-requires c =
 pub loop-preserved : goal.loop-preserved
 loop-preserved c =
     let l = c.loop in
-    let e = c.digit-s.ensures in
-    let r = onward digit_turn l.counter 54 l.s c.digit-s.result _ (omega arith) (sym e) l.invariant.2 in
+    let e = c.next-s.ensures in
+    let r = onward digit_turn l.counter 54 l.s c.next-s.result _ (omega arith) (sym e) l.invariant.2 in
     (omega arith, rw e (turned _ _ _ l.invariant.1), r)
 
 pub returns : goal.returns
