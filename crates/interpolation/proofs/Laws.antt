@@ -1,6 +1,6 @@
 -- What callers need of the definitions, and two general laws of loops:
 --     length-snapshot, snapshot-keeps    a snapshot keeps the question's length and first n numbers
---     copied, unchanged    equal lengths are a copy; a refusal leaves the output as it was
+--     copied-column, copied, unchanged    equal lengths are a copy; a refusal leaves the output as it was
 --     reaches    what speaks of the turn and is carried on by every turn holds at the loop's end
 --     each       a loop over a list that makes one number at each turn, number by number
 -- Assumes nothing.
@@ -16,6 +16,7 @@ use lib.Ieee as Ieee
 use lib.Ieee.{Float, nan}
 use borrow.Author.Count.{below_more}
 use borrow.Author.Tests.{eq-eqb}
+use Rattle.std.specs.Prelude.{Option, Some, None}
 use Rattle.loops.specs.For.{for}
 use Rattle.loops.proofs.For.{keeps, reaches}
 use Rattle.loops.proofs.Test.{chosen}
@@ -23,8 +24,6 @@ use Rattle.numbers.specs.Float.{zero_f}
 use Rattle.common.specs.declared.Settings.{Settings}
 use Rattle.common.specs.declared.Common.{Common}
 use Rattle.interpolation.specs.declared.Sizes.{Sizes}
-use Rattle.interpolation.specs.declared.Header.{Header}
-use Rattle.interpolation.specs.declared.Header.TheVariants.{Read, Refused}
 use Rattle.interpolation.specs.Snapshot.{header_of, snapshot_at, snapshot_of}
 use Rattle.interpolation.specs.Header.{read_header_of}
 use Rattle.interpolation.specs.Evaluate.{last_column_of, Interpolated, outputs, interpolate_sized_of, headed_of}
@@ -105,15 +104,16 @@ pub last-each : (column yi : List Float) → Each (λ i x. get_or column i nan) 
 unfolding last_column_of
 last-each column yi = each (λ i x. get_or column i nan) yi
 
+-- a column as long as the output is copied whole
+pub copied-column : (column yi : List Float) → length column ≡ length yi → last_column_of column yi ≡ column
+copied-column column yi h =
+    let t = last-each column yi in
+    ext_get_or nan (last_column_of column yi) column (t.long ∙ sym h) (λ i b. t.here i (omega (arith, t.long)))
+
 module _ (xi : Float) (cont yi : List Float) where
   pub copied : length cont ≡ length yi → interpolate_of xi cont yi ≡ outputs 0 cont
   unfolding interpolate_of
-  copied h =
-      let t = last-each cont yi in
-      let same : last_column_of cont yi ≡ cont =
-      ext_get_or nan (last_column_of cont yi) cont (t.long ∙ sym h) (λ i b. t.here i (omega (arith, t.long)))
-      in
-      rw (eq-eqb (length cont) (length yi) h, same)
+  copied h = rw (eq-eqb (length cont) (length yi) h, copied-column cont yi h)
 
   -- done, or the output is as it was
   abbrev Answered : Interpolated → Type 0
@@ -127,9 +127,9 @@ module _ (xi : Float) (cont yi : List Float) where
       (chosen Answered (Ieee.eq z.h zero_f) (inr refl) (inl refl)))
       (inr refl)
 
-  answered-headed : (r : Header) → Answered (headed_of xi cont r yi)
-  answered-headed Refused = inr refl
-  answered-headed (Read z) = answered-sized z
+  answered-headed : (r : Option Sizes) → Answered (headed_of xi cont r yi)
+  answered-headed None = inr refl
+  answered-headed (Some z) = answered-sized z
 
   answered : Answered (interpolate_of xi cont yi)
   unfolding interpolate_of

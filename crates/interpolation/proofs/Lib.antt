@@ -1,3 +1,4 @@
+pub mod Copies
 pub mod Laws
 pub mod Counts
 pub mod Published

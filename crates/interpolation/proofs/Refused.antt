@@ -1,4 +1,5 @@
 -- The refusals of interpolation, both ways: each test decides its condition.
+--     unread, fifteen, sixteen, seventeen    what is answered where a condition holds
 --     interpolate-refused
 -- Assumes nothing.
 use mathlib.Core.Bool.{Bool, true, false, cond}
@@ -12,14 +13,11 @@ use lib.ListN.{length, get_or}
 use lib.Ieee as Ieee
 use lib.Ieee.{Float, nan}
 use borrow.Author.Tests.{eqb-true, eqb-false, ltb-true, eq-eqb, ne_eqb, lt-ltb}
+use Rattle.std.specs.Prelude.{Option, Some, None}
 use Rattle.loops.proofs.Test.{differs}
 use Rattle.numbers.specs.Float.{zero_f}
 use Rattle.common.specs.Limits.{max_states}
-use Rattle.interpolation.specs.declared.Count.{Count}
-use Rattle.interpolation.specs.declared.Count.TheVariants.{Is, NotWhole}
 use Rattle.interpolation.specs.declared.Sizes.{Sizes}
-use Rattle.interpolation.specs.declared.Header.{Header}
-use Rattle.interpolation.specs.declared.Header.TheVariants.{Read, Refused}
 use Rattle.interpolation.specs.Header.{whole_count_of, with_order, with_states, read_header_of, Reads}
 use Rattle.interpolation.specs.Evaluate.{Interpolated, outputs, evaluate_of, interpolate_sized_of, headed_of}
 use Rattle.interpolation.specs.Evaluate.{interpolate_of}
@@ -31,20 +29,20 @@ use Rattle.interpolation.proofs.Laws.{copied, unchanged}
 
 module _ (cont : List Float) where
   -- a header that is not read, and what kept it from it
-  abbrev Why : Header → Type 0
-  Why Refused = Unreadable cont
-  Why (Read z) = Unit {0}
+  abbrev Why : Option Sizes → Type 0
+  Why None = Unreadable cont
+  Why (Some z) = Unit {0}
 
-  order-why : (n : ℕ) (o : Count) → whole_count_of (get_or cont 1 nan) 12 ≡ o → Why (with_order cont n o)
-  order-why n (Is nq) e = tt
-  order-why n NotWhole e = inr (inr (count-not (get_or cont 1 nan) 12 e))
+  order-why : (n : ℕ) (o : Option ℕ) → whole_count_of (get_or cont 1 nan) 12 ≡ o → Why (with_order cont n o)
+  order-why n (Some nq) e = tt
+  order-why n None e = inr (inr (count-not (get_or cont 1 nan) 12 e))
 
-  states-why : (s : Count) → whole_count_of (get_or cont 0 nan) max_states ≡ s → Why (with_states cont s)
-  states-why (Is n) e = order-why n (whole_count_of (get_or cont 1 nan) 12) refl
-  states-why NotWhole e = inr (inl (count-not (get_or cont 0 nan) max_states e))
+  states-why : (s : Option ℕ) → whole_count_of (get_or cont 0 nan) max_states ≡ s → Why (with_states cont s)
+  states-why (Some n) e = order-why n (whole_count_of (get_or cont 1 nan) 12) refl
+  states-why None e = inr (inl (count-not (get_or cont 0 nan) max_states e))
 
   long-why : (t : Bool) → ltb (length cont) 6 ≡ t
-      → Why (cond t Refused (with_states cont (whole_count_of (get_or cont 0 nan) max_states)))
+      → Why (cond t None (with_states cont (whole_count_of (get_or cont 0 nan) max_states)))
   long-why true e = inl (ltb-true (length cont) 6 e)
   long-why false e = states-why (whole_count_of (get_or cont 0 nan) max_states) refl
 
@@ -52,7 +50,7 @@ module _ (cont : List Float) where
   unfolding read_header_of
   why = long-why (ltb (length cont) 6) refl
 
-  unread : read_header_of cont ≡ Refused → Unreadable cont
+  pub unread : read_header_of cont ≡ None → Unreadable cont
   unread e = rw e at why
 
   -- and no sizes are read where it is unreadable
@@ -61,9 +59,9 @@ module _ (cont : List Float) where
   unreadable z r (inr (inl h)) = differs (sym (h z.n r.states.0) ∙ r.states.1)
   unreadable z r (inr (inr h)) = differs (sym (h z.nq r.order.0) ∙ r.order.1)
 
-  refused-at : (h : Header) → read_header_of cont ≡ h → Unreadable cont → read_header_of cont ≡ Refused
-  refused-at Refused e u = e
-  refused-at (Read z) e u = absurd (unreadable z (header-reads cont z e) u)
+  refused-at : (h : Option Sizes) → read_header_of cont ≡ h → Unreadable cont → read_header_of cont ≡ None
+  refused-at None e u = e
+  refused-at (Some z) e u = absurd (unreadable z (header-reads cont z e) u)
 
 -- ---- what is answered, and why
 
@@ -88,10 +86,10 @@ module _ (xi : Float) (cont yi : List Float) where
     sized z r true false true e f g = no-history other z r (eqb-true _ _ e) (inr g) refl
     sized z r true false false e f g = done refl
 
-    headed : (h : Header) → read_header_of cont ≡ h → Outcome (headed_of xi cont h yi)
+    headed : (h : Option Sizes) → read_header_of cont ≡ h → Outcome (headed_of xi cont h yi)
     unfolding interpolate_sized_of
-    headed Refused e = no_header other (unread cont e) refl
-    headed (Read z) e =
+    headed None e = no_header other (unread cont e) refl
+    headed (Some z) e =
         sized z (header-reads cont z e) (eqb (length yi) z.n) (ltb (length cont - 6) ((z.nq + 1) * z.n))
         (Ieee.eq z.h zero_f) refl refl refl
 
@@ -106,16 +104,16 @@ module _ (xi : Float) (cont yi : List Float) where
   -- ---- and back
 
   module _ (other : length cont ≢ length yi) where
-    fifteen : Unreadable cont → answer ≡ outputs 15 yi
+    pub fifteen : Unreadable cont → answer ≡ outputs 15 yi
     unfolding interpolate_of
     fifteen u = rw (ne_eqb (length cont) (length yi) other, refused-at cont (read_header_of cont) refl u)
 
-    sixteen : (z : Sizes) → Reads cont z → OutputOther z yi → answer ≡ outputs 16 yi
+    pub sixteen : (z : Sizes) → Reads cont z → OutputOther z yi → answer ≡ outputs 16 yi
     unfolding interpolate_of interpolate_sized_of
     sixteen z r o =
         rw (ne_eqb (length cont) (length yi) other, reads-header cont z r, ne_eqb (length yi) z.n o)
 
-    seventeen : (z : Sizes) → Reads cont z → length yi ≡ z.n → Unusable z cont → answer ≡ outputs 17 yi
+    pub seventeen : (z : Sizes) → Reads cont z → length yi ≡ z.n → Unusable z cont → answer ≡ outputs 17 yi
     unfolding interpolate_of interpolate_sized_of
     seventeen z r e (inl h) =
         rw (

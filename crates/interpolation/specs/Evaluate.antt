@@ -2,15 +2,15 @@
 -- order and with the output as it was; otherwise Horner's rule on the columns at s = (xi - tn) / h.
 --     16 the output's length is not n    17 the history is shorter than (nq + 1)·n, or h is zero
 -- That t lies in the step is neither asked nor claimed: outside it the polynomial is evaluated all the same.
-use Rattle.std.specs.Prelude.{cond, List, ℕ, ◌+◌, ◌-◌, ◌*◌, eqb, ltb, length, get_or, set, Float}
+use Rattle.std.specs.Prelude.{cond, List, Option, Some, None, Result, Ok, Err, ⊤, ℕ, ◌+◌, ◌-◌, ◌*◌, eqb, ltb, length}
+use Rattle.std.specs.Prelude.{get_or, set, Float}
 use Rattle.std.specs.Float.Ieee as Ieee
 use Rattle.std.specs.Float.{nan}
 use Rattle.loops.specs.For.{for}
 use Rattle.loops.specs.Part.{part}
 use Rattle.numbers.specs.Float.{◌⊕◌, ◌⊖◌, ◌⊗◌, ◌⊘◌, zero_f}
 use Rattle.interpolation.specs.declared.Sizes.{Sizes}
-use Rattle.interpolation.specs.declared.Header.{Header}
-use Rattle.interpolation.specs.declared.Header.TheVariants.{Read, Refused}
+use Rattle.interpolation.specs.declared.Unusable.{Unusable}
 use Rattle.interpolation.specs.Header.{read_header_of}
 
 abbrev pub last_at : List Float → ℕ → List Float → List Float
@@ -38,6 +38,16 @@ evaluate_of xi cont z yi =
     for 1 (z.nq + 1) (horner_turn cont z.n z.nq ((xi ⊖ z.tn) ⊘ z.h))
     (last_column_of (column_in cont z.n z.nq) yi)
 
+-- the number of each refusal, 0 where there is none
+abbrev pub unusable_number : Unusable → ℕ
+unusable_number Unusable.Header = 15
+unusable_number Unusable.Length = 16
+unusable_number Unusable.History = 17
+
+abbrev pub number_of : Result ⊤ Unusable → ℕ
+number_of (Ok _) = 0
+number_of (Err why) = unusable_number why
+
 -- the number returned, and the output
 pub record Interpolated : Type 0 where
   pub number : ℕ
@@ -54,9 +64,9 @@ interpolate_sized_of xi cont z yi =
     (outputs 0 (evaluate_of xi cont z yi))))
     (outputs 16 yi)
 
-abbrev pub headed_of : Float → List Float → Header → List Float → Interpolated
-headed_of xi cont Refused yi = outputs 15 yi
-headed_of xi cont (Read z) yi = interpolate_sized_of xi cont z yi
+abbrev pub headed_of : Float → List Float → Option Sizes → List Float → Interpolated
+headed_of xi cont None yi = outputs 15 yi
+headed_of xi cont (Some z) yi = interpolate_sized_of xi cont z yi
 
 unfoldable pub interpolate_of : Float → List Float → List Float → Interpolated
 interpolate_of xi cont yi =

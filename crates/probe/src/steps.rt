@@ -342,5 +342,8 @@ pub fn probe_interpolate(xi: f64, yi: &mut [f64], cont: &[f64]) -> usize
     ensures { ◌≡◌ {A = Interpolated} (record { number = result; output = yi.new })
         (interpolate_of xi cont.now yi.old) }
 {
-    interpolation::interpolate(xi, yi, cont)
+    match interpolation::interpolate(xi, yi, cont) {
+        Ok(()) => 0,
+        Err(why) => usize::from(why),
+    }
 }

@@ -28,7 +28,10 @@ pub fn raimsklo_interpolate(xi: f64, pose: &mut [f64], snapshot: &[f64]) -> usiz
     ensures { ◌≡◌ {A = Interpolated} (record { number = result; output = pose.new })
         (interpolate_of xi snapshot.now pose.old) }
 {
-    interpolation::interpolate(xi, pose, snapshot)
+    match interpolation::interpolate(xi, pose, snapshot) {
+        Ok(()) => 0,
+        Err(why) => usize::from(why),
+    }
 }
 
 // The Rust's own options, to be changed where wanted.

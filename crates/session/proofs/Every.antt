@@ -3,13 +3,15 @@
 --     every-parts, lost-for                    the test in two runs, and the first of them failed
 --     run-again, run-fails, run-of-four        the same steps by a run of n indices, and what a run of four tests
 --     every-at, every-all                      every index passes, if and only if the test does
+--     all-run, all-fours                       what `all` says of a range, one by one and by fours
 -- Assumes nothing.
 use mathlib.Core.Path.{◌≡◌, refl, sym, ◌∙◌}
 use mathlib.Core.Bool.{Bool, true, false, ◌&&◌}
 use mathlib.Core.Logic.{⊎_elim}
-use Prim.Native.Nat.{ℕ, zero, suc, ◌+◌, ◌-◌, ◌≤◌, ◌<◌}
+use Prim.Native.Nat.{ℕ, zero, suc, ◌+◌, ◌*◌, ◌-◌, ◌≤◌, ◌<◌}
 use native.Mathlib.Omega.{arith}
 use native.Mathlib.Nat.{add_assoc, eq-or-lt_of_le}
+use Rattle.std.specs.List.{list_all, range_with_len}
 use Rattle.loops.specs.For.{for, times}
 use Rattle.loops.proofs.For.{turn, done, onward, ended, stays, keeps}
 use Rattle.session.specs.Session.{every, and_at}
@@ -92,3 +94,34 @@ module _ (p : ℕ → Bool) where
   pub every-all : (e : ℕ) → ((k : ℕ) → k < e → p k ≡ true) → every p e ≡ true
   unfolding every
   every-all e h = keeps (λ (ok : Bool). ok ≡ true) (and_at p) e (λ k ok b q. rw q (h k b)) 0 true (omega arith) refl
+
+-- ---- `all` over a range
+
+module _ (p : ℕ → Bool) where
+  -- one test or one run of them, then the others
+  all-next : (t : Bool) (i e : ℕ) (rest : Bool) → rest ≡ for i e (and_at p) true
+      → (t && rest) ≡ for i e (and_at p) t
+  all-next true i e rest h = h
+  all-next false i e rest h = sym (lost-for p i e)
+
+  pub all-run : (n i : ℕ) → list_all p (range_with_len i n) ≡ for i (i + n) (and_at p) true
+  all-run zero i = sym (done (and_at p) i (i + 0) true (omega arith))
+  all-run (suc n) i =
+      let s : i + suc n ≡ i + 1 + n = omega arith in
+      rw (s, turn (and_at p) i (i + 1 + n) true (omega arith))
+      (all-next (p i) (i + 1) (i + 1 + n) (list_all p (range_with_len (i + 1) n)) (all-run n (i + 1)))
+
+  abbrev pub four : ℕ → Bool
+  four k = for (4 * k) (4 * k + 4) (and_at p) true
+
+  -- by fours
+  pub all-fours : (n k : ℕ) → list_all four (range_with_len k n) ≡ for (4 * k) (4 * (k + n)) (and_at p) true
+  all-fours zero k = sym (done (and_at p) (4 * k) (4 * (k + 0)) true (omega arith))
+  all-fours (suc n) k =
+      let s : 4 * (k + suc n) ≡ 4 * (k + 1 + n) = omega arith in
+      let m : 4 * k + 4 ≡ 4 * (k + 1) = omega arith in
+      let rest : list_all four (range_with_len (k + 1) n) ≡ for (4 * k + 4) (4 * (k + 1 + n)) (and_at p) true =
+      rw m (all-fours n (k + 1))
+      in
+      rw (s, parts p 4 (4 * k) (4 * (k + 1 + n)) true (omega arith))
+      (all-next (four k) (4 * k + 4) (4 * (k + 1 + n)) (list_all four (range_with_len (k + 1) n)) rest)

@@ -22,7 +22,7 @@ pub fn encode_counts(x: Session, bytes: &mut [u8])
     ensures { bytes.new ≡ encode_counts_of x bytes.old }
 {
     let u = crate::fields::counts(x);
-    words::put_counts(bytes, 0, &u);
+    words::put_row(bytes, 0, common::COUNT_WORDS, &u);
 }
 
 // Its floats, written behind them. Both stand apart because each is short enough to be compiled in place.
@@ -31,7 +31,7 @@ pub fn encode_floats(x: Session, bytes: &mut [u8])
     ensures { bytes.new ≡ encode_floats_of x bytes.old }
 {
     let f = crate::fields::floats(x);
-    words::put_floats(bytes, common::COUNT_WORDS, common::FLOAT_WORDS, &f);
+    words::put_row(bytes, common::COUNT_WORDS, common::FLOAT_WORDS, &f);
 }
 
 // The counts, read once for the record and for the ranges.
@@ -40,7 +40,7 @@ pub fn counts(bytes: &[u8]) -> [usize; common::COUNT_WORDS]
     ensures { result ≡ stored_counts bytes.now }
 {
     let mut u = [0usize; common::COUNT_WORDS];
-    words::get_counts(bytes, 0, common::COUNT_WORDS, &mut u);
+    words::get_row(bytes, 0, &mut u);
     u
 }
 
@@ -50,7 +50,7 @@ pub fn decode(u: &[usize; common::COUNT_WORDS], bytes: &[u8]) -> Session
     ensures { result ≡ decode_of bytes.now }
 {
     let mut f = [0.0; common::FLOAT_WORDS];
-    words::get_floats(bytes, common::COUNT_WORDS, common::FLOAT_WORDS, &mut f);
+    words::get_row(bytes, common::COUNT_WORDS, &mut f);
     crate::fields::session(u, &f)
 }
 
@@ -60,8 +60,8 @@ pub fn put_tolerances(rtol: &[f64], atol: &[f64], bytes: &mut [u8])
     ensures { bytes.new
         ≡ put_tolerances_of rtol.now atol.now bytes.old }
 {
-    words::put_floats(bytes, common::RTOL_AT, common::MAX_STATES, rtol);
-    words::put_floats(bytes, common::ATOL_AT, common::MAX_STATES, atol);
+    words::put_row(bytes, common::RTOL_AT, common::MAX_STATES, rtol);
+    words::put_row(bytes, common::ATOL_AT, common::MAX_STATES, atol);
 }
 
 // The first k relative tolerances, read to the first entries of a list.
@@ -69,7 +69,7 @@ pub fn rtol(bytes: &[u8], k: usize, list: &mut [f64])
     requires { (session_length ≤ length bytes.now) × (k ≤ max_states) × (k ≤ length list.old) }
     ensures { list.new ≡ rtol_first bytes.now k list.old }
 {
-    words::get_floats(bytes, common::RTOL_AT, k, list)
+    words::get_row(bytes, common::RTOL_AT, &mut list[..k]);
 }
 
 // The first k absolute tolerances.
@@ -77,7 +77,7 @@ pub fn atol(bytes: &[u8], k: usize, list: &mut [f64])
     requires { (session_length ≤ length bytes.now) × (k ≤ max_states) × (k ≤ length list.old) }
     ensures { list.new ≡ atol_first bytes.now k list.old }
 {
-    words::get_floats(bytes, common::ATOL_AT, k, list)
+    words::get_row(bytes, common::ATOL_AT, &mut list[..k]);
 }
 
 // The stored n, whatever it is.
@@ -85,7 +85,7 @@ pub fn stored_n(bytes: &[u8]) -> usize
     requires { session_length ≤ length bytes.now }
     ensures { result ≡ stored_n bytes.now }
 {
-    words::count(bytes, 1)
+    words::number(bytes, 1)
 }
 
 // Whether the phase is Finished: then the other values are not looked at.
@@ -93,7 +93,7 @@ pub fn is_finished(bytes: &[u8]) -> bool
     requires { session_length ≤ length bytes.now }
     ensures { result ≡ finished_in bytes.now }
 {
-    words::count(bytes, 0) == 10
+    words::number::<usize>(bytes, 0) == 10
 }
 
 // Whether every value of a session that is not finished is in its range, and every lent pivot below n; u and x as they
@@ -104,12 +104,5 @@ pub fn in_range(u: &[usize; common::COUNT_WORDS], x: Session, bytes: &[u8], ipiv
     ensures { result ≡ in_range_of bytes.now ipiv.now }
 {
     let s = x.settings;
-    let c = x.common;
-    if !ranges::fields(u, s, c) {
-        return false;
-    }
-    if !ranges::tolerances(bytes, s) {
-        return false;
-    }
-    ranges::pivots_below(ipiv, s.n)
+    ranges::fields(u, s, x.common) && ranges::tolerances(bytes, s) && ranges::pivots_below(ipiv, s.n)
 }

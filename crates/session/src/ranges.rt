@@ -23,15 +23,7 @@ fn run(
     requires { (low.now ≡ lowest) × (high.now ≡ highest) × (a ≤ e) × (e ≤ count_words) }
     ensures { result ≡ for a e (and_at (word_in_range u.now)) true }
 {
-    for i in a..e {
-        if u[i] < low[i] {
-            return false;
-        }
-        if u[i] > high[i] {
-            return false;
-        }
-    }
-    true
+    (a..e).all(|i| low[i] <= u[i] && u[i] <= high[i])
 }
 
 // Whether each of all counts is. Two runs, each short enough to be unrolled, so that the tables become constants.
@@ -40,30 +32,21 @@ fn words(u: &[usize; common::COUNT_WORDS]) -> bool
 {
     let low = crate::fields::lowest();
     let high = crate::fields::highest();
-    if !run(u, &low, &high, 0, HALF) {
-        return false;
-    }
-    run(u, &low, &high, HALF, common::COUNT_WORDS)
+    run(u, &low, &high, 0, HALF) && run(u, &low, &high, HALF, common::COUNT_WORDS)
 }
 
 // Whether a list of k entries is 1 or n long.
 fn one_or_n(n: usize, k: usize) -> bool
     ensures { result ≡ one_or_n n k }
 {
-    if k == 1 {
-        return true;
-    }
-    k == n
+    k == 1 || k == n
 }
 
 // The lengths of the tolerance lists.
 fn lists(s: Settings) -> bool
     ensures { result ≡ lists_in_range s }
 {
-    if !one_or_n(s.n, s.nrtol) {
-        return false;
-    }
-    one_or_n(s.n, s.natol)
+    one_or_n(s.n, s.nrtol) && one_or_n(s.n, s.natol)
 }
 
 // The order against the columns in use and against the order at the last reset.
@@ -71,29 +54,14 @@ fn orders(s: Settings, c: Common) -> bool
     requires { (1 ≤ s.n) × (s.n ≤ max_states) × (c.nq ≤ 12) }
     ensures { result ≡ orders_in_range s c }
 {
-    if c.nq >= c.lmax {
-        return false;
-    }
-    if c.nqnyh % s.n != 0 {
-        return false;
-    }
-    if c.nqnyh < c.nq * s.n {
-        return false;
-    }
-    c.nqnyh <= 12 * s.n
+    c.nq < c.lmax && c.nqnyh % s.n == 0 && c.nq * s.n <= c.nqnyh && c.nqnyh <= 12 * s.n
 }
 
 // The counters of a step and of a pass against their limits.
 fn counters(s: Settings, c: Common) -> bool
     ensures { result ≡ counters_in_range s c }
 {
-    if c.ncf >= s.mxncf() {
-        return false;
-    }
-    if c.m >= s.maxcor {
-        return false;
-    }
-    c.column < s.n
+    c.ncf < s.mxncf() && c.m < s.maxcor && c.column < s.n
 }
 
 // All fields but the floats, of a record whose n and nq are those of the counts u: first word by word, so that n is not
@@ -102,16 +70,7 @@ pub fn fields(u: &[usize; common::COUNT_WORDS], s: Settings, c: Common) -> bool
     requires { (s.n ≡ (settings_of u.now []).n) × (c.nq ≡ (common_of u.now []).nq) }
     ensures { result ≡ fields_in_range u.now s c }
 {
-    if !words(u) {
-        return false;
-    }
-    if !lists(s) {
-        return false;
-    }
-    if !orders(s, c) {
-        return false;
-    }
-    counters(s, c)
+    words(u) && lists(s) && orders(s, c) && counters(s, c)
 }
 
 // Whether none of the k tolerances from word `at` on is below 0; a NaN passes.
@@ -119,12 +78,7 @@ fn not_negative(bytes: &[u8], at: usize, k: usize) -> bool
     requires { 8 * (at + k) ≤ length bytes.now }
     ensures { result ≡ not_negative bytes.now at k }
 {
-    for i in 0..k {
-        if words::float(bytes, at + i) < 0.0 {
-            return false;
-        }
-    }
-    true
+    (0..k).all(|i| !(words::number::<f64>(bytes, at + i) < 0.0))
 }
 
 // Whether no entry of the two tolerance lists is below 0.
@@ -132,10 +86,7 @@ pub fn tolerances(bytes: &[u8], s: Settings) -> bool
     requires { (session_length ≤ length bytes.now) × (s.nrtol ≤ max_states) × (s.natol ≤ max_states) }
     ensures { result ≡ tolerances_in_range bytes.now s }
 {
-    if !not_negative(bytes, common::RTOL_AT, s.nrtol) {
-        return false;
-    }
-    not_negative(bytes, common::ATOL_AT, s.natol)
+    not_negative(bytes, common::RTOL_AT, s.nrtol) && not_negative(bytes, common::ATOL_AT, s.natol)
 }
 
 // Whether the four pivots from index i on are below n.
@@ -143,16 +94,7 @@ fn four_below(ipiv: &[usize], i: usize, n: usize) -> bool
     requires { i + 4 ≤ length ipiv.now }
     ensures { result ≡ for i (i + 4) (and_at (pivot_below ipiv.now n)) true }
 {
-    if ipiv[i] >= n {
-        return false;
-    }
-    if ipiv[i + 1] >= n {
-        return false;
-    }
-    if ipiv[i + 2] >= n {
-        return false;
-    }
-    ipiv[i + 3] < n
+    ipiv[i] < n && ipiv[i + 1] < n && ipiv[i + 2] < n && ipiv[i + 3] < n
 }
 
 // Whether each pivot is below n: four at a time, then those that are left.
@@ -160,15 +102,5 @@ pub fn pivots_below(ipiv: &[usize], n: usize) -> bool
     ensures { result ≡ pivots_below ipiv.now n }
 {
     let len = ipiv.len();
-    for k in 0..len / 4 {
-        if !four_below(ipiv, 4 * k, n) {
-            return false;
-        }
-    }
-    for i in len / 4 * 4..len {
-        if ipiv[i] >= n {
-            return false;
-        }
-    }
-    true
+    (0..len / 4).all(|k| four_below(ipiv, 4 * k, n)) && (len / 4 * 4..len).all(|i| ipiv[i] < n)
 }

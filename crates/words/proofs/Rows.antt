@@ -4,22 +4,24 @@
 --     length_over, over-part                   a list after floats were read to its first entries, and those
 --     put-counts-at, put-counts-other          a word after the counts were put, among them and elsewhere
 --     put-floats-at, put-floats-other          the same for floats
+--     row-first, put-counts-row, put-floats-row    rows of a list's beginning, of counts and of floats as rows of words
 -- Assumes nothing.
-use mathlib.Core.Path.{◌≡◌, refl, sym, ◌∙◌}
-use mathlib.Core.List.{List, [], ◌∷◌}
+use mathlib.Core.Path.{◌≡◌, refl, sym, ap, ◌∙◌}
+use mathlib.Core.List.{List, [], ◌∷◌, ◌++◌, map}
 use mathlib.Core.Logic.{⊎_elim, ◌⊎◌, inl, inr}
 use Prim.Native.Nat.{ℕ, zero, suc, ◌+◌, ◌*◌, ◌-◌, ◌≤◌, ◌<◌, ◌^◌}
 use native.Mathlib.Omega.{arith}
 use native.Mathlib.Nat.{not-suc-le-zero, le_of_suc-le-suc, eq-or-lt_of_le, eq-zero-or-pos}
-use lib.ListN.{length, get_or, set, replicate, length-set, length-replicate}
-use lib.Seq.{get_or-set_same, get_or-set_other, get_or-take, ext_get_or}
+use lib.ListN.{length, get_or, set, replicate, take, drop, length-set, length-replicate, get_or-map, take-append-drop}
+use lib.Seq.{get_or-set_same, get_or-set_other, get_or-take, length-take-le, ext_get_or, set-append_left}
 use lib.Ieee.{Float, binary64, to_bits, of_bits}
+use Rattle.std.proofs.lemmas.List.{map-id}
 use Rattle.loops.specs.For.{times}
 use Rattle.loops.specs.Part.{part}
 use Rattle.loops.proofs.Part.{length_part}
 use Rattle.numbers.specs.Float.{zero_f}
 use Rattle.words.specs.Words.{put_word, word, float, counts_over, counts_in, put_counts_of, floats_over, floats_in}
-use Rattle.words.specs.Words.{slot_of, put_floats_of}
+use Rattle.words.specs.Words.{slot_of, put_float_at, put_floats_of, row_over, put_row_of}
 use Rattle.words.proofs.Eight.{length-put, word_back, word-other}
 
 -- an entry within the list is the same by every default
@@ -184,3 +186,44 @@ module _ (at n : ℕ) (list : List Float) (b : List ℕ) where
   put-floats-other j h =
       row_other (λ i. at + i) (slot_of list) (n - 0) 0 j b
       (λ k l m e. ⊎_elim (λ o. omega arith) (λ o. omega arith) h)
+
+-- ---- what the code says of any row
+
+-- a row that is read to the first entries of a list is read to these alone
+module _ {A : Type 0} (r : ℕ → A) where
+  row-first-times : (n i : ℕ) (a : List A) (rest : List A) → i + n ≤ length a
+      → times (read_at r) n i a ++ rest ≡ times (read_at r) n i (a ++ rest)
+  unfolding times
+  row-first-times zero i a rest h = refl
+  row-first-times (suc n) i a rest h =
+      let q = row-first-times n (i + 1) (set a i (r i)) rest (rw length-set (omega arith)) in
+      rw (set-append_left a rest i (r i) (omega arith)) q
+
+pub row-first : {A : Type 0} (read : ℕ → A) (bytes : List ℕ) (at k : ℕ) (list : List A) → k ≤ length list
+    → row_over read bytes at k (take k list) ++ drop k list ≡ row_over read bytes at k list
+row-first read bytes at k list h =
+    let whole = take-append-drop k list in
+    let q =
+    row-first-times (λ i. read (word bytes (at + i))) (k - 0) 0 (take k list) (drop k list)
+    (rw (length-take-le k list h) (omega arith))
+    in
+    rw whole at q
+
+same-turns : {S : Type 0} (f g : ℕ → S → S) → ((k : ℕ) (s : S) → f k s ≡ g k s) → (n i : ℕ) (s : S)
+    → times f n i s ≡ times g n i s
+unfolding times
+same-turns f g e zero i s = refl
+same-turns f g e (suc n) i s = rw (e i s) (same-turns f g e n (i + 1) (g i s))
+
+pub put-counts-row : (at : ℕ) (list b : List ℕ)
+    → put_row_of at (length list) (map (λ n. n) list) b ≡ put_counts_of at list b
+unfolding put_counts_of
+put-counts-row at list b = rw map-id
+
+pub put-floats-row : (at k : ℕ) (list : List Float) (b : List ℕ)
+    → put_row_of at k (map (to_bits binary64) list) b ≡ put_floats_of at k list b
+unfolding put_floats_of
+put-floats-row at k list b =
+    let slot : (i : ℕ) → get_or (map (to_bits binary64) list) i 0 ≡ slot_of list i =
+    λ i. rw zero_bits at (get_or-map (to_bits binary64) list i zero_f) in
+    same-turns _ (put_float_at at list) (λ i s. ap (put_word s (8 * (at + i))) (slot i)) (k - 0) 0 b

@@ -28,32 +28,33 @@ word bytes k = word_at bytes (8 * k)
 abbrev pub float : List ℕ → ℕ → Float
 float bytes k = of_bits binary64 (word bytes k)
 
--- ---- counts, from word `at` on
+-- ---- rows, from word `at` on
 
-abbrev pub count_at : List ℕ → ℕ → ℕ → List ℕ → List ℕ
-count_at bytes at i list = set list i (word bytes (at + i))
+-- k words read to the first entries of a list, each as what it stands for
+abbrev pub row_over : {A : Type 0} → (ℕ → A) → List ℕ → ℕ → ℕ → List A → List A
+row_over read bytes at k list = for 0 k (λ i l. set l i (read (word bytes (at + i)))) list
+
+-- k words put, 0 beyond their list's end
+abbrev pub put_row_of : ℕ → ℕ → List ℕ → List ℕ → List ℕ
+put_row_of at k words bytes = for 0 k (λ i b. put_word b (8 * (at + i)) (get_or words i 0)) bytes
+
+-- ---- counts
 
 -- k of them, to the first entries of a list
 unfoldable pub counts_over : List ℕ → ℕ → ℕ → List ℕ → List ℕ
-counts_over bytes at k list = for 0 k (count_at bytes at) list
+counts_over bytes at k list = row_over (λ w. w) bytes at k list
 
 abbrev pub counts_in : List ℕ → ℕ → ℕ → List ℕ
 counts_in bytes at k = counts_over bytes at k (replicate k 0)
 
-abbrev pub put_count_at : ℕ → List ℕ → ℕ → List ℕ → List ℕ
-put_count_at at list i bytes = put_word bytes (8 * (at + i)) (get_or list i 0)
-
 unfoldable pub put_counts_of : ℕ → List ℕ → List ℕ → List ℕ
-put_counts_of at list bytes = for 0 (length list) (put_count_at at list) bytes
+put_counts_of at list bytes = put_row_of at (length list) list bytes
 
--- ---- floats, from word `at` on
-
-abbrev pub float_at : List ℕ → ℕ → ℕ → List Float → List Float
-float_at bytes at i list = set list i (float bytes (at + i))
+-- ---- floats
 
 -- k of them, to the first entries of a list
 unfoldable pub floats_over : List ℕ → ℕ → ℕ → List Float → List Float
-floats_over bytes at k list = for 0 k (float_at bytes at) list
+floats_over bytes at k list = row_over (of_bits binary64) bytes at k list
 
 abbrev pub floats_in : List ℕ → ℕ → ℕ → List Float
 floats_in bytes at k = floats_over bytes at k (replicate k zero_f)

@@ -1,11 +1,13 @@
 use Prim.Native.Nat.{◌+◌, ◌-◌, ◌*◌, ◌≤◌}
-use mathlib.Core.Path.{◌≡◌, refl, sym}
+use mathlib.Core.Path.{◌≡◌, refl, sym, ap, ◌∙◌}
 use native.Mathlib.Omega.{arith}
 use lib.ListN.{length}
+use Rattle.loops.specs.Part.{part}
 use Rattle.loops.proofs.For.{onward, ended, within}
 use Rattle.loops.proofs.Part.{length_part}
 use Rattle.common.proofs.Laws.{small_product}
-use Rattle.interpolation.specs.Evaluate.{evaluate_of}
+use Rattle.interpolation.specs.Evaluate.{last_column_of, evaluate_of}
+use Rattle.interpolation.proofs.Laws.{copied-column}
 use Rattle.interpolation.proofs.evaluate.Goals as goal
 
 pub overflow_mul-last : goal.overflow_mul-last
@@ -32,26 +34,26 @@ offset_bounds-cont-last c =
     let nq = c.args.z.nq in
     omega (arith, small_product nq n (omega arith) (omega arith))
 
-pub slice_bounds-last_column-count : goal.slice_bounds-last_column-count
-slice_bounds-last_column-count c =
+pub slice_bounds-copy_from_slice-count : goal.slice_bounds-copy_from_slice-count
+slice_bounds-copy_from_slice-count c =
     let n = c.args.z.n in
     let nq = c.args.z.nq in
     omega (arith, small_product nq n (omega arith) (omega arith))
 
-pub slice_bounds-last_column-start : goal.slice_bounds-last_column-start
-slice_bounds-last_column-start c =
+pub slice_bounds-copy_from_slice-start : goal.slice_bounds-copy_from_slice-start
+slice_bounds-copy_from_slice-start c =
     let n = c.args.z.n in
     let nq = c.args.z.nq in
     omega (arith, small_product nq n (omega arith) (omega arith))
 
-pub slice_bounds-last_column-end : goal.slice_bounds-last_column-end
-slice_bounds-last_column-end c =
+pub slice_bounds-copy_from_slice-end : goal.slice_bounds-copy_from_slice-end
+slice_bounds-copy_from_slice-end c =
     let n = c.args.z.n in
     let nq = c.args.z.nq in
     omega (arith, small_product nq n (omega arith) (omega arith), c.requires.3, within n (nq + 1) nq (omega arith))
 
-pub last_column-requires : goal.last_column-requires
-last_column-requires c =
+pub copy_from_slice-requires : goal.copy_from_slice-requires
+copy_from_slice-requires c =
     let n = c.args.z.n in
     let nq = c.args.z.nq in
     let size : 6 + nq * n + n - (6 + nq * n) ≡ n = omega arith in
@@ -60,7 +62,7 @@ last_column-requires c =
     rw (size, length_part (6 + nq * n) n c.args.cont.now fits) (omega (arith, c.requires.2))
 
 pub loop-jb-init : goal.loop-jb-init
-loop-jb-init c = (refl, omega arith, omega (arith, c.last_column.auto.yi), refl)
+loop-jb-init c = (refl, omega arith, omega (arith, c.copy_from_slice.ensures.len), refl)
 
 pub overflow_mul-a : goal.overflow_mul-a
 overflow_mul-a c =
@@ -135,5 +137,9 @@ unfolding evaluate_of
 returns c =
     let b = c.args.z in
     let size : 6 + b.nq * b.n + b.n - (6 + b.nq * b.n) ≡ b.n = omega arith in
-    let last = rw size at c.last_column.ensures in
-    rw (← last) (ended _ _ _ _ _ (omega arith) c.loop-jb.invariant.3)
+    let last = rw size at c.copy_from_slice.ensures.after in
+    let column = part (6 + b.nq * b.n) b.n c.args.cont.now in
+    let whole : last_column_of column c.args.yi.now ≡ column =
+    copied-column column c.args.yi.now (ap length (sym last) ∙ c.copy_from_slice.ensures.len)
+    in
+    rw (whole, ← last) (ended _ _ _ _ _ (omega arith) c.loop-jb.invariant.3)

@@ -7,5 +7,4 @@ use Rattle.interpolation.proofs.horner.Given as goal
 
 abbrev pub invariant-loop-i : goal.invariant-loop-i
 invariant-loop-i l =
-    (l.i-end ≡ length l.initial.yi) × (length l.yi ≡ length l.initial.yi)
-    × (for l.i (length l.initial.yi) (horner_at l.column l.s) l.yi ≡ horner_of l.column l.s l.initial.yi)
+    for l.i (length l.initial.yi) (horner_at l.column l.s) l.yi ≡ horner_of l.column l.s l.initial.yi

@@ -1,33 +1,35 @@
--- `read_header` meets its contract: each arm answers what `read_header_of` gives for the counts found. Assumes nothing.
+-- `read_header` meets its contract: each way answers what `read_header_of` gives for the counts found. Assumes nothing.
 use native.Mathlib.Omega.{arith}
 use lib.ListN.{length}
 use borrow.Author.Tests.{lt-ltb, le-ltb}
 use Rattle.interpolation.specs.Header.{read_header_of}
 use Rattle.interpolation.proofs.read_header.Goals as goal
 
-pub returns-then-cont-lt6 : goal.returns-then-cont-lt6
+pub returns-then-cont-lt-HEADER : goal.returns-then-cont-lt-HEADER
 unfolding read_header_of
-returns-then-cont-lt6 c = rw (lt-ltb (length c.args.cont.now) 6 (omega arith))
+returns-then-cont-lt-HEADER c = rw (lt-ltb (length c.args.cont.now) 6 (omega arith))
 
-pub returns-in-NotWhole : goal.returns-in-NotWhole
+pub returns-in_err-n : goal.returns-in_err-n
 unfolding read_header_of
-returns-in-NotWhole c =
-    let cont = c.args.cont.now in
-    let long = le-ltb (length cont) 6 (omega arith) in
-    rw (long, ← c.whole_count.ensures, c.in-NotWhole.is)
+returns-in_err-n c =
+    let long = le-ltb (length c.args.cont.now) 6 (omega arith) in
+    rw (c.from_residual.ensures, long, ← c.whole_count.ensures, c.in_err-n.was)
 
-pub returns-in-NotWhole-whole_count : goal.returns-in-NotWhole-whole_count
+pub returns-in_err-nq : goal.returns-in_err-nq
 unfolding read_header_of
-returns-in-NotWhole-whole_count c =
-    let cont = c.args.cont.now in
-    let long = le-ltb (length cont) 6 (omega arith) in
-    let order = c.whole_count-in-Is.ensures in
-    rw (long, ← c.whole_count.ensures, c.in-Is.is, ← order, c.in-NotWhole-whole_count.is)
+returns-in_err-nq c =
+    let long = le-ltb (length c.args.cont.now) 6 (omega arith) in
+    rw (
+      c.from_residual-in_err-nq.ensures,
+      long,
+      ← c.whole_count.ensures,
+      c.in_ok-n.was,
+      ← c.whole_count-2.ensures,
+      c.in_err-nq.was,
+    )
 
-pub returns-in-Is-whole_count : goal.returns-in-Is-whole_count
+pub returns : goal.returns
 unfolding read_header_of
-returns-in-Is-whole_count c =
-    let cont = c.args.cont.now in
-    let long = le-ltb (length cont) 6 (omega arith) in
-    let order = c.whole_count-in-Is.ensures in
-    rw (long, ← c.whole_count.ensures, c.in-Is.is, ← order, c.in-Is-whole_count.is)
+returns c =
+    let long = le-ltb (length c.args.cont.now) 6 (omega arith) in
+    rw (long, ← c.whole_count.ensures, c.in_ok-n.was, ← c.whole_count-2.ensures, c.in_ok-nq.was)

@@ -1,5 +1,7 @@
--- `in_range` meets its contract. Each test is one of the definition's, on the record and the words as they were read.
--- Assumes nothing.
+-- `in_range` meets its contract. Each test is one of the definition's, on the record and the words as they were read. Assumes nothing.
+use Rattle.std.proofs.Common.{arith}
+use Rattle.std.proofs.lemmas.Grind.{common_steps}
+use Rattle.std.proofs.lemmas.Bool.Decides.{nat_tests}
 use mathlib.Core.Path.{◌≡◌, sym, ◌∙◌}
 use mathlib.Core.Bool.{◌&&◌}
 use mathlib.Core.List.{List, []}
@@ -27,37 +29,21 @@ fields-requires c =
     let a = c.args in
     read a.bytes.now a.ipiv.now a.x a.u.now c.requires.u_value.1 c.requires.u_value.0
 
-pub returns-then-not-fields : goal.returns-then-not-fields
-returns-then-not-fields c =
-    let a = c.args in
-    rw (
-      whole a.bytes.now a.ipiv.now a.x a.u.now c.requires.u_value.1 c.requires.u_value.0,
-      sym c.fields.ensures ∙ c.if-not-fields.true,
-    )
-
 pub tolerances-requires : goal.tolerances-requires
 tolerances-requires c =
     let a = c.args in
     let n = (read a.bytes.now a.ipiv.now a.x a.u.now c.requires.u_value.1 c.requires.u_value.0).0 in
-    let l = lists-small a.u.now a.x.settings a.x.common n
-    (sym c.fields.ensures ∙ c.if-not-fields.false) in
+    let l = lists-small a.u.now a.x.settings a.x.common n (sym c.fields.ensures ∙ c.if-fields.true) in
     (c.requires.session_length_in_bounds, l.0, l.1)
 
-pub returns-then-not-tolerances : goal.returns-then-not-tolerances
-returns-then-not-tolerances c =
+pub returns-then-tolerances : goal.returns-then-tolerances
+returns-then-tolerances c =
     let a = c.args in
-    rw (
-      whole a.bytes.now a.ipiv.now a.x a.u.now c.requires.u_value.1 c.requires.u_value.0,
-      sym c.fields.ensures ∙ c.if-not-fields.false,
-      sym c.tolerances.ensures ∙ c.if-not-tolerances.true,
-    )
+    rw (whole a.bytes.now a.ipiv.now a.x a.u.now c.requires.u_value.1 c.requires.u_value.0)
+    (grind (arith, common_steps, nat_tests))
 
-pub returns : goal.returns
-returns c =
+pub returns-else-tolerances : goal.returns-else-tolerances
+returns-else-tolerances c =
     let a = c.args in
-    rw (
-      whole a.bytes.now a.ipiv.now a.x a.u.now c.requires.u_value.1 c.requires.u_value.0,
-      sym c.fields.ensures ∙ c.if-not-fields.false,
-      sym c.tolerances.ensures ∙ c.if-not-tolerances.false,
-    )
-    c.pivots_below.ensures
+    rw (whole a.bytes.now a.ipiv.now a.x a.u.now c.requires.u_value.1 c.requires.u_value.0)
+    (grind (arith, common_steps, nat_tests))

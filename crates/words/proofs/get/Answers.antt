@@ -1,18 +1,13 @@
--- `get` meets its contract: the eight digits.
--- Assumes nothing.
-use Rattle.words.specs.Words.{word_at}
+-- `get` meets its contract: the number of the eight bytes. Assumes nothing.
+use Prim.Native.Nat.{◌+◌, ◌-◌}
+use mathlib.Core.Path.{◌≡◌, ap, ◌∙◌}
+use native.Mathlib.Omega.{arith}
+use Rattle.std.specs.Int.{w64, from_le_bytes}
+use Rattle.words.proofs.Eight.{eight-read}
 use Rattle.words.proofs.get.Goals as goal
 
 pub returns : goal.returns
-unfolding word_at
 returns c =
-    simp (
-      c.wide-b0.ensures.0,
-      c.wide-b1.ensures.0,
-      c.wide-b2.ensures.0,
-      c.wide-b3.ensures.0,
-      c.wide-b4.ensures.0,
-      c.wide-b5.ensures.0,
-      c.wide-b6.ensures.0,
-      c.wide-b7.ensures.0,
-    )
+    let a = c.args in
+    let size : a.at + 8 - a.at ≡ 8 = omega arith in
+    c.from_le_bytes.ensures ∙ rw (c.copy_from_slice.ensures.after, size) (eight-read a.bytes.now a.at c.requires)

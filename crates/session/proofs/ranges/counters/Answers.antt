@@ -1,19 +1,14 @@
--- `counters` meets its contract: each test is one of the definition's, in its order.
--- Assumes nothing.
-use borrow.Author.Tests.{lt-ltb, le-ltb}
+-- `counters` meets its contract: each test is one of the definition's. Assumes nothing.
+use Rattle.std.proofs.Common.{arith}
+use Rattle.std.proofs.lemmas.Grind.{common_steps}
+use Rattle.std.proofs.lemmas.Bool.Decides.{nat_tests}
 use Rattle.session.specs.Session.{counters_in_range}
 use Rattle.session.proofs.ranges.counters.Goals as goal
 
-pub returns-then-c-mxncf : goal.returns-then-c-mxncf
-unfolding counters_in_range
-returns-then-c-mxncf c = rw (le-ltb _ _ (rw c.mxncf.ensures at c.if-c-mxncf.true))
-
 pub returns-then-c-s : goal.returns-then-c-s
 unfolding counters_in_range
-returns-then-c-s c =
-    rw (lt-ltb _ _ (rw c.mxncf.ensures at c.if-c-mxncf.false), le-ltb _ _ c.if-c-s.true)
+returns-then-c-s c = grind (arith, common_steps, nat_tests)
 
-pub returns : goal.returns
+pub returns-else-c-s : goal.returns-else-c-s
 unfolding counters_in_range
-returns c =
-    rw (lt-ltb _ _ (rw c.mxncf.ensures at c.if-c-mxncf.false), lt-ltb _ _ c.if-c-s.false)
+returns-else-c-s c = grind (arith, common_steps, nat_tests)

@@ -1,14 +1,14 @@
--- `lists` meets its contract.
--- Assumes nothing.
-use mathlib.Core.Path.{sym, ◌∙◌}
+-- `lists` meets its contract. Assumes nothing.
+use Rattle.std.proofs.Common.{arith}
+use Rattle.std.proofs.lemmas.Grind.{common_steps}
+use Rattle.std.proofs.lemmas.Bool.Decides.{nat_tests}
 use Rattle.session.specs.Session.{lists_in_range}
 use Rattle.session.proofs.ranges.lists.Goals as goal
 
-pub returns-then-not-one_or_n : goal.returns-then-not-one_or_n
+pub returns-then-one_or_n : goal.returns-then-one_or_n
 unfolding lists_in_range
-returns-then-not-one_or_n c = rw (sym c.one_or_n.ensures ∙ c.if-not-one_or_n.true)
+returns-then-one_or_n c = grind (arith, common_steps, nat_tests)
 
-pub returns : goal.returns
+pub returns-else-one_or_n : goal.returns-else-one_or_n
 unfolding lists_in_range
-returns c =
-    rw (sym c.one_or_n.ensures ∙ c.if-not-one_or_n.false) c.one_or_n-2.ensures
+returns-else-one_or_n c = grind (arith, common_steps, nat_tests)

@@ -1,23 +1,21 @@
-use mathlib.Core.Path.{refl, ap}
-use mathlib.Core.Bool.{not}
+-- `not_negative` meets its contract: all of a range. Assumes nothing.
+use Prim.Native.Nat.{◌+◌}
+use mathlib.Core.Path.{◌≡◌, refl, ◌∙◌}
 use native.Mathlib.Omega.{arith}
-use Rattle.session.specs.Session.{every, not_negative}
-use Rattle.session.proofs.Every.{every-again, every-fails, every-ends}
+use Rattle.std.proofs.Common.{rules, tests}
+use Rattle.std.proofs.lemmas.Iterator.{YieldsList-from_range}
+use Rattle.std.proofs.lemmas.Iterator.Search.{all_from_yields_List}
+use Rattle.session.specs.Session.{every, not_negative_at, not_negative}
+use Rattle.session.proofs.Every.{all-run}
 use Rattle.session.proofs.ranges.not_negative.Goals as goal
 
-pub loop-i-init : goal.loop-i-init
-unfolding every not_negative
-loop-i-init c = refl
-
-pub returns-then-float : goal.returns-then-float
-returns-then-float c =
-    let l = c.loop-i in
-    every-fails _ _ _ _ (omega arith) (ap not (rw c.float.ensures at c.if-float.true)) l.invariant
-
-pub loop-i-preserved : goal.loop-i-preserved
-loop-i-preserved c =
-    let l = c.loop-i in
-    every-again _ _ _ _ (omega arith) (ap not (rw c.float.ensures at c.if-float.false)) l.invariant
-
 pub returns : goal.returns
-returns c = every-ends _ _ _ _ (omega arith) c.loop-i.invariant
+unfolding not_negative every
+returns c =
+    let a = c.args in
+    let all =
+    all_from_yields_List (not_negative_at a.bytes.now a.at) _ _ _ c.all.ensures.ran
+    (YieldsList-from_range 0 a.k a.k refl (omega arith)) (λ x b q k. search (rules, tests))
+    in
+    let z : 0 + a.k ≡ a.k = omega arith in
+    all ∙ (rw z at (all-run (not_negative_at a.bytes.now a.at) a.k 0))

@@ -1,15 +1,14 @@
--- `tolerances` meets its contract: one list after the other.
--- Assumes nothing.
-use mathlib.Core.Path.{sym, ◌∙◌}
+-- `tolerances` meets its contract. Assumes nothing.
+use Rattle.std.proofs.Common.{arith}
+use Rattle.std.proofs.lemmas.Grind.{common_steps}
+use Rattle.std.proofs.lemmas.Bool.Decides.{nat_tests}
 use Rattle.session.specs.Session.{tolerances_in_range}
 use Rattle.session.proofs.ranges.tolerances.Goals as goal
 
-pub returns-then-not-not_negative : goal.returns-then-not-not_negative
+pub returns-then-not_negative : goal.returns-then-not_negative
 unfolding tolerances_in_range
-returns-then-not-not_negative c = rw (sym c.not_negative.ensures ∙ c.if-not-not_negative.true)
+returns-then-not_negative c = grind (arith, common_steps, nat_tests)
 
-pub returns : goal.returns
+pub returns-else-not_negative : goal.returns-else-not_negative
 unfolding tolerances_in_range
-returns c =
-    rw (sym c.not_negative.ensures ∙ c.if-not-not_negative.false)
-    c.not_negative-2.ensures
+returns-else-not_negative c = grind (arith, common_steps, nat_tests)

@@ -1,5 +1,4 @@
--- `words` meets its contract: all counts in two runs.
--- Assumes nothing.
+-- `words` meets its contract: all counts in two runs. Assumes nothing.
 use mathlib.Core.Path.{◌≡◌, sym, ◌∙◌}
 use mathlib.Core.Bool.{true}
 use mathlib.Core.List.{List}
@@ -18,20 +17,11 @@ halves : (u : List ℕ) → every (word_in_range u) count_words
     ≡ for half count_words (and_at (word_in_range u)) (for 0 half (and_at (word_in_range u)) true)
 halves u = every-parts (word_in_range u) half count_words (omega arith)
 
-pub run-requires : goal.run-requires
-run-requires c =
-    (c.lowest-low.ensures, c.highest-high.ensures, omega arith, omega arith)
+pub returns-then-run : goal.returns-then-run
+returns-then-run c = rw (halves _, sym c.run.ensures ∙ c.if-run.true) c.run-then-run.ensures
 
-pub returns-then-not-run : goal.returns-then-not-run
-returns-then-not-run c =
+pub returns-else-run : goal.returns-else-run
+returns-else-run c =
     let u = c.args.u.now in
-    rw (halves u, sym c.run.ensures ∙ c.if-not-run.true)
-    (sym (lost-for (word_in_range u) half count_words))
-
-pub run-requires-2 : goal.run-requires-2
-run-requires-2 c =
-    (c.lowest-low.ensures, c.highest-high.ensures, omega arith, omega arith)
-
-pub returns : goal.returns
-returns c =
-    rw (halves _, sym c.run.ensures ∙ c.if-not-run.false) c.run-2.ensures
+    c.if-run.false
+    ∙ rw (halves u, sym c.run.ensures ∙ c.if-run.false) (sym (lost-for (word_in_range u) half count_words))
