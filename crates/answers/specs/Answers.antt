@@ -6,7 +6,7 @@ use Rattle.between_steps.specs.declared.Status.{Status}
 use Rattle.questions.specs.declared.Step.{Step}
 use Rattle.questions.specs.declared.End.{End}
 use Rattle.questions.specs.declared.Question.{Question}
-use Rattle.refusals.specs.declared.Refusal.{Refusal}
+use Rattle.refusals.specs.Refusal.{Entry}
 use Rattle.answers.specs.declared.Reply.{Reply}
 
 -- a number with an index, a value or a time; all else 0
@@ -100,5 +100,5 @@ question_reply (Question.StepRefused h) = plain_reply 11 0 h zero_f
 question_reply (Question.WeightRefused i) = plain_reply 12 i zero_f zero_f
 question_reply Question.Unasked = plain_reply 14 0 zero_f zero_f
 
-abbrev pub refusal_reply : Refusal → Reply
+abbrev pub refusal_reply : Entry → Reply
 refusal_reply r = plain_reply r.number r.index r.value zero_f

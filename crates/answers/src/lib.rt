@@ -3,11 +3,11 @@
 
 ghost use Rattle.std.specs.Prelude.{◌≡◌};
 ghost use Rattle.numbers.specs.Float.{zero_f};
-ghost use Rattle.answers.specs.Answers.{plain_reply, status_number, first_report_reply, report_reply, end_reply};
-ghost use Rattle.answers.specs.Answers.{question_reply, refusal_reply};
+ghost use Rattle.refusals.specs.Refusal.{entry};
+ghost use Rattle.answers.specs.Answers.{plain_reply, status_number, question_reply, refusal_reply};
 
 use between_steps::Status;
-use questions::{End, Question, Step};
+use questions::Question;
 use refusals::Refusal;
 
 // Fields that a case has no use for are 0.
@@ -30,15 +30,15 @@ pub struct Reply {
     pub rejected: usize,
 }
 
-// A number with an index, a value or a time.
-fn plain(number: usize, index: usize, value: f64, time: f64) -> Reply
-    ensures { result ≡ plain_reply number index value time }
+// A number, and nothing else.
+fn numbered(number: usize) -> Reply
+    ensures { result ≡ plain_reply number 0 zero_f zero_f }
 {
     Reply {
-        number: number,
-        index: index,
-        value: value,
-        time: time,
+        number,
+        index: 0,
+        value: 0.0,
+        time: 0.0,
         previous: 0.0,
         count: 0,
         order: 0,
@@ -65,71 +65,87 @@ fn status(s: Status) -> usize
     }
 }
 
-// The first report has no snapshot, and its previous time is its time.
-fn first_report(time: f64) -> Reply
-    ensures { result ≡ first_report_reply time }
-{
-    let mut r = plain(102, 0, 0.0, time);
-    r.previous = time;
-    r
-}
-
-fn report(step: Step) -> Reply
-    ensures { result ≡ report_reply step }
-{
-    let mut r = plain(103, 0, 0.0, step.time);
-    r.previous = step.previous;
-    r.count = step.count;
-    r.order = step.order;
-    r
-}
-
-fn end(e: End) -> Reply
-    ensures { result ≡ end_reply e }
-{
-    let s = e.status;
-    Reply {
-        number: status(s),
-        index: 0,
-        value: 0.0,
-        time: 0.0,
-        previous: 0.0,
-        count: 0,
-        order: 0,
-        h: e.h,
-        nfe: e.nfe,
-        nje: e.nje,
-        nlu: e.nlu,
-        total: e.total,
-        accepted: e.accepted,
-        rejected: e.rejected,
-    }
-}
-
-pub fn answer(q: Question) -> Reply
-    ensures { result ≡ question_reply q }
-{
-    match q {
-        Question::Derivative(at) => plain(100, 0, 0.0, at.time),
-        Question::Jacobian(at) => plain(101, 0, 0.0, at.time),
-        Question::FirstReport(at) => first_report(at.time),
-        Question::Report(step) => report(step),
-        Question::Finished(e) => end(e),
-        Question::StepRefused(h) => plain(11, 0, h, 0.0),
-        Question::WeightRefused(i) => plain(12, i, 0.0, 0.0),
-        Question::Unasked => plain(14, 0, 0.0, 0.0),
-    }
-}
-
 // No states: success, h 0, all counts 0.
 pub fn nothing() -> Reply
     ensures { result ≡ plain_reply 110 0 zero_f zero_f }
 {
-    plain(110, 0, 0.0, 0.0)
+    numbered(110)
 }
 
-pub fn refused(r: Refusal) -> Reply
-    ensures { result ≡ refusal_reply r }
-{
-    plain(r.number, r.index, r.value, 0.0)
+impl From<Refusal> for Reply {
+    ghost from_gives = { λ r reply. reply ≡ refusal_reply (entry r) };
+
+    fn from(r: Refusal) -> Reply {
+        match r {
+            Refusal::TooManyStates => numbered(1),
+            Refusal::ToleranceLength => numbered(2),
+            Refusal::LentLength => numbered(3),
+            Refusal::LargeSetting => numbered(4),
+            Refusal::NoSteps => numbered(5),
+            Refusal::NoIterations => numbered(6),
+            Refusal::NoOrder => numbered(7),
+            Refusal::Banded => numbered(8),
+            Refusal::RelativeTolerance(index) => Reply {
+                index,
+                ..numbered(9)
+            },
+            Refusal::AbsoluteTolerance(index) => Reply {
+                index,
+                ..numbered(10)
+            },
+            Refusal::FirstStep(value) => Reply {
+                value,
+                ..numbered(11)
+            },
+            Refusal::Weight(index) => Reply {
+                index,
+                ..numbered(12)
+            },
+            Refusal::SessionRange => numbered(13),
+            Refusal::Unasked => numbered(14),
+        }
+    }
+}
+
+impl From<Question> for Reply {
+    ghost from_gives = { λ q reply. reply ≡ question_reply q };
+
+    fn from(q: Question) -> Reply {
+        match q {
+            Question::Derivative(at) => Reply {
+                time: at.time,
+                ..numbered(100)
+            },
+            Question::Jacobian(at) => Reply {
+                time: at.time,
+                ..numbered(101)
+            },
+            // no snapshot, and its previous time is its time
+            Question::FirstReport(at) => Reply {
+                time: at.time,
+                previous: at.time,
+                ..numbered(102)
+            },
+            Question::Report(step) => Reply {
+                time: step.time,
+                previous: step.previous,
+                count: step.count,
+                order: step.order,
+                ..numbered(103)
+            },
+            Question::Finished(end) => Reply {
+                h: end.h,
+                nfe: end.nfe,
+                nje: end.nje,
+                nlu: end.nlu,
+                total: end.total,
+                accepted: end.accepted,
+                rejected: end.rejected,
+                ..numbered(status(end.status))
+            },
+            Question::StepRefused(h) => Reply::from(Refusal::FirstStep(h)),
+            Question::WeightRefused(i) => Reply::from(Refusal::Weight(i)),
+            Question::Unasked => Reply::from(Refusal::Unasked),
+        }
+    }
 }

@@ -10,7 +10,7 @@ use native.Mathlib.Omega.{arith}
 use lib.Dec.{eqb}
 use lib.ListN.{length}
 use borrow.Author.Tests.{eqb-true, eqb-false, ne_eqb}
-use Rattle.refusals.specs.declared.Refusal.{Refusal}
+use Rattle.refusals.specs.Refusal.{Entry}
 use Rattle.refusals.specs.Rows.{Row, ExactlyFirst}
 use Rattle.refusals.proofs.Rows.{Each}
 use Rattle.refusals.proofs.Table.{each_row, exactly-first}
@@ -33,7 +33,7 @@ back f = (f.1, f.0)
 beside : {A B : Type 0} (C : Type 0) → A ↔ B → (A × C) ↔ (B × C)
 beside C f = (λ a. (f.0 a.0, a.1), λ b. (f.1 b.0, b.1))
 
-pub exactly-as : (A B : Refusal → Type 0) (X Y : Type 0) → X ↔ Y → (rows : List Row) (M N : Type 0) → M ↔ N
+pub exactly-as : (A B : Entry → Type 0) (X Y : Type 0) → X ↔ Y → (rows : List Row) (M N : Type 0) → M ↔ N
     → Each (λ r. A r ↔ B r) rows → ExactlyFirst A X M rows → ExactlyFirst B Y N rows
 exactly-as A B X Y e [] M N f g h = both (back e) (both h f)
 exactly-as A B X Y e (r ∷ rows) M N f g h = (
@@ -41,7 +41,7 @@ exactly-as A B X Y e (r ∷ rows) M N f g h = (
   exactly-as A B X Y e rows (M × (r.holds → ⊥)) (N × (r.holds → ⊥)) (beside (r.holds → ⊥) f) g.1 h.1,
 )
 
-exactly-never : (A : Refusal → Type 0) (X : Type 0) → (X → ⊥) → (rows : List Row) (None : Type 0) → (None → ⊥)
+exactly-never : (A : Entry → Type 0) (X : Type 0) → (X → ⊥) → (rows : List Row) (None : Type 0) → (None → ⊥)
     → Each (λ r. A r → ⊥) rows → ExactlyFirst A X None rows
 exactly-never A X x [] None n g = (λ a. absurd (x a), λ a. absurd (n a))
 exactly-never A X x (r ∷ rows) None n g = (
@@ -53,7 +53,7 @@ exactly-never A X x (r ∷ rows) None n g = (
 
 module _ (p : Problem) (b : Buffers) where
   module _ (some : 1 ≤ length p.y0) where
-    at_some : (r : Refusal) (t : Bool) → eqb (refusal_of p b).number 0 ≡ t → r.number ≤ 11
+    at_some : (r : Entry) (t : Bool) → eqb (refusal_of p b).number 0 ≡ t → r.number ≤ 11
         → start_at p b (refusal_of p b) ≡ record { reply = refusal_reply r; lent = b } → refusal_of p b ≡ r
     unfolding start_at accepted_start_of
     at_some r true e small h =
@@ -66,11 +66,11 @@ module _ (p : Problem) (b : Buffers) where
           value = x.reply.value;
         }) (rw e at h)
 
-    some-returned : (r : Refusal) → 1 ≤ r.number → r.number ≤ 11 → (refusal_of p b ≡ r) ↔ Returned p b r
+    some-returned : (r : Entry) → 1 ≤ r.number → r.number ≤ 11 → (refusal_of p b ≡ r) ↔ Returned p b r
     unfolding start_at
     some-returned r low small = (
       λ e.
-          let z : (refusal_of p b).number ≢ 0 = λ k. omega (arith, ap (λ (x : Refusal). x.number) e, k, low) in
+          let z : (refusal_of p b).number ≢ 0 = λ k. omega (arith, ap (λ (x : Entry). x.number) e, k, low) in
           some-start p b some ∙ rw (ne_eqb (refusal_of p b).number 0 z, e),
       λ h. at_some r (eqb (refusal_of p b).number 0) refl small (sym (some-start p b some) ∙ h),
     )

@@ -26,8 +26,7 @@ use Rattle.history.proofs.Laws.{length-copy}
 use Rattle.questions.specs.declared.Phase.TheVariants as Phase
 use Rattle.questions.specs.declared.Session.{Session}
 use Rattle.between_steps.specs.Start.{with_derivative}
-use Rattle.refusals.specs.declared.Refusal.{Refusal}
-use Rattle.refusals.specs.Refusal.{none}
+use Rattle.refusals.specs.Refusal.{Entry, none}
 use Rattle.refusals.specs.Start.{accepted_settings}
 use Rattle.refusals.specs.Rows.{Row, NoneHolds}
 use Rattle.refusals.proofs.FirstStep.{step-decides}
@@ -75,7 +74,7 @@ module _ (p : Problem) (ws : List Float)
           let q : i ≡ at → ⊥ = eqb-false i at e in
           inr (λ y. differs (sym (before i (omega arith)) ∙ rw (are i (omega arith)) y), on (omega arith))
 
-  no-weight : (rest : List Row) (x : Refusal) → IsFirst rest x
+  no-weight : (rest : List Row) (x : Entry) → IsFirst rest x
       → ((i : ℕ) → i < length p.y0 → Ieee.le (get_or ws i nan) zero_f ≡ false)
       → (k i : ℕ) → i + k ≤ length p.y0 → IsFirst (weight_rows p k i rest) x
   no-weight rest x f all zero i h = f
@@ -87,7 +86,7 @@ module _ (p : Problem) (ws : List Float)
 
 -- ---- the places of the rows
 
-abbrev place_of : ℕ → Refusal → ℕ
+abbrev place_of : ℕ → Entry → ℕ
 place_of n r = cond (eqb r.number 12) (suc r.index) (suc n)
 
 after-weights : (p : Problem) (n : ℕ) (r : Row) → r.refusal.number ≡ 11 → (k i j : ℕ) → i + k ≡ n → j ≤ i
@@ -96,33 +95,33 @@ after-weights p n r e zero i j h q = rw e (omega arith, tt)
 after-weights p n r e (suc k) i j h q =
     (omega arith, after-weights p n r e k (i + 1) (suc i) (omega arith) (omega arith))
 
-each-weight : (P : Refusal → Type 0) (p : Problem) (r : Row) → r.refusal.number ≡ 11
-    → ((q : Refusal) → 1 ≤ q.number → q.number ≤ 12 → P q) → (k i : ℕ) → Each P (weight_rows p k i (r ∷ []))
+each-weight : (P : Entry → Type 0) (p : Problem) (r : Row) → r.refusal.number ≡ 11
+    → ((q : Entry) → 1 ≤ q.number → q.number ≤ 12 → P q) → (k i : ℕ) → Each P (weight_rows p k i (r ∷ []))
 each-weight P p r e h zero i = (h r.refusal (rw e (lit≤ tt)) (rw e (lit≤ tt)), tt)
 each-weight P p r e h (suc k) i = (h _ (lit≤ tt) (lit≤ tt), each-weight P p r e h k (i + 1))
 
 -- ---- an answer that is the first row's, or the first report
 
-abbrev Answers : Refusal → Reply → Type 0
+abbrev Answers : Entry → Reply → Type 0
 Answers x a = ((1 ≤ x.number) × (x.number ≤ 12) × (a ≡ refusal_reply x)) ⊎ ((x ≡ none) × (a.number ≡ 102))
 
-abbrev refusal_in : Reply → Refusal
+abbrev refusal_in : Reply → Entry
 refusal_in a = record { number = a.number; index = a.index; value = a.value }
 
-same_answer : (x : Refusal) (a : Reply) → Answers x a → (q : Refusal) → 1 ≤ q.number → q.number ≤ 12
+same_answer : (x : Entry) (a : Reply) → Answers x a → (q : Entry) → 1 ≤ q.number → q.number ≤ 12
     → (x ≡ q) ↔ (a ≡ refusal_reply q)
 same_answer x a (inl (low, small, e)) q l m = (λ z. e ∙ ap refusal_reply z, λ z. ap refusal_in (sym e ∙ z))
 same_answer x a (inr (e, k)) q l m = (
-  λ z. let o : q.number ≡ 0 = ap (λ (y : Refusal). y.number) (sym z ∙ e) in absurd (omega (arith, o, l)),
+  λ z. let o : q.number ≡ 0 = ap (λ (y : Entry). y.number) (sym z ∙ e) in absurd (omega (arith, o, l)),
   λ z. let o : a.number ≡ q.number = ap (λ (y : Reply). y.number) z in absurd (omega (arith, o, k, m)),
 )
 
-same_end : (x : Refusal) (a : Reply) → Answers x a → (x.number ≡ 0) ↔ (a.number ≡ 102)
+same_end : (x : Entry) (a : Reply) → Answers x a → (x.number ≡ 0) ↔ (a.number ≡ 102)
 same_end x a (inl (low, small, e)) = (
   λ z. absurd (omega (arith, z, low)),
   λ z. let o : a.number ≡ x.number = ap (λ (y : Reply). y.number) e in absurd (omega (arith, o, z, small)),
 )
-same_end x a (inr (e, k)) = (λ z. k, λ z. ap (λ (y : Refusal). y.number) e)
+same_end x a (inr (e, k)) = (λ z. k, λ z. ap (λ (y : Entry). y.number) e)
 
 -- ---- the call
 
@@ -189,7 +188,7 @@ module _ (p : Problem) (b : Buffers) (begins : Begins p b) (r : ReplyCall) (time
   abbrev a : Reply
   a = (replied (start_of p b) r).reply
 
-  exactly-so : (y : Refusal) → Answers y a → IsFirst (first_rows p b f) y → FirstExactly p b r
+  exactly-so : (y : Entry) → Answers y a → IsFirst (first_rows p b f) y → FirstExactly p b r
   exactly-so y like is =
       let rest = size_row p b f in
       exactly-as (λ q. y ≡ q) (λ q. a

@@ -33,8 +33,7 @@ use Rattle.session.specs.Names.{n_word, phase_word}
 use Rattle.session.specs.InRange.{InRange}
 use Rattle.session.proofs.InRange.{in-range}
 use Rattle.session.proofs.Back.{stored-n}
-use Rattle.refusals.specs.declared.Refusal.{Refusal}
-use Rattle.refusals.specs.Refusal.{none, plain, also_of, in_order, or_else}
+use Rattle.refusals.specs.Refusal.{Entry, none, plain, also_of, in_order, or_else}
 use Rattle.refusals.specs.Rows.{Row, row, FirstIs, NoneHolds}
 use Rattle.refusals.proofs.Decides.{Decides, equal, smaller, denied, either as or}
 use Rattle.refusals.proofs.Rows.{Each}
@@ -163,7 +162,7 @@ module _ (n len : ℕ) where
 
 -- ---- the code's tests in order
 
-lengths-are : (n work pivots question : ℕ) (rest : Refusal)
+lengths-are : (n work pivots question : ℕ) (rest : Entry)
     → or_else (lengths_refusal n work pivots question) rest
     ≡ cond (not (eqb work (work_length n)) || (not (eqb pivots n) || not (eqb question (question_length n)))) (plain 3)
     rest
@@ -234,7 +233,7 @@ module _ (kind : ℕ) (numbers : List Float) (time : Float) (b : Buffers) where
   abbrev is_now : Bool
   is_now = is_asked (decode_of b.session).phase (kind_of kind) (length numbers) (decode_of b.session).settings.n
 
-  abbrev refusal : Refusal
+  abbrev refusal : Entry
   refusal = reply_refusal_of kind (length b.work) b.pivots b.session (length b.question)
 
   refusal_is : refusal
@@ -242,12 +241,12 @@ module _ (kind : ℕ) (numbers : List Float) (time : Float) (b : Buffers) where
       (cond (finished_in b.session) (plain 14) (cond outside (plain 13) (cond (not (is_kind kind)) (plain 14) none)))))
   unfolding reply_refusal_of
   refusal_is =
-      ap (λ (r : Refusal). cond unlong (plain 3) (cond (eqb n 0) (plain 13) (cond (ltb max_states n) (plain 13) r)))
+      ap (λ (r : Entry). cond unlong (plain 3) (cond (eqb n 0) (plain 13) (cond (ltb max_states n) (plain 13) r)))
       (lengths-are n (length b.work) (length b.pivots) (length b.question) _
       ∙ ap (cond unsized (plain 3)) (stored-are (is_kind kind) b.pivots b.session))
       ∙ ap (cond unlong (plain 3)) (two (eqb n 0) (ltb max_states n) (plain 13) _)
 
-  at-cond : (t : Bool) (k : ℕ) (r : Refusal) → eqb k 0 ≡ false
+  at-cond : (t : Bool) (k : ℕ) (r : Entry) → eqb k 0 ≡ false
       → reply_at (cond t (plain k) r) kind numbers time b ≡ cond t (leaves k) (reply_at r kind numbers time b)
   unfolding reply_at
   at-cond true k r e = rw e
@@ -269,7 +268,7 @@ module _ (kind : ℕ) (numbers : List Float) (time : Float) (b : Buffers) where
       (cond (not (is_kind kind && is_now)) (leaves 14) go)))))
   unfolding reply_of reply_at
   reply-is =
-      ap (λ (r : Refusal). reply_at r kind numbers time b) refusal_is
+      ap (λ (r : Entry). reply_at r kind numbers time b) refusal_is
       ∙ at-cond unlong 3 _ refl
       ∙ ap (cond unlong (leaves 3)) (at-cond unstated 13 _ refl
       ∙ ap (cond unstated (leaves 13)) (at-cond unsized 3 _ refl

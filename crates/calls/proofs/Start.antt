@@ -11,12 +11,11 @@ use Prim.Native.Nat.{ℕ, ◌-◌, ◌≤◌}
 use native.Mathlib.Omega.{arith}
 use lib.Dec.{eqb, lit<}
 use lib.Ieee.{Float}
-use lib.ListN.{length, replicate}
+use lib.ListN.{length}
 use borrow.Author.Tests.{eq-eqb}
 use Rattle.loops.specs.Part.{put_part}
 use Rattle.numbers.specs.Float.{zero_f}
 use Rattle.vectors.specs.Tolerance.{List1OrN}
-use Rattle.history.proofs.Filled.{filled}
 use Rattle.questions.specs.declared.Session.{Session}
 use Rattle.questions.specs.Requires.{Resumes}
 use Rattle.common.specs.SessionWords.{rtol_at, atol_at, session_length}
@@ -42,7 +41,7 @@ use Rattle.invariants.proofs.Fits.{start_fits}
 use Rattle.invariants.proofs.Host.{is-f64-fits}
 use Rattle.answers.specs.Answers.{plain_reply}
 use Rattle.answers.specs.Called.{Buffers}
-use Rattle.raimsklo.specs.Starts.{cleared_of, kept_of, accepted_start_of}
+use Rattle.raimsklo.specs.Starts.{kept_of, accepted_start_of}
 use Rattle.raimsklo.specs.Calls.{Problem, lengths_of, start_at, start_of}
 use Rattle.calls.specs.WellFormed.{WellFormed}
 use Rattle.calls.specs.Run.{Begins}
@@ -51,10 +50,6 @@ use Rattle.calls.proofs.WellFormed.{refusal_of, some-start, start-number-is, wel
 use Rattle.calls.proofs.Slots.{slots-put}
 use Rattle.calls.proofs.Keeps.{Runs, Keeps, pivots-below}
 use Rattle.calls.proofs.Answers.{lent_of}
-
-pub clear-all : (l : List ℕ) → cleared_of l ≡ replicate (length l) 0
-unfolding cleared_of
-clear-all l = filled 0 l
 
 -- ---- the call of an accepted start
 
@@ -80,7 +75,7 @@ module _ (p : Problem) (b : Buffers) where
       let number : (refusal_of p b).number ≡ 0 = ((start-number-is p b).0 ((well-formed p b).0 formed)).1 in
       let e : eqb (refusal_of p b).number 0 ≡ true = eq-eqb (refusal_of p b).number 0 number in
       some-start p b formed.states.0
-      ∙ rw (e, clear-all b.pivots, formed.work, formed.pivots)
+      ∙ rw (e, formed.work, formed.pivots)
 
 -- ---- its run and its session
 

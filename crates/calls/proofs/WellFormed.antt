@@ -16,7 +16,7 @@ use borrow.Author.Tests.{eqb-true, eqb-false, eq-eqb, ne_eqb, lt-ltb}
 use Rattle.loops.proofs.Test.{differs}
 use Rattle.numbers.specs.Float.{◌⊖◌, zero_f}
 use Rattle.numbers.specs.Sign.{signum_of, refused}
-use Rattle.refusals.specs.declared.Refusal.{Refusal}
+use Rattle.refusals.specs.Refusal.{Entry}
 use Rattle.refusals.specs.Start.{is_negative, start_refusal_of}
 use Rattle.refusals.specs.FirstStep.{StepTaken}
 use Rattle.refusals.specs.Rows.{Row, NoneHolds}
@@ -30,7 +30,7 @@ use Rattle.raimsklo.specs.Starts.{accepted_start_of}
 use Rattle.raimsklo.specs.Calls.{Problem, lengths_of, start_at, start_of}
 use Rattle.calls.specs.WellFormed.{WellFormed}
 
-abbrev pub refusal_of : Problem → Buffers → Refusal
+abbrev pub refusal_of : Problem → Buffers → Entry
 refusal_of p b = start_refusal_of p.x0 p.xend p.options (lengths_of p b) p.rtol p.atol
 
 abbrev pub refusal_rows : Problem → Buffers → List Row

@@ -3,7 +3,7 @@
 -- first derivative is then answered is First's.
 use Rattle.std.specs.Prelude.{List, ◌∷◌, ◌≡◌, length}
 use Rattle.loops.specs.Part.{put_part}
-use Rattle.refusals.specs.declared.Refusal.{Refusal}
+use Rattle.refusals.specs.Refusal.{Entry}
 use Rattle.refusals.specs.Rows.{Row, row, ExactlyFirst}
 use Rattle.refusals.specs.Table.{start_rows}
 use Rattle.answers.specs.Answers.{refusal_reply}
@@ -17,7 +17,7 @@ start_call_rows p b =
     ∷ start_rows p.x0 p.xend p.options (lengths_of p b) p.rtol p.atol
 
 -- a row's number, index and value, all else 0, and everything that was lent as it was
-abbrev pub Returned : Problem → Buffers → Refusal → Type 0
+abbrev pub Returned : Problem → Buffers → Entry → Type 0
 Returned p b r = start_of p b ≡ record { reply = refusal_reply r; lent = b }
 
 -- a row is returned exactly if its condition holds and no earlier one does; the first derivative is wanted (100)

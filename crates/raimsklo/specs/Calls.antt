@@ -5,14 +5,14 @@ use Rattle.std.specs.Prelude.{cond, List, ℕ, eqb, length, Float}
 use Rattle.numbers.specs.Float.{zero_f}
 use Rattle.refusals.specs.declared.Options.{Options}
 use Rattle.refusals.specs.declared.Lengths.{Lengths}
-use Rattle.refusals.specs.declared.Refusal.{Refusal}
+use Rattle.refusals.specs.Refusal.{Entry}
 use Rattle.refusals.specs.Start.{start_refusal_of, accepted_settings, given_step_of, smallest_of, inverse_largest_of}
 use Rattle.answers.specs.Answers.{plain_reply, refusal_reply}
 use Rattle.answers.specs.Called.{Buffers, Called}
 use Rattle.replies.specs.Replies.{kind_of, reply_refusal_of, accepted_reply_of}
 use Rattle.raimsklo.specs.Starts.{accepted_start_of}
 
-abbrev pub unchanged : Refusal → Buffers → Called
+abbrev pub unchanged : Entry → Buffers → Called
 unchanged r b = record { reply = refusal_reply r; lent = b }
 
 -- ---- start
@@ -36,7 +36,7 @@ lengths_of p b = record {
   question = length b.question;
 }
 
-unfoldable pub start_at : Problem → Buffers → Refusal → Called
+unfoldable pub start_at : Problem → Buffers → Entry → Called
 start_at p b r =
     cond (eqb r.number 0)
     (accepted_start_of (accepted_settings p.x0 p.xend p.options (lengths_of p b)) p.x0
@@ -53,7 +53,7 @@ start_of p b =
 
 -- ---- reply
 
-unfoldable pub reply_at : Refusal → ℕ → List Float → Float → Buffers → Called
+unfoldable pub reply_at : Entry → ℕ → List Float → Float → Buffers → Called
 reply_at r kind numbers time b = cond (eqb r.number 0) (accepted_reply_of (kind_of kind) numbers time b) (unchanged r b)
 
 unfoldable pub reply_of : ℕ → List Float → Float → Buffers → Called

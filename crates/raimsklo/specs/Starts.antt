@@ -1,6 +1,5 @@
 -- What an accepted start answers, and what every lent slice holds then.
-use Rattle.std.specs.Prelude.{List, ℕ, length, set, replicate, Float}
-use Rattle.loops.specs.For.{for}
+use Rattle.std.specs.Prelude.{List, ℕ, length, replicate, Float}
 use Rattle.numbers.specs.Float.{zero_f}
 use Rattle.common.specs.declared.Settings.{Settings}
 use Rattle.common.specs.declared.Common.{Common}
@@ -12,12 +11,6 @@ use Rattle.history.specs.Parts.{stored_of}
 use Rattle.session.specs.Session.{encode_of, put_tolerances_of}
 use Rattle.answers.specs.Answers.{question_reply}
 use Rattle.answers.specs.Called.{Buffers, Called}
-
-abbrev pub clear_at : ℕ → List ℕ → List ℕ
-clear_at i pivots = set pivots i 0
-
-unfoldable pub cleared_of : List ℕ → List ℕ
-cleared_of pivots = for 0 (length pivots) clear_at pivots
 
 -- the session of a start, with its tolerances
 unfoldable pub kept_of : Settings → Common → List Float → List Float → List ℕ → List ℕ
@@ -35,7 +28,7 @@ accepted_start_of s x0 h hmin hmxi y0 rtol atol b = record {
   reply = question_reply (Question.Derivative (record { time = x0 }));
   lent = record {
     work = laid_of s.n y0 b.work;
-    pivots = cleared_of b.pivots;
+    pivots = replicate (length b.pivots) 0;
     session = kept_of s (initial_of s x0 h hmin hmxi) rtol atol b.session;
     question = stored_of 0 y0 b.question;
   };

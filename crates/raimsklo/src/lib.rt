@@ -14,7 +14,7 @@ ghost use Rattle.raimsklo.specs.Defaults.{defaults, work_length_for, question_le
 mod starts;
 
 pub use answers::Reply;
-use refusals::{Lengths, Options};
+use refusals::{Lengths, Options, Refusal, Start};
 
 // The root of order k of x. An order outside 2 to 13 gives a NaN whatever x is.
 pub fn raimsklo_root(x: f64, k: usize) -> f64
@@ -57,6 +57,7 @@ pub fn raimsklo_defaults() -> Options
 }
 
 // How many numbers the work of n states has; 0 where n is above the largest number of states.
+#[tactic(auto, unfolding(crate::specs::Defaults::work_length_for))]
 pub fn raimsklo_work_length(n: usize) -> usize
     ensures { result ≡ work_length_for n }
 {
@@ -67,6 +68,7 @@ pub fn raimsklo_work_length(n: usize) -> usize
 }
 
 // How many numbers the question of n states has; 0 where n is above the largest number of states.
+#[tactic(auto, unfolding(crate::specs::Defaults::question_length_for))]
 pub fn raimsklo_question_length(n: usize) -> usize
     ensures { result ≡ question_length_for n }
 {
@@ -84,6 +86,7 @@ pub fn raimsklo_session_length() -> usize
 }
 
 // A run begins: the first derivative is wanted, or the start is refused.
+#[tactic(auto, unfolding(crate::specs::Calls::start_of))]
 pub fn raimsklo_start(
     x0: f64,
     xend: f64,
@@ -120,7 +123,7 @@ pub fn raimsklo_start(
           question = question.old;
         })) }
 {
-    if y0.len() == 0 {
+    if y0.is_empty() {
         return answers::nothing();
     }
     let l = Lengths {
@@ -132,17 +135,13 @@ pub fn raimsklo_start(
         session: session.len(),
         question: question.len(),
     };
-    let r = refusals::start_refusal(x0, xend, options, l, rtol, atol);
-    if r.number != 0 {
-        return answers::refused(r);
+    match refusals::start_refusal(x0, xend, options, l, rtol, atol) {
+        Err(r) => Reply::from(r),
+        Ok(()) => {
+            let start = Start::new(x0, xend, options, l);
+            starts::accept(start, y0, rtol, atol, work, pivots, session, question)
+        }
     }
-    let s = refusals::settings(x0, xend, options, l);
-    let h = refusals::first_step(options);
-    let hmin = refusals::smallest(options);
-    let hmxi = refusals::inverse_largest(x0, xend, options);
-    starts::accept(
-        s, x0, h, hmin, hmxi, y0, rtol, atol, work, pivots, session, question,
-    )
 }
 
 // The host's reply to the question that stands: the next question, a report, the end, or a refusal.
@@ -173,22 +172,12 @@ pub fn raimsklo_reply(
         })) }
 {
     if session.len() != common::SESSION_LENGTH {
-        return answers::refused(refusals::plain(3));
+        return Reply::from(Refusal::LentLength);
     }
     let u = session::counts(session);
     let x = session::decode(&u, session);
-    let r = replies::refusal(kind, &u, x, work.len(), pivots, session, question.len());
-    if r.number != 0 {
-        return answers::refused(r);
+    match replies::checked(kind, &u, x, work.len(), pivots, session, question.len()) {
+        Err(r) => Reply::from(r),
+        Ok(kind) => replies::accept(x, kind, numbers, time, work, pivots, session, question),
     }
-    replies::accept(
-        x,
-        replies::kind(kind),
-        numbers,
-        time,
-        work,
-        pivots,
-        session,
-        question,
-    )
 }

@@ -20,8 +20,7 @@ use Rattle.common.specs.Limits.{max_states}
 use Rattle.common.specs.SessionWords.{session_length}
 use Rattle.refusals.specs.declared.Options.{Options}
 use Rattle.refusals.specs.declared.Lengths.{Lengths}
-use Rattle.refusals.specs.declared.Refusal.{Refusal}
-use Rattle.refusals.specs.Refusal.{plain, also_of, or_else}
+use Rattle.refusals.specs.Refusal.{Entry, plain, also_of, or_else}
 use Rattle.refusals.specs.Start.{is_negative, start_refusal_of}
 use Rattle.refusals.specs.Rows.{Row, NoneHolds}
 use Rattle.refusals.specs.Table.{NotOneOrN, WrongList, WrongSlice, LargeSetting, BelowZero, tolerance_rows}
@@ -61,22 +60,22 @@ pub record Started (x0 xend : Float) (o : Options) (l : Lengths) (rtol atol : Li
 
 -- ---- one condition
 
-also-at : (r : Refusal) (e b : Bool) (k : ℕ) → eqb r.number 0 ≡ e → 1 ≤ k
+also-at : (r : Entry) (e b : Bool) (k : ℕ) → eqb r.number 0 ≡ e → 1 ≤ k
     → (cond e (cond b (plain k) r) r).number ≡ 0 → (r.number ≡ 0) × (b ≡ false)
 also-at r true true k p h q = absurd (omega arith)
 also-at r true false k p h q = (q, refl)
 also-at r false b k p h q = absurd (eqb-false _ _ p q)
 
-pub also-none : (r : Refusal) (b : Bool) (k : ℕ) → 1 ≤ k → (also_of r b k).number ≡ 0 → (r.number ≡ 0) × (b ≡ false)
+pub also-none : (r : Entry) (b : Bool) (k : ℕ) → 1 ≤ k → (also_of r b k).number ≡ 0 → (r.number ≡ 0) × (b ≡ false)
 unfolding also_of
 also-none r b k h q = also-at r (eqb r.number 0) b k refl h q
 
-else-at : (a b : Refusal) (e : Bool) → eqb a.number 0 ≡ e → (cond e b a).number ≡ 0
+else-at : (a b : Entry) (e : Bool) → eqb a.number 0 ≡ e → (cond e b a).number ≡ 0
     → (a.number ≡ 0) × (b.number ≡ 0)
 else-at a b true p q = (eqb-true _ _ p, q)
 else-at a b false p q = absurd (eqb-false _ _ p q)
 
-pub else-none : (a b : Refusal) → (or_else a b).number ≡ 0 → (a.number ≡ 0) × (b.number ≡ 0)
+pub else-none : (a b : Entry) → (or_else a b).number ≡ 0 → (a.number ≡ 0) × (b.number ≡ 0)
 unfolding or_else
 else-none a b q = else-at a b (eqb a.number 0) refl q
 

@@ -1,3 +1,4 @@
+pub mod Entries
 pub mod Decides
 pub mod FirstStep
 pub mod Rows

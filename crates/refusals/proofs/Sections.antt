@@ -15,8 +15,7 @@ use Rattle.common.specs.Limits.{max_states}
 use Rattle.common.specs.SessionWords.{session_length}
 use Rattle.refusals.specs.declared.Options.{Options}
 use Rattle.refusals.specs.declared.Lengths.{Lengths}
-use Rattle.refusals.specs.declared.Refusal.{Refusal}
-use Rattle.refusals.specs.Refusal.{none, plain, also_of, in_order, or_else}
+use Rattle.refusals.specs.Refusal.{Entry, none, plain, also_of, in_order, or_else}
 use Rattle.refusals.specs.Start.{is_list, length_refusal, size_refusal, large_refusal, limit_refusal}
 use Rattle.refusals.specs.Start.{tolerance_at}
 use Rattle.refusals.specs.Rows.{Row, row}
@@ -42,7 +41,7 @@ module _ (l : Lengths) where
   unfolding length_refusal in_order
   lists-are =
       also-same _ _ _ 3 (positive 2) ∙ also-same _ _ _ 3 (positive 2) ∙ also-same _ _ _ 3 (positive 2)
-      ∙ ap (λ (r : Refusal). also_of r slices 3) (also-same none _ _ 2 (positive 1))
+      ∙ ap (λ (r : Entry). also_of r slices 3) (also-same none _ _ 2 (positive 1))
 
   abbrev unequal : (a b : ℕ) → Decides (not (eqb a b)) (a ≢ b)
   unequal a b = denied (eqb a b) (equal a b)
@@ -91,14 +90,14 @@ module _ (o : Options) where
       (eqb o.maxcor 0) 6) (eqb o.mxordn 0 || eqb o.mxords 0) 7) (not (eqb o.banded 0)) 8
   unfolding limit_refusal in_order
   limits-are =
-      ap (λ (r : Refusal). also_of r (not (eqb o.banded 0)) 8) (also-same _ _ _ 7 (positive 6))
-      ∙ ap (λ (r : Refusal). also_of (also_of (also_of (also_of r (eqb o.max_steps 0) 5) (eqb o.maxcor 0) 6)
+      ap (λ (r : Entry). also_of r (not (eqb o.banded 0)) 8) (also-same _ _ _ 7 (positive 6))
+      ∙ ap (λ (r : Entry). also_of (also_of (also_of (also_of r (eqb o.max_steps 0) 5) (eqb o.maxcor 0) 6)
       (eqb o.mxordn 0 || eqb o.mxords 0) 7) (not (eqb o.banded 0)) 8) large_is
 
 -- ---- tolerances
 
 module _ (rtol atol : List Float) where
-  pub tolerances-by : (rest : List Row) (y : Refusal) (k i : ℕ) (s t : Bool)
+  pub tolerances-by : (rest : List Row) (y : Entry) (k i : ℕ) (s t : Bool)
       → IsFirst (tolerance_rows rtol atol k (i + 1) rest) (or_else (times (tolerance_at rtol atol) k (i + 1) none) y)
       → Decides s (BelowZero rtol i) → Decides t (BelowZero atol i)
       → IsFirst (tolerance_rows rtol atol (suc k) i rest)
@@ -107,9 +106,9 @@ module _ (rtol atol : List Float) where
       (cond t (record { number = 10; index = i; value = zero_f }) none))) y)
   unfolding or_else
   tolerances-by rest y k i true t f d g =
-      let nine : Refusal = record { number = 9; index = i; value = zero_f } in
+      let nine : Entry = record { number = 9; index = i; value = zero_f } in
       inl (d.0 refl, rw (stays-times (tolerance_at rtol atol) nine (λ j. refl) k (i + 1)))
   tolerances-by rest y k i false true f d g =
-      let ten : Refusal = record { number = 10; index = i; value = zero_f } in
+      let ten : Entry = record { number = 10; index = i; value = zero_f } in
       inr (d.1 refl, inl (g.0 refl, rw (stays-times (tolerance_at rtol atol) ten (λ j. refl) k (i + 1))))
   tolerances-by rest y k i false false f d g = inr (d.1 refl, inr (g.1 refl, f))

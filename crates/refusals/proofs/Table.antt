@@ -19,8 +19,7 @@ use Rattle.numbers.specs.Float.{◌⊖◌, zero_f}
 use Rattle.numbers.specs.Sign.{signum_of, refused}
 use Rattle.refusals.specs.declared.Options.{Options}
 use Rattle.refusals.specs.declared.Lengths.{Lengths}
-use Rattle.refusals.specs.declared.Refusal.{Refusal}
-use Rattle.refusals.specs.Refusal.{none, or_else}
+use Rattle.refusals.specs.Refusal.{Entry, none, or_else}
 use Rattle.refusals.specs.Start.{size_refusal, limit_refusal, is_negative}
 use Rattle.refusals.specs.Start.{tolerance_at, tolerance_refusal, step_refusal, start_refusal_of}
 use Rattle.refusals.specs.FirstStep.{StepRefused}
@@ -74,7 +73,7 @@ below list i = by (ltb i (length list)) (smaller i (length list))
     by false d = (λ e. differs e, λ e h. d.1 refl h.0)
 
 module _ (rtol atol : List Float) where
-  first-tolerances : (rest : List Row) (y : Refusal) → IsFirst rest y → (k i : ℕ)
+  first-tolerances : (rest : List Row) (y : Entry) → IsFirst rest y → (k i : ℕ)
       → IsFirst (tolerance_rows rtol atol k i rest) (or_else (times (tolerance_at rtol atol) k i none) y)
   unfolding times or_else
   first-tolerances rest y f zero i = f
@@ -125,7 +124,7 @@ none-tolerances rtol atol rest r a h (suc k) i = (r i, (a i, none-tolerances rto
 
 -- ---- what holds of every refusal by 1 to 11 holds of each row's
 
-module _ (P : Refusal → Type 0) (h : (r : Refusal) → 1 ≤ r.number → r.number ≤ 11 → P r) where
+module _ (P : Entry → Type 0) (h : (r : Entry) → 1 ≤ r.number → r.number ≤ 11 → P r) where
   each-tolerance : (rtol atol : List Float) (rest : List Row) → Each P rest → (k i : ℕ)
       → Each P (tolerance_rows rtol atol k i rest)
   each-tolerance rtol atol rest e zero i = e
@@ -174,7 +173,7 @@ numbered-rows x0 xend o l rtol atol =
 
 -- ---- the places of a start's rows
 
-abbrev place : ℕ → Refusal → ℕ
+abbrev place : ℕ → Entry → ℕ
 place n r =
     cond (ltb r.number 9) r.number
     (cond (eqb r.number 9) (9 + (r.index + r.index))

@@ -1,7 +1,7 @@
 -- What a start is refused for: the scope's table, 1 to 11 in its order; and the settings of an accepted start, as
 -- `solve` makes them.
 -- 12 is not here: it needs the first derivative (crate reports).
-use Rattle.std.specs.Prelude.{Bool, false, cond, not, ◌||◌, List, [], ◌∷◌, ℕ, eqb, ltb, length, get_or, Float}
+use Rattle.std.specs.Prelude.{Bool, false, cond, not, ◌||◌, ◌&&◌, List, [], ◌∷◌, ℕ, eqb, ltb, length, get_or, Float}
 use Rattle.std.specs.Float.Ieee as Ieee
 use Rattle.std.specs.Float.{nan}
 use Rattle.loops.specs.For.{for}
@@ -13,15 +13,19 @@ use Rattle.common.specs.Limits.{max_states}
 use Rattle.common.specs.SessionWords.{session_length}
 use Rattle.refusals.specs.declared.Options.{Options}
 use Rattle.refusals.specs.declared.Lengths.{Lengths}
-use Rattle.refusals.specs.declared.Refusal.{Refusal}
-use Rattle.refusals.specs.Refusal.{none, plain, when, in_order, or_else}
+use Rattle.refusals.specs.declared.Start.{Start}
+use Rattle.refusals.specs.Refusal.{Entry, none, plain, when, in_order, or_else}
 
 -- 1 or n long
 abbrev pub is_list : ℕ → ℕ → Bool
 is_list len n = eqb len 1 || eqb len n
 
+-- work, pivots and question have the lengths of n states
+abbrev pub are_lent : ℕ → ℕ → ℕ → ℕ → Bool
+are_lent n work pivots question = eqb work (work_length n) && (eqb pivots n && eqb question (question_length n))
+
 -- 2: a tolerance list not 1 or n long; 3: work, pivot, session or question length
-unfoldable pub length_refusal : Lengths → ℕ → Refusal
+unfoldable pub length_refusal : Lengths → ℕ → Entry
 unfolding in_order
 length_refusal l n = in_order none (
     when (not (is_list l.rtol n)) 2
@@ -33,11 +37,12 @@ length_refusal l n = in_order none (
     ∷ [])
 
 -- 1: n above the largest number of states, before all that needs n
-unfoldable pub size_refusal : Lengths → Refusal
+unfoldable pub size_refusal : Lengths → Entry
+unfolding length_refusal
 size_refusal l = cond (ltb max_states l.n) (plain 1) (length_refusal l l.n)
 
 -- 4: a setting above 1,000,000
-unfoldable pub large_refusal : Options → Refusal
+unfoldable pub large_refusal : Options → Entry
 unfolding in_order
 large_refusal o = in_order none (
     when (ltb 1000000 o.max_steps) 4
@@ -49,8 +54,8 @@ large_refusal o = in_order none (
     ∷ [])
 
 -- 5: max_steps 0; 6: maxcor 0; 7: mxordn or mxords 0; 8: banded storage
-unfoldable pub limit_refusal : Options → Refusal
-unfolding in_order
+unfoldable pub limit_refusal : Options → Entry
+unfolding large_refusal in_order
 limit_refusal o = in_order (large_refusal o) (
     when (eqb o.max_steps 0) 5
     ∷ when (eqb o.maxcor 0) 6
@@ -64,23 +69,23 @@ abbrev pub is_negative : List Float → ℕ → Bool
 is_negative list i = cond (ltb i (length list)) (Ieee.lt (get_or list i nan) zero_f) false
 
 -- 9 before 10 at each index; what was refused before stays
-abbrev pub tolerance_at : List Float → List Float → ℕ → Refusal → Refusal
+abbrev pub tolerance_at : List Float → List Float → ℕ → Entry → Entry
 tolerance_at rtol atol i r =
     or_else r
     (cond (is_negative rtol i) (record { number = 9; index = i; value = zero_f })
     (cond (is_negative atol i) (record { number = 10; index = i; value = zero_f }) r))
 
-unfoldable pub tolerance_refusal : ℕ → List Float → List Float → Refusal
+unfoldable pub tolerance_refusal : ℕ → List Float → List Float → Entry
 tolerance_refusal n rtol atol = for 0 n (tolerance_at rtol atol) none
 
 -- 11: the first step, where one is given
-unfoldable pub step_refusal : Float → Float → Options → Refusal
+unfoldable pub step_refusal : Float → Float → Options → Entry
 step_refusal x0 xend o =
     cond (eqb o.has_first_step 0) none
     (cond (refused o.first_step (signum_of (xend ⊖ x0)))
     (record { number = 11; index = 0; value = o.first_step }) none)
 
-unfoldable pub start_refusal_of : Float → Float → Options → Lengths → List Float → List Float → Refusal
+unfoldable pub start_refusal_of : Float → Float → Options → Lengths → List Float → List Float → Entry
 start_refusal_of x0 xend o l rtol atol =
     or_else (size_refusal l) (or_else (limit_refusal o)
     (or_else (tolerance_refusal l.n rtol atol) (step_refusal x0 xend o)))
@@ -122,3 +127,13 @@ accepted_settings x0 xend o l = record {
 -- the first step where it is given
 unfoldable pub given_step_of : Options → Float
 given_step_of o = cond (eqb o.has_first_step 0) zero_f o.first_step
+
+-- what a start that is not refused begins with
+unfoldable pub accepted_of : Float → Float → Options → Lengths → Start
+accepted_of x0 xend o l = record {
+  settings = accepted_settings x0 xend o l;
+  x0 = x0;
+  h = given_step_of o;
+  hmin = smallest_of o;
+  hmxi = inverse_largest_of x0 xend o;
+}

@@ -4,11 +4,11 @@
 
 ghost use Rattle.std.specs.Prelude.{◌≡◌, Bool, ℕ, ◌≤◌, ◌<◌, length};
 ghost use Rattle.common.specs.Limits.{max_states};
-ghost use Rattle.refusals.specs.Start.{is_list, length_refusal, size_refusal, large_refusal, limit_refusal};
-ghost use Rattle.refusals.specs.Start.{is_negative, tolerance_at, tolerance_refusal};
-ghost use Rattle.refusals.specs.Start.{largest_of, smallest_of, inverse_of, inverse_largest_of, accepted_settings};
-ghost use Rattle.refusals.specs.Start.{given_step_of, step_refusal, start_refusal_of};
-ghost use Rattle.refusals.specs.Refusal.{none, plain, also_of};
+ghost use Rattle.refusals.specs.Start.{is_list, are_lent, size_refusal, limit_refusal};
+ghost use Rattle.refusals.specs.Start.{is_negative, tolerance_refusal, step_refusal, start_refusal_of};
+ghost use Rattle.refusals.specs.Start.{largest_of, smallest_of, inverse_of, inverse_largest_of, given_step_of};
+ghost use Rattle.refusals.specs.Start.{accepted_settings, accepted_of};
+ghost use Rattle.refusals.specs.Refusal.{entry_of};
 
 use common::Settings;
 
@@ -44,46 +44,33 @@ pub struct Lengths {
     pub question: usize,
 }
 
-// A refusal: its number, 0 where there is none, with the index of 9, 10 and 12 and the value of 11.
+// A refusal: a row of the scope's table, its number beside it.
 #[derive(Clone, Copy)]
-pub struct Refusal {
-    pub number: usize,
-    pub index: usize,
-    pub value: f64,
+pub enum Refusal {
+    TooManyStates, // 1
+    ToleranceLength, // 2
+    LentLength, // 3
+    LargeSetting, // 4
+    NoSteps, // 5
+    NoIterations, // 6
+    NoOrder, // 7
+    Banded, // 8
+    RelativeTolerance(usize), // 9, the index
+    AbsoluteTolerance(usize), // 10, the index
+    FirstStep(f64), // 11, the first step
+    Weight(usize), // 12, the index
+    SessionRange, // 13
+    Unasked, // 14
 }
 
-pub fn none() -> Refusal
-    ensures { result ≡ none }
-{
-    Refusal {
-        number: 0,
-        index: 0,
-        value: 0.0,
-    }
-}
-
-// A refusal that is its number alone.
-pub fn plain(number: usize) -> Refusal
-    ensures { result ≡ plain number }
-{
-    Refusal {
-        number: number,
-        index: 0,
-        value: 0.0,
-    }
-}
-
-// The refusal by this number if the condition holds, unless there is one already.
-pub fn also(r: Refusal, holds: bool, number: usize) -> Refusal
-    ensures { result ≡ also_of r holds number }
-{
-    if r.number != 0 {
-        return r;
-    }
-    if holds {
-        return plain(number);
-    }
-    r
+// What an accepted start begins with.
+#[derive(Clone, Copy)]
+pub struct Start {
+    pub settings: Settings,
+    pub x0: f64,
+    pub h: f64, // the first step, 0 where none is given
+    pub hmin: f64,
+    pub hmxi: f64,
 }
 
 // ---- lengths
@@ -92,58 +79,155 @@ pub fn also(r: Refusal, holds: bool, number: usize) -> Refusal
 pub fn is_list(len: usize, n: usize) -> bool
     ensures { result ≡ is_list len n }
 {
-    if len == 1 {
-        return true;
-    }
-    len == n
+    len == 1 || len == n
 }
 
-// 2 and 3, for n up to the largest number of states.
-fn lists(l: Lengths, n: usize) -> Refusal
+// Work, pivots and question have the lengths of n states.
+pub fn are_lent(n: usize, work: usize, pivots: usize, question: usize) -> bool
     requires { n ≤ max_states }
-    ensures { result ≡ length_refusal l n }
+    ensures { result ≡ are_lent n work pivots question }
 {
-    let a = also(none(), !is_list(l.rtol, n), 2);
-    let b = also(a, !is_list(l.atol, n), 2);
-    let c = also(b, l.work != n * n + common::MATRIX * n, 3);
-    let d = also(c, l.pivots != n, 3);
-    let e = also(d, l.session != common::SESSION_LENGTH, 3);
-    also(e, l.question != common::QUESTION * n + common::HEADER, 3)
+    work == n * n + common::MATRIX * n
+        && pivots == n
+        && question == common::QUESTION * n + common::HEADER
 }
 
-// 1, 2, 3.
-fn sizes(l: Lengths) -> Refusal
-    ensures { result ≡ size_refusal l }
-{
-    if l.n > common::MAX_STATES {
-        return plain(1);
+impl Lengths {
+    // 1, 2, 3.
+    #[tactic(auto, unfolding(crate::specs::Start::size_refusal, crate::specs::Refusal::also_of))]
+    fn sizes(self) -> Result<(), Refusal>
+        ensures { entry_of result ≡ size_refusal self }
+    {
+        if self.n > common::MAX_STATES {
+            return Err(Refusal::TooManyStates);
+        }
+        if !is_list(self.rtol, self.n) || !is_list(self.atol, self.n) {
+            return Err(Refusal::ToleranceLength);
+        }
+        if self.session != common::SESSION_LENGTH
+            || !are_lent(self.n, self.work, self.pivots, self.question)
+        {
+            return Err(Refusal::LentLength);
+        }
+        Ok(())
     }
-    lists(l, l.n)
 }
 
-// ---- settings
+impl Options {
+    // 4 to 8.
+    #[tactic(auto, unfolding(crate::specs::Start::limit_refusal, crate::specs::Refusal::also_of))]
+    fn limits(self) -> Result<(), Refusal>
+        ensures { entry_of result ≡ limit_refusal self }
+    {
+        if self.max_steps > 1000000
+            || self.mxordn > 1000000
+            || self.mxords > 1000000
+            || self.maxcor > 1000000
+            || self.msbp > 1000000
+            || self.mxncf > 1000000
+        {
+            return Err(Refusal::LargeSetting);
+        }
+        if self.max_steps == 0 {
+            return Err(Refusal::NoSteps);
+        }
+        if self.maxcor == 0 {
+            return Err(Refusal::NoIterations);
+        }
+        if self.mxordn == 0 || self.mxords == 0 {
+            return Err(Refusal::NoOrder);
+        }
+        if self.banded != 0 {
+            return Err(Refusal::Banded);
+        }
+        Ok(())
+    }
 
-// 4.
-fn large(o: Options) -> Refusal
-    ensures { result ≡ large_refusal o }
-{
-    let a = also(none(), o.max_steps > 1000000, 4);
-    let b = also(a, o.mxordn > 1000000, 4);
-    let c = also(b, o.mxords > 1000000, 4);
-    let d = also(c, o.maxcor > 1000000, 4);
-    let e = also(d, o.msbp > 1000000, 4);
-    also(e, o.mxncf > 1000000, 4)
+    // 11: a first step that is given, and zero, a NaN or of another sign.
+    #[tactic(auto, unfolding(crate::specs::Start::step_refusal))]
+    fn step(self, x0: f64, xend: f64) -> Result<(), Refusal>
+        ensures { entry_of result ≡ step_refusal x0 xend self }
+    {
+        if self.has_first_step != 0
+            && numbers::is_refused(self.first_step, numbers::signum(xend - x0))
+        {
+            return Err(Refusal::FirstStep(self.first_step));
+        }
+        Ok(())
+    }
+
+    // The largest step, the interval where none is given.
+    #[tactic(auto, unfolding(crate::specs::Start::largest_of))]
+    fn largest(self, difference: f64) -> f64
+        ensures { result ≡ largest_of self difference }
+    {
+        if self.has_max_step == 0 {
+            numbers::abs(difference)
+        } else {
+            numbers::abs(self.max_step)
+        }
+    }
+
+    // hmin: the smallest step, 0 where none is given.
+    #[tactic(auto, unfolding(crate::specs::Start::smallest_of))]
+    fn smallest(self) -> f64
+        ensures { result ≡ smallest_of self }
+    {
+        if self.has_min_step == 0 {
+            0.0
+        } else {
+            numbers::abs(self.min_step)
+        }
+    }
+
+    // hmxi.
+    #[tactic(auto, unfolding(crate::specs::Start::inverse_largest_of))]
+    fn inverse_largest(self, x0: f64, xend: f64) -> f64
+        ensures { result ≡ inverse_largest_of x0 xend self }
+    {
+        inverse(self.largest(xend - x0))
+    }
+
+    // The first step where it is given.
+    #[tactic(auto, unfolding(crate::specs::Start::given_step_of))]
+    fn given_step(self) -> f64
+        ensures { result ≡ given_step_of self }
+    {
+        if self.has_first_step == 0 {
+            0.0
+        } else {
+            self.first_step
+        }
+    }
+
+    #[tactic(auto, unfolding(crate::specs::Start::accepted_settings))]
+    fn settings(self, x0: f64, xend: f64, l: Lengths) -> Settings
+        ensures { result ≡ accepted_settings x0 xend self l }
+    {
+        Settings {
+            n: l.n,
+            xend,
+            direction: numbers::signum(xend - x0),
+            maxsteps: self.max_steps,
+            mxordn: self.mxordn,
+            mxords: self.mxords,
+            maxcor: self.maxcor,
+            msbp: self.msbp,
+            mxncf: self.mxncf,
+            supplied: self.supplied != 0,
+            given: self.has_first_step != 0,
+            nrtol: l.rtol,
+            natol: l.atol,
+        }
+    }
 }
 
-// 4 to 8.
-fn limits(o: Options) -> Refusal
-    ensures { result ≡ limit_refusal o }
+// 1 / the largest step, 0 where that is not above 0.
+#[tactic(auto, unfolding(crate::specs::Start::inverse_of))]
+fn inverse(hmax: f64) -> f64
+    ensures { result ≡ inverse_of hmax }
 {
-    let a = also(large(o), o.max_steps == 0, 5);
-    let b = also(a, o.maxcor == 0, 6);
-    let c = also(b, o.mxordn == 0, 7);
-    let d = also(c, o.mxords == 0, 7);
-    also(d, o.banded != 0, 8)
+    if hmax > 0.0 { 1.0 / hmax } else { 0.0 }
 }
 
 // ---- tolerances
@@ -152,135 +236,28 @@ fn limits(o: Options) -> Refusal
 pub fn is_negative(list: &[f64], i: usize) -> bool
     ensures { result ≡ is_negative list.now i }
 {
-    if i < list.len() {
-        return list[i] < 0.0;
-    }
-    false
+    i < list.len() && list[i] < 0.0
 }
 
-// 9 or 10 at this index, unless there is a refusal already.
-fn tolerance(r: Refusal, rtol: &[f64], atol: &[f64], i: usize) -> Refusal
-    ensures { result ≡ tolerance_at rtol.now atol.now i r }
+// 9 and 10: the first index at which a tolerance is below 0. By index: each list is 1 or n long.
+fn tolerances(n: usize, rtol: &[f64], atol: &[f64]) -> Result<(), Refusal>
+    ensures { entry_of result ≡ tolerance_refusal n rtol.now atol.now }
 {
-    if r.number != 0 {
-        return r;
-    }
-    if is_negative(rtol, i) {
-        return Refusal {
-            number: 9,
-            index: i,
-            value: 0.0,
-        };
-    }
-    if is_negative(atol, i) {
-        return Refusal {
-            number: 10,
-            index: i,
-            value: 0.0,
-        };
-    }
-    r
-}
-
-// 9 and 10: the first index at which a tolerance is below 0.
-fn tolerances(n: usize, rtol: &[f64], atol: &[f64]) -> Refusal
-    ensures { result ≡ tolerance_refusal n rtol.now atol.now }
-{
-    let mut r = none();
     for i in 0..n {
-        r = tolerance(r, rtol, atol, i);
+        if is_negative(rtol, i) {
+            return Err(Refusal::RelativeTolerance(i));
+        }
+        if is_negative(atol, i) {
+            return Err(Refusal::AbsoluteTolerance(i));
+        }
     }
-    r
+    Ok(())
 }
 
-// ---- the settings of an accepted start
-
-// The largest step, the interval where none is given.
-fn largest(o: Options, difference: f64) -> f64
-    ensures { result ≡ largest_of o difference }
-{
-    if o.has_max_step == 0 {
-        return numbers::abs(difference);
-    }
-    numbers::abs(o.max_step)
-}
-
-// hmin: the smallest step, 0 where none is given.
-pub fn smallest(o: Options) -> f64
-    ensures { result ≡ smallest_of o }
-{
-    if o.has_min_step == 0 {
-        return 0.0;
-    }
-    numbers::abs(o.min_step)
-}
-
-// 1 / the largest step, 0 where that is not above 0.
-fn inverse(hmax: f64) -> f64
-    ensures { result ≡ inverse_of hmax }
-{
-    if hmax > 0.0 {
-        return 1.0 / hmax;
-    }
-    0.0
-}
-
-// hmxi.
-pub fn inverse_largest(x0: f64, xend: f64, o: Options) -> f64
-    ensures { result ≡ inverse_largest_of x0 xend o }
-{
-    inverse(largest(o, xend - x0))
-}
-
-pub fn settings(x0: f64, xend: f64, o: Options, l: Lengths) -> Settings
-    ensures { result ≡ accepted_settings x0 xend o l }
-{
-    let difference = xend - x0;
-    Settings {
-        n: l.n,
-        xend: xend,
-        direction: numbers::signum(difference),
-        maxsteps: o.max_steps,
-        mxordn: o.mxordn,
-        mxords: o.mxords,
-        maxcor: o.maxcor,
-        msbp: o.msbp,
-        mxncf: o.mxncf,
-        supplied: o.supplied != 0,
-        given: o.has_first_step != 0,
-        nrtol: l.rtol,
-        natol: l.atol,
-    }
-}
-
-// The first step where it is given.
-pub fn first_step(o: Options) -> f64
-    ensures { result ≡ given_step_of o }
-{
-    if o.has_first_step == 0 {
-        return 0.0;
-    }
-    o.first_step
-}
-
-// 11: a first step that is given, and zero, a NaN or of another sign.
-fn step(x0: f64, xend: f64, o: Options) -> Refusal
-    ensures { result ≡ step_refusal x0 xend o }
-{
-    if o.has_first_step == 0 {
-        return none();
-    }
-    if numbers::is_refused(o.first_step, numbers::signum(xend - x0)) {
-        return Refusal {
-            number: 11,
-            index: 0,
-            value: o.first_step,
-        };
-    }
-    none()
-}
+// ---- a start
 
 // The first refusal that applies to a start, 1 to 11.
+#[tactic(auto, unfolding(crate::specs::Start::start_refusal_of, crate::specs::Refusal::or_else))]
 pub fn start_refusal(
     x0: f64,
     xend: f64,
@@ -288,20 +265,27 @@ pub fn start_refusal(
     l: Lengths,
     rtol: &[f64],
     atol: &[f64],
-) -> Refusal
-    ensures { result ≡ start_refusal_of x0 xend o l rtol.now atol.now }
+) -> Result<(), Refusal>
+    ensures { entry_of result ≡ start_refusal_of x0 xend o l rtol.now atol.now }
 {
-    let a = sizes(l);
-    if a.number != 0 {
-        return a;
+    l.sizes()?;
+    o.limits()?;
+    tolerances(l.n, rtol, atol)?;
+    o.step(x0, xend)
+}
+
+impl Start {
+    // Of a start that is not refused.
+    #[tactic(auto, unfolding(crate::specs::Start::accepted_of))]
+    pub fn new(x0: f64, xend: f64, o: Options, l: Lengths) -> Start
+        ensures { result ≡ accepted_of x0 xend o l }
+    {
+        Start {
+            settings: o.settings(x0, xend, l),
+            x0,
+            h: o.given_step(),
+            hmin: o.smallest(),
+            hmxi: o.inverse_largest(x0, xend),
+        }
     }
-    let b = limits(o);
-    if b.number != 0 {
-        return b;
-    }
-    let c = tolerances(l.n, rtol, atol);
-    if c.number != 0 {
-        return c;
-    }
-    step(x0, xend, o)
 }

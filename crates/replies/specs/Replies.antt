@@ -1,7 +1,7 @@
 -- A reply: what it is refused for, and what an accepted one answers and leaves. An end leaves the question as it was
 -- (01-scope, 'Limits and refusals').
 use Rattle.std.specs.Prelude.{Bool, true, false, cond, not, ◌&&◌, List, [], ◌∷◌, ◌≡◌, ℕ, ◌≤◌, eqb, ltb, leb, length}
-use Rattle.std.specs.Prelude.{Float}
+use Rattle.std.specs.Prelude.{Float, Option, Some, None}
 use Rattle.loops.specs.Part.{part, put_part}
 use Rattle.common.specs.declared.Settings.{Settings}
 use Rattle.common.specs.declared.Common.{Common}
@@ -18,8 +18,7 @@ use Rattle.questions.specs.declared.Turn.{Turn}
 use Rattle.questions.specs.Turns.{RunState, turn_in}
 use Rattle.machine.specs.Resume.{resume_of}
 use Rattle.session.specs.Session.{encode_of, decode_of, rtol_of, atol_of, stored_n, finished_in, in_range_of}
-use Rattle.refusals.specs.declared.Refusal.{Refusal}
-use Rattle.refusals.specs.Refusal.{none, plain, when, in_order, or_else}
+use Rattle.refusals.specs.Refusal.{Entry, none, plain, when, in_order, or_else}
 use Rattle.answers.specs.declared.Reply.{Reply}
 use Rattle.answers.specs.Answers.{question_reply}
 use Rattle.answers.specs.Called.{Buffers, Called}
@@ -35,7 +34,10 @@ kind_of k =
     (cond (eqb k 3) (Kind.Report Answer.Continue)
     (cond (eqb k 4) (Kind.Report Answer.Interrupt) (Kind.Report Answer.Modified))))
 
-unfoldable pub lengths_refusal : ℕ → ℕ → ℕ → ℕ → Refusal
+abbrev pub kind_in : ℕ → Option Kind
+kind_in k = cond (is_kind k) (Some (kind_of k)) None
+
+unfoldable pub lengths_refusal : ℕ → ℕ → ℕ → ℕ → Entry
 unfolding in_order
 lengths_refusal n work pivots question = in_order none (
     when (not (eqb work (work_length n))) 3
@@ -44,7 +46,7 @@ lengths_refusal n work pivots question = in_order none (
     ∷ [])
 
 -- 14: finished; 13: a value out of its range; 14: no kind
-unfoldable pub stored_refusal : Bool → List ℕ → List ℕ → Refusal
+unfoldable pub stored_refusal : Bool → List ℕ → List ℕ → Entry
 unfolding in_order
 stored_refusal known pivots bytes = in_order none (
     when (finished_in bytes) 14
@@ -53,7 +55,7 @@ stored_refusal known pivots bytes = in_order none (
     ∷ [])
 
 -- 3: session length; 13: stored n; 3: the lengths that need n; then the rest of 13, and 14
-unfoldable pub reply_refusal_of : ℕ → ℕ → List ℕ → List ℕ → ℕ → Refusal
+unfoldable pub reply_refusal_of : ℕ → ℕ → List ℕ → List ℕ → ℕ → Entry
 reply_refusal_of kind work pivots bytes question =
     cond (not (eqb (length bytes) session_length)) (plain 3)
     (cond (eqb (stored_n bytes) 0) (plain 13)

@@ -1,37 +1,23 @@
 -- `raimsklo_start` meets its contract. Assumes nothing.
 use mathlib.Core.Path.{refl, sym, ap, ◌∙◌}
-use borrow.Author.Tests.{eq-eqb, ne_eqb}
+use borrow.Author.Tests.{eqb-false}
 use native.Mathlib.Omega.{arith}
 use Rattle.refusals.proofs.Accepted.{accepted}
-use Rattle.refusals.specs.Start.{accepted_settings}
-use Rattle.refusals.specs.declared.Refusal.{Refusal}
+use Rattle.refusals.proofs.Entries.{refuses}
+use Rattle.refusals.specs.Start.{accepted_settings, accepted_of}
+use Rattle.refusals.specs.Refusal.{Entry}
 use Rattle.raimsklo.specs.Calls.{start_of, start_at}
 use Rattle.raimsklo.proofs.raimsklo_start.Goals as goal
 
-pub returns-then-y0-eq0 : goal.returns-then-y0-eq0
-unfolding start_of
-returns-then-y0-eq0 c = rw (eq-eqb _ _ c.if-y0-eq0.true, c.nothing.ensures)
-
-pub returns-then-r-ne0 : goal.returns-then-r-ne0
-unfolding start_of start_at
-returns-then-r-ne0 c =
-    rw (
-      ne_eqb _ _ c.if-y0-eq0.false,
-      ← c.start_refusal-r.ensures,
-      ne_eqb _ _ c.if-r-ne0.true,
-      c.refused.ensures,
-    )
-
 pub accept-requires : goal.accept-requires
-unfolding accepted_settings
+unfolding accepted_settings accepted_of
 accept-requires c =
-    let q = ap (λ (r : Refusal). r.number) (sym c.start_refusal-r.ensures) ∙ c.if-r-ne0.false in
-    let st = accepted _ _ _ _ _ _ q in
+    let st = accepted _ _ _ _ _ _ (ap (λ (r : Entry). r.number) (sym c.in-Ok.ensures)) in
     let l = st.limits in
-    let some = c.if-y0-eq0.false in
-    rw c.settings-s.ensures record {
+    let some = sym c.is_empty.ensures ∙ c.if-is_empty.false in
+    rw c.new-start.ensures record {
       accepted = record {
-        n = (omega arith, st.sizes.n);
+        n = (omega (arith, eqb-false _ _ some), st.sizes.n);
         maxsteps = l.maxsteps;
         mxordn = l.mxordn;
         mxords = l.mxords;
@@ -43,16 +29,13 @@ accept-requires c =
       session_length_in_bounds = (omega (arith, st.sizes.session), omega (arith, st.sizes.question));
     }
 
-pub returns : goal.returns
+pub returns-in-Err : goal.returns-in-Err
 unfolding start_of start_at
-returns c =
-    rw (
-      ne_eqb _ _ c.if-y0-eq0.false,
-      ← c.start_refusal-r.ensures,
-      eq-eqb _ _ c.if-r-ne0.false,
-      ← c.settings-s.ensures,
-      ← c.first_step-h.ensures,
-      ← c.smallest-hmin.ensures,
-      ← c.inverse_largest-hmxi.ensures,
-    )
-    c.accept.ensures
+returns-in-Err c =
+    rw (sym c.is_empty.ensures ∙ c.if-is_empty.false, ← c.in-Err.ensures, refuses c.in-Err.r, c.from.ensures)
+
+pub returns-in-Ok : goal.returns-in-Ok
+unfolding start_of start_at accepted_of
+returns-in-Ok c =
+    rw (sym c.is_empty.ensures ∙ c.if-is_empty.false, ← c.in-Ok.ensures)
+    (rw c.new-start.ensures at c.accept.ensures)

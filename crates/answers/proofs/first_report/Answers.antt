@@ -1,5 +1,0 @@
--- `first_report` meets its contract. Assumes nothing.
-use Rattle.answers.proofs.first_report.Goals as goal
-
-pub returns : goal.returns
-returns c = rw c.plain-r.ensures
