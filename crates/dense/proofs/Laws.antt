@@ -1,7 +1,7 @@
 -- What callers need of the definitions: a factoring and a solve keep every length, a factoring leaves every pivot
 -- below n if all were before, and a solve leaves every entry outside the right side. Each follows from one turn
 -- of each loop (`keeps`, `length-for`). What the answers say of the flag: `ok-done`, `ok-singular`,
--- `singular`.
+-- `told`, `singular`.
 -- Assumes nothing.
 use mathlib.Core.Path.{◌≡◌, refl, ◌∙◌}
 use mathlib.Core.List.{List, [], ◌∷◌}
@@ -14,7 +14,7 @@ use lib.ListN.{length, get_or, set, length-set}
 use lib.Seq.{get_or-set_other}
 use lib.Ieee as Ieee
 use lib.Ieee.{Float, nan}
-use Rattle.std.specs.Prelude.{Result, Ok, Err, IsErr}
+use Rattle.std.specs.Prelude.{Result, Ok, Err, IsErr, is_ok}
 use Rattle.loops.proofs.For.{keeps}
 use Rattle.loops.proofs.Stores.{length-for}
 use Rattle.loops.proofs.Test.{chosen}
@@ -34,6 +34,10 @@ ok-done false e = cc
 pub ok-singular : (t : Bool) {x : Singular} → outcome_of t ≡ Err x → t ≡ false
 ok-singular true e = cc
 ok-singular false e = refl
+
+pub told : (t : Bool) → is_ok (outcome_of t) ≡ t
+told true = refl
+told false = refl
 
 -- there is one refusal
 pub singular : (r : Result Unit Singular) → IsErr r → r ≡ outcome_of false
