@@ -1,12 +1,12 @@
 // The Jacobian of the corrector, `prja` in its parts: the matrix by differences or from the host, its norm and factors.
 #![tactic(auto)]
 
-ghost use Rattle.std.specs.Prelude.{◌≡◌, ◌+◌, ◌*◌, ◌^◌, ◌≤◌, ◌<◌, length};
+ghost use Rattle.std.specs.Prelude.{◌≡◌, ◌+◌, ◌*◌, ◌^◌, ◌≤◌, ◌<◌, length, is_ok};
 ghost use Rattle.dense.specs.Solve.{outcome_of};
 ghost use Rattle.common.specs.Limits.{max_states};
 ghost use Rattle.common.specs.Layout.{matrix_at, work_length};
 ghost use Rattle.jacobian.specs.Jacobian.{begin_of, r0_of, increment_of, perturb_of, difference_of, restore_of};
-ghost use Rattle.jacobian.specs.Jacobian.{minus_hl0, scaled_of, identity_of, identity_factors_of, in_force};
+ghost use Rattle.jacobian.specs.Jacobian.{minus_hl0, scaled_of, identity_of, identity_factors_of, in_force, Factored};
 ghost use Rattle.jacobian.specs.Jacobian.{finish_jacobian_of};
 
 use common::{Common, Settings};
@@ -143,8 +143,9 @@ fn in_force(c: Common, norm: f64, done: bool) -> Common
 pub fn finish_jacobian(s: Settings, c: Common, work: &mut [f64], ipiv: &mut [usize]) -> Factoring
     requires n_le_max_states { (s.n ≤ max_states) × (work_length s.n ≤ length work.old) × (s.n ≤ length ipiv.old) }
     requires nlu_bound { c.nlu < 2 ^ 63 }
-    ensures { let f = finish_jacobian_of s c work.old ipiv.old in
-        (result.outcome ≡ outcome_of f.done) × (result.common ≡ f.common) × (work.new ≡ f.work) × (ipiv.new ≡ f.ipiv) }
+    ensures { ◌≡◌ {A = Factored}
+        (record { done = is_ok result.outcome; common = result.common; work = work.new; ipiv = ipiv.new })
+        (finish_jacobian_of s c work.old ipiv.old) }
 {
     let n = s.n;
     let a = common::MATRIX * n;

@@ -15,9 +15,5 @@ returns c =
     let weights : savf_at n - ewt_at n ≡ n = omega arith in
     let norm = rw (size, weights) at c.fnorm_dense-norm.ensures in
     let factors = rw size at c.factor-outcome.ensures in
-    let counted = rw (factors.2, told) at c.is_ok.ensures.value in (
-      factors.2,
-      rw (c.in_force.ensures, ← norm, ← counted),
-      rw (size, ← factors.0),
-      factors.1,
-    )
+    let counted = rw (factors.2, told) at c.is_ok.ensures.value in
+    rw (c.in_force.ensures, ← norm, size, ← factors.0, ← factors.1, factors.2, told, ← counted)
