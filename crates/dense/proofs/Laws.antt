@@ -40,8 +40,8 @@ told true = refl
 told false = refl
 
 -- there is one refusal
-pub singular : (r : Result Unit Singular) → IsErr r → r ≡ outcome_of false
-singular (Ok u) e = cc
+pub singular : {A : Type 0} (r : Result A Singular) → IsErr r → r ≡ Err (record { })
+singular (Ok x) e = cc
 singular (Err x) e = refl
 
 -- what step k leaves of s where the pivot is not 0
