@@ -20,7 +20,7 @@ use Rattle.common.specs.Record.{is_bdf, with_jcur, with_due, with_m, with_delp}
 use Rattle.jacobian.proofs.Laws.{SameStep, pass_moved, same-pass-moved}
 use Rattle.corrector.specs.declared.Pass.TheVariants.{Converged, Retry, NoConvergence, Further}
 use Rattle.corrector.specs.declared.Verdict.{Verdict}
-use Rattle.corrector.specs.declared.Correction.{Correction}
+use Rattle.corrector.specs.Iterate.{Correction}
 use Rattle.corrector.specs.Verdict.{rated_of, dcon_of, estimated_of, judged_converged, old_jacobian, give_up_of}
 use Rattle.corrector.specs.Verdict.{strays, judged_further, judged_tested, rated_verdict, judge_of}
 

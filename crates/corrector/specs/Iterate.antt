@@ -1,10 +1,12 @@
 -- One corrector iteration of each family, as in `stoda_corrector_loop`: what becomes of savf, acor and y, and the size
 -- del of the correction. The vectors stand in work as crate common's Layout says; el[0] is that of the order in force.
 -- That iterations come nearer to a solution is not claimed: what is weighed is the size of a correction.
-use Rattle.std.specs.Prelude.{Bool, true, false, cond, List, ℕ, ◌+◌, get_or, set, Float}
+use Rattle.std.specs.Prelude.{Bool, true, false, cond, Result, is_ok, List, ℕ, ◌+◌, get_or, set, Float}
+use Rattle.std.specs.Result.{result_unwrap_or}
 use Rattle.std.specs.Float.{nan}
 use Rattle.loops.specs.For.{for}
 use Rattle.numbers.specs.Float.{◌⊕◌, ◌⊖◌, ◌⊗◌, zero_f}
+use Rattle.dense.specs.declared.Singular.{Singular}
 use Rattle.dense.specs.Solve.{Solution, solve_of}
 use Rattle.common.specs.declared.Settings.{Settings}
 use Rattle.common.specs.declared.Common.{Common}
@@ -54,6 +56,14 @@ bdf_update_at n e i work =
 
 unfoldable pub bdf_update_of : ℕ → Float → List Float → List Float
 bdf_update_of n e work = for 0 n (bdf_update_at n e) work
+
+-- what an iteration answers: whether the linear system was solved, and the size of the correction, +0 where it was not
+pub record Correction : Type 0 where
+  pub solved : Bool
+  pub del : Float
+
+abbrev pub correction_of : Result Float Singular → Correction
+correction_of x = record { solved = is_ok x; del = result_unwrap_or x zero_f }
 
 -- whether the linear system was solved, the size of the correction, and what is left
 pub record Corrected : Type 0 where

@@ -15,8 +15,7 @@ use Rattle.common.specs.Rules.{el_of}
 use Rattle.history.specs.Parts.{norm_at_of}
 use Rattle.corrector.specs.declared.Pass.TheVariants.{Converged, Retry, NoConvergence, Further}
 use Rattle.corrector.specs.declared.Verdict.{Verdict}
-use Rattle.corrector.specs.declared.Correction.{Correction}
-use Rattle.corrector.specs.Iterate.{Corrected}
+use Rattle.corrector.specs.Iterate.{Correction, Corrected}
 
 -- del / delp, or 1024 if that is more
 abbrev pub rm_of : Common → Float → Float

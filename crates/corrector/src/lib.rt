@@ -2,23 +2,18 @@
 // the verdict on it: converged, a further derivative, a retry with a new Jacobian, no convergence.
 #![tactic(auto)]
 
-ghost use Rattle.std.specs.Prelude.{◌≡◌, ℕ, ◌≤◌, ◌<◌, length, get_or, replicate};
+ghost use Rattle.std.specs.Prelude.{◌≡◌, true, ℕ, ◌≤◌, ◌<◌, length, get_or, replicate, is_ok};
+ghost use Rattle.std.specs.Result.{result_unwrap_or};
 ghost use Rattle.numbers.specs.Float.{zero_f};
 ghost use Rattle.common.specs.Layout.{matrix_at, work_length};
 ghost use Rattle.common.specs.Ranges.{StepInRange};
 ghost use Rattle.corrector.specs.Iterate.{open_of, adams_residual_of, adams_update_of, bdf_residual_of, bdf_update_of};
-ghost use Rattle.corrector.specs.Iterate.{Corrected, adams_of, bdf_of, correct_of};
+ghost use Rattle.corrector.specs.Iterate.{Corrected, adams_of, bdf_of, correct_of, correction_of};
 ghost use Rattle.corrector.specs.Verdict.{rated_of, known_rate_of, dcon_of, estimated_of, judged_further, give_up_of};
 ghost use Rattle.corrector.specs.Verdict.{judged_converged, judged_tested, judge_of};
 
 use common::{Common, Settings};
-
-// One iteration: whether the linear system was solved, and the size of the correction.
-#[derive(Clone, Copy)]
-pub struct Correction {
-    pub solved: bool,
-    pub del: f64,
-}
+use dense::Singular;
 
 // ---- an iteration
 
@@ -56,20 +51,18 @@ fn adams_update(work: &mut [f64], n: usize, e: f64)
     }
 }
 
-fn correct_adams(s: Settings, c: Common, work: &mut [f64]) -> Correction
+// The size of the correction.
+fn correct_adams(s: Settings, c: Common, work: &mut [f64]) -> f64
     requires step_in_range { StepInRange s c }
     requires n_in_bounds { matrix_at s.n ≤ length work.old }
-    ensures { ◌≡◌ {A = Corrected} (record { solved = result.solved; del = result.del; work = work.new })
+    ensures { ◌≡◌ {A = Corrected} (record { solved = true; del = result; work = work.new })
         (adams_of s c work.old) }
 {
     let n = s.n;
     adams_residual(work, n, c.h);
     let del = history::norm_at(work, n, common::Y * n).value;
     adams_update(work, n, c.el(s, 0));
-    Correction {
-        solved: true,
-        del: del,
-    }
+    del
 }
 
 // BDF: y = h·savf - (column 1 + acor).
@@ -94,43 +87,36 @@ fn bdf_update(work: &mut [f64], n: usize, e: f64)
     }
 }
 
-fn correct_bdf(s: Settings, c: Common, work: &mut [f64], ipiv: &[usize]) -> Correction
+// The size of the correction.
+fn correct_bdf(s: Settings, c: Common, work: &mut [f64], ipiv: &[usize]) -> Result<f64, Singular>
     requires step_in_range { StepInRange s c }
     requires n_in_bounds { (work_length s.n ≤ length work.old) × (s.n ≤ length ipiv.now) }
     requires by_index { (k : ℕ) → k < s.n → get_or ipiv.now k 0 < s.n }
-    ensures { ◌≡◌ {A = Corrected} (record { solved = result.solved; del = result.del; work = work.new })
+    ensures { ◌≡◌ {A = Corrected}
+        (record { solved = is_ok result; del = result_unwrap_or result zero_f; work = work.new })
         (bdf_of s c ipiv.now work.old) }
 {
     let n = s.n;
     bdf_residual(work, n, c.h);
-    match dense::dense_lu_solve(work, n, common::MATRIX * n, ipiv, common::Y * n) {
-        dense::Outcome::Singular => Correction {
-            solved: false,
-            del: 0.0,
-        },
-        dense::Outcome::Done => {
-            let del = history::norm_at(work, n, common::Y * n).value;
-            bdf_update(work, n, c.el(s, 0));
-            Correction {
-                solved: true,
-                del: del,
-            }
-        }
-    }
+    dense::dense_lu_solve(work, n, common::MATRIX * n, ipiv, common::Y * n)?;
+    let del = history::norm_at(work, n, common::Y * n).value;
+    bdf_update(work, n, c.el(s, 0));
+    Ok(del)
 }
 
-// One iteration in the family in force.
-pub fn correct(s: Settings, c: Common, work: &mut [f64], ipiv: &[usize]) -> Correction
+// One iteration in the family in force: the size of the correction.
+pub fn correct(s: Settings, c: Common, work: &mut [f64], ipiv: &[usize]) -> Result<f64, Singular>
     requires step_in_range { StepInRange s c }
     requires n_in_bounds { (work_length s.n ≤ length work.old) × (s.n ≤ length ipiv.now) }
     requires by_index { (k : ℕ) → k < s.n → get_or ipiv.now k 0 < s.n }
-    ensures { ◌≡◌ {A = Corrected} (record { solved = result.solved; del = result.del; work = work.new })
+    ensures { ◌≡◌ {A = Corrected}
+        (record { solved = is_ok result; del = result_unwrap_or result zero_f; work = work.new })
         (correct_of s c ipiv.now work.old) }
 {
     if c.meth.is_bdf() {
         return correct_bdf(s, c, work, ipiv);
     }
-    correct_adams(s, c, work)
+    Ok(correct_adams(s, c, work))
 }
 
 // ---- the verdict
@@ -268,17 +254,15 @@ fn tested(s: Settings, c: Common, del: f64) -> Verdict
     further(s, c, del)
 }
 
-// How the pass stands after an iteration with the norm pnorm of the prediction.
-pub fn judge(s: Settings, c: Common, x: Correction, pnorm: f64) -> Verdict
+// How the pass stands after the iteration x with the norm pnorm of the prediction.
+pub fn judge(s: Settings, c: Common, x: Result<f64, Singular>, pnorm: f64) -> Verdict
     requires step_in_range { StepInRange s c }
     requires maxcor_bound { (s.maxcor ≤ 1000000) × (c.m < s.maxcor) }
-    ensures { result ≡ judge_of s c x pnorm }
+    ensures { result ≡ judge_of s c (correction_of x) pnorm }
 {
-    let solved = x.solved;
-    if !solved {
+    let Ok(del) = x else {
         return give_up(c);
-    }
-    let del = x.del;
+    };
     if del <= 100.0 * pnorm * 2.220446049250313e-16 {
         return converged(c);
     }

@@ -11,7 +11,7 @@ use lib.Ieee.{Float, nan, of_bits, add, sub, mul, div, neg, lt, eq}
 use Rattle.loops.specs.For.{times}
 use Rattle.numbers.specs.Float.{◌⊕◌, ◌⊗◌, lit, zero_f, one_f, d2, d5}
 use Rattle.numbers.specs.Sign.{abs_of}
-use Rattle.dense.specs.declared.Outcome.TheVariants.{Done, Singular}
+use Rattle.std.specs.Prelude.{Ok, Err}
 use Rattle.dense.specs.Factor.{entry, Factors, pivot_of, swap_of, scale_of, column_of, eliminate_of, step_of, factor_of}
 use Rattle.dense.specs.Solve.{less_of, forward_step_of, forward_all_of, backward_of, backward_step_of, solve_of}
 use Rattle.dense.specs.Solve.{Solution, outcome_of}
@@ -31,7 +31,7 @@ refused a ipiv = record { a = a; ipiv = ipiv; ok = false }
 abbrev solved : List Float → Solution
 solved work = record { work = work; ok = true }
 
-pub answers : (outcome_of true ≡ Done) × (outcome_of false ≡ Singular)
+pub answers : (outcome_of true ≡ Ok tt) × (outcome_of false ≡ Err (record {}))
 answers = (refl, refl)
 
 -- sum (4): columns (0, 2), (1, 3), whatever stood in the pivots

@@ -1,10 +1,11 @@
 -- What callers need of the definitions: a factoring and a solve keep every length, a factoring leaves every pivot
 -- below n if all were before, and a solve leaves every entry outside the right side. Each follows from one turn
--- of each loop (`keeps`, `length-for`).
+-- of each loop (`keeps`, `length-for`). What the answers say of the flag: `ok-done`, `ok-singular`,
+-- `told`, `singular`.
 -- Assumes nothing.
 use mathlib.Core.Path.{◌≡◌, refl, ◌∙◌}
 use mathlib.Core.List.{List, [], ◌∷◌}
-use mathlib.Core.Bool.{true, false}
+use mathlib.Core.Bool.{Bool, true, false}
 use mathlib.Core.Logic.{◌⊎◌, ⊎_elim}
 use Prim.Native.Nat.{ℕ, zero, suc, ◌+◌, ◌-◌, ◌<◌, ◌≤◌}
 use native.Mathlib.Omega.{arith}
@@ -13,6 +14,7 @@ use lib.ListN.{length, get_or, set, length-set}
 use lib.Seq.{get_or-set_other}
 use lib.Ieee as Ieee
 use lib.Ieee.{Float, nan}
+use Rattle.std.specs.Prelude.{Result, Ok, Err, IsErr, is_ok}
 use Rattle.loops.proofs.For.{keeps}
 use Rattle.loops.proofs.Stores.{length-for}
 use Rattle.loops.proofs.Test.{chosen}
@@ -22,7 +24,25 @@ use Rattle.dense.specs.declared.Pivot.{Pivot}
 use Rattle.dense.specs.Factor.{entry, pick_row, pivot_of, swap_at, swap_of, exchange_of, scale_at, scale_of}
 use Rattle.dense.specs.Factor.{column_at, column_of, eliminate_of, Factors, step_of, factor_of}
 use Rattle.dense.specs.Solve.{entry_at, less_at, less_of, forward_step_of, forward_all_of, backward_of}
-use Rattle.dense.specs.Solve.{Solution, backward_step_of, solve_of}
+use Rattle.dense.specs.Solve.{Solution, backward_step_of, solve_of, outcome_of}
+use Rattle.dense.specs.declared.Singular.{Singular}
+
+pub ok-done : (t : Bool) {u : Unit {0}} → outcome_of t ≡ Ok u → t ≡ true
+ok-done true e = refl
+ok-done false e = cc
+
+pub ok-singular : (t : Bool) {x : Singular} → outcome_of t ≡ Err x → t ≡ false
+ok-singular true e = cc
+ok-singular false e = refl
+
+pub told : (t : Bool) → is_ok (outcome_of t) ≡ t
+told true = refl
+told false = refl
+
+-- there is one refusal
+pub singular : {A : Type 0} (r : Result A Singular) → IsErr r → r ≡ Err (record { })
+singular (Ok x) e = cc
+singular (Err x) e = refl
 
 -- what step k leaves of s where the pivot is not 0
 abbrev made : ℕ → ℕ → Factors → Factors

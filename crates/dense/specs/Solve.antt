@@ -2,13 +2,12 @@
 -- stands at a + (i + j·n). Each row's exchange directly before its elimination, then the rows from the last up; refused
 -- at a zero diagonal, with the rows below it done. That it solves the system that was factored is not claimed: from
 -- n = 3 on it may solve another (`another-system` in proofs/Examples.antt).
-use Rattle.std.specs.Prelude.{List, Bool, true, false, cond, ℕ, ◌+◌, ◌-◌, ◌*◌, eqb, get_or, set, Float}
+use Rattle.std.specs.Prelude.{List, Bool, true, false, cond, Result, Ok, Err, ℕ, ◌+◌, ◌-◌, ◌*◌, eqb, get_or, set, Float}
 use Rattle.std.specs.Float.Ieee as Ieee
 use Rattle.std.specs.Float.{nan}
 use Rattle.loops.specs.For.{for}
 use Rattle.numbers.specs.Float.{◌⊖◌, ◌⊗◌, ◌⊘◌, zero_f}
-use Rattle.dense.specs.declared.Outcome.{Outcome}
-use Rattle.dense.specs.declared.Outcome.TheVariants.{Done, Singular}
+use Rattle.dense.specs.declared.Singular.{Singular}
 
 -- the entry in row i of column j of the matrix at a
 abbrev pub entry_at : ℕ → ℕ → List Float → ℕ → ℕ → Float
@@ -63,6 +62,6 @@ solve_of n a ipiv b work =
     for 0 n (backward_step_of n a b) (record { work = forward_all_of n a ipiv b work; ok = true })
 
 -- what factoring and solving answer
-abbrev pub outcome_of : Bool → Outcome
-outcome_of true = Done
-outcome_of false = Singular
+abbrev pub outcome_of : Bool → Result Unit Singular
+outcome_of true = Ok tt
+outcome_of false = Err (record {})

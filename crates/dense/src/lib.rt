@@ -4,17 +4,12 @@
 #![tactic(auto)]
 
 ghost use Rattle.std.specs.Prelude.{◌≡◌, true, ℕ, ◌+◌, ◌*◌, ◌<◌, ◌≤◌, length, get_or};
-ghost use Rattle.dense.specs.Factor.{pivot_of, swap_at, swap_of, scale_of, column_of, eliminate_of, exchange_of};
-ghost use Rattle.dense.specs.Factor.{Factors, step_of, factor_of};
-ghost use Rattle.dense.specs.Solve.{swap_entries_of, less_of, forward_all_of};
-ghost use Rattle.dense.specs.Solve.{Solution, backward_step_of, solve_of, outcome_of};
+ghost use Rattle.dense.specs.Factor.{pivot_of, exchange_of, scale_of, column_of, eliminate_of, step_of, factor_of};
+ghost use Rattle.dense.specs.Solve.{less_of, forward_all_of, backward_at, solve_of, outcome_of};
 
-// What factoring and solving answer: done, or stopped at a zero.
-#[derive(Clone, Copy)]
-pub enum Outcome {
-    Done,
-    Singular,
-}
+// The factoring met a pivot that is 0, or the solve a diagonal entry that is 0.
+#[derive(Clone, Copy, PartialEq, Eq)]
+pub struct Singular;
 
 #[derive(Clone, Copy)]
 pub struct Pivot {
@@ -28,37 +23,17 @@ fn find_pivot(a: &[f64], n: usize, k: usize) -> Pivot
     ensures { (result ≡ pivot_of n k a.now) × (result.row < n) }
 {
     let col = k * n;
-    let mut row = k;
-    let mut value = numbers::abs(a[k + col]);
-    for i in k + 1..n {
-        let x = numbers::abs(a[i + col]);
-        if x > value {
-            value = x;
-            row = i;
+    let mut pivot = Pivot {
+        row: k,
+        value: numbers::abs(a[k + col]),
+    };
+    for row in k + 1..n {
+        let value = numbers::abs(a[row + col]);
+        if value > pivot.value {
+            pivot = Pivot { row, value };
         }
     }
-    Pivot { row, value }
-}
-
-// In column j, rows k and p change places.
-fn swap_at(a: &mut [f64], n: usize, k: usize, p: usize, j: usize)
-    requires { (k < n) × (p < n) × (j * n + n ≤ length a.old) }
-    ensures { a.new ≡ swap_at n k p j a.old }
-{
-    let x = a[k + j * n];
-    let y = a[p + j * n];
-    a[k + j * n] = y;
-    a[p + j * n] = x;
-}
-
-// Rows k and p change places, in every column.
-fn swap_rows(a: &mut [f64], n: usize, k: usize, p: usize)
-    requires { (k < n) × (p < n) × (n * n ≤ length a.old) }
-    ensures { a.new ≡ swap_of n k p a.old }
-{
-    for j in 0..n {
-        swap_at(a, n, k, p, j);
-    }
+    pivot
 }
 
 // Rows k and p change places, if they are two.
@@ -67,7 +42,9 @@ fn exchange(a: &mut [f64], n: usize, k: usize, p: usize)
     ensures { a.new ≡ exchange_of n k p a.old }
 {
     if p != k {
-        swap_rows(a, n, k, p);
+        for j in 0..n {
+            a.swap(k + j * n, p + j * n);
+        }
     }
 }
 
@@ -78,7 +55,7 @@ fn scale(a: &mut [f64], n: usize, k: usize)
 {
     let diag = a[k + k * n];
     for i in k + 1..n {
-        a[i + k * n] = a[i + k * n] / diag;
+        a[i + k * n] /= diag;
     }
 }
 
@@ -89,7 +66,7 @@ fn column(a: &mut [f64], n: usize, k: usize, j: usize)
 {
     let ukj = a[k + j * n];
     for i in k + 1..n {
-        a[i + j * n] = a[i + j * n] - a[i + k * n] * ukj;
+        a[i + j * n] -= a[i + k * n] * ukj;
     }
 }
 
@@ -103,51 +80,34 @@ fn eliminate(a: &mut [f64], n: usize, k: usize)
     }
 }
 
-// Step k of the factoring. False where the pivot is zero, and then nothing has changed.
-fn step(a: &mut [f64], n: usize, ipiv: &mut [usize], k: usize) -> bool
+// Step k of the factoring. Where the pivot is zero nothing has changed.
+fn step(a: &mut [f64], n: usize, ipiv: &mut [usize], k: usize) -> Result<(), Singular>
     requires { (k < n) × (n * n ≤ length a.old) × (n ≤ length ipiv.old) }
-    ensures { ◌≡◌ {A = Factors} (record { a = a.exit.now; ipiv = ipiv.new; ok = result })
-        (step_of n k (record { a = a.entry.now; ipiv = ipiv.old; ok = true })) }
+    ensures { let next = step_of n k (record { a = a.old; ipiv = ipiv.old; ok = true }) in
+        (a.new ≡ next.a) × (ipiv.new ≡ next.ipiv) × (result ≡ outcome_of next.ok) }
 {
     let p = find_pivot(a, n, k);
-    let row = p.row;
-    let value = p.value;
-    if value == 0.0 {
-        return false;
+    if p.value == 0.0 {
+        return Err(Singular);
     }
-    ipiv[k] = row;
-    exchange(a, n, k, row);
+    ipiv[k] = p.row;
+    exchange(a, n, k, p.row);
     scale(a, n, k);
     eliminate(a, n, k);
-    true
+    Ok(())
 }
 
 // The factors in place of the matrix, and the row that each step exchanged.
-pub fn dense_lu_factor(a: &mut [f64], n: usize, ipiv: &mut [usize]) -> Outcome
+pub fn dense_lu_factor(a: &mut [f64], n: usize, ipiv: &mut [usize]) -> Result<(), Singular>
     requires { (n * n ≤ length a.old) × (n ≤ length ipiv.old) }
     ensures { (a.new ≡ (factor_of n a.old ipiv.old).a)
         × (ipiv.new ≡ (factor_of n a.old ipiv.old).ipiv)
         × (result ≡ outcome_of (factor_of n a.old ipiv.old).ok) }
 {
     for k in 0..n {
-        if !step(a, n, ipiv, k) {
-            return Outcome::Singular;
-        }
+        step(a, n, ipiv, k)?;
     }
-    Outcome::Done
-}
-
-// Entries k and p change places, if they are two.
-fn swap_entries(work: &mut [f64], k: usize, p: usize)
-    requires { (k < length work.old) × (p < length work.old) }
-    ensures { work.new ≡ swap_entries_of k p work.old }
-{
-    if p != k {
-        let x = work[k];
-        let y = work[p];
-        work[k] = y;
-        work[p] = x;
-    }
+    Ok(())
 }
 
 // Rows lo..hi of the right side, less their multiples of row k, whose entry bk is read once: the published code reads
@@ -168,44 +128,46 @@ fn forward_all(work: &mut [f64], n: usize, a: usize, ipiv: &[usize], b: usize)
     ensures { work.new ≡ forward_all_of n a ipiv.now b work.old }
 {
     for k in 0..n {
-        let p = ipiv[k];
-        swap_entries(work, b + k, b + p);
+        work.swap(b + k, b + ipiv[k]);
         let bk = work[b + k];
         less(work, n, a, b, k, bk, k + 1, n);
     }
 }
 
-// Step kb from the last row up: row k divided by its diagonal entry, and the rows above it less their multiples.
-// False where the diagonal is zero, and then nothing has changed.
-fn backward_step(work: &mut [f64], n: usize, a: usize, b: usize, kb: usize) -> bool
-    requires { (kb < n) × (b + n ≤ a) × (a + n * n ≤ length work.old) }
-    ensures { ◌≡◌ {A = Solution} (record { work = work.exit.now; ok = result })
-        (backward_step_of n a b kb (record { work = work.entry.now; ok = true })) }
+// Row k divided by its diagonal entry, and the rows above it less their multiples. Where the diagonal is zero nothing
+// has changed.
+fn backward_step(work: &mut [f64], n: usize, a: usize, b: usize, k: usize) -> Result<(), Singular>
+    requires { (k < n) × (b + n ≤ a) × (a + n * n ≤ length work.old) }
+    ensures { let next = backward_at n a b k (record { work = work.old; ok = true }) in
+        (work.new ≡ next.work) × (result ≡ outcome_of next.ok) }
 {
-    let k = n - 1 - kb;
     let diag = work[a + (k + k * n)];
     if diag == 0.0 {
-        return false;
+        return Err(Singular);
     }
     let bk = work[b + k] / diag;
     work[b + k] = bk;
     less(work, n, a, b, k, bk, 0, k);
-    true
+    Ok(())
 }
 
-// The right side replaced by the solution, or as far as it went at a zero diagonal. Both lie in work: the right side is
-// the n numbers at b, and the factors begin at a, behind it.
-pub fn dense_lu_solve(work: &mut [f64], n: usize, a: usize, ipiv: &[usize], b: usize) -> Outcome
+// The right side replaced by the solution, from the last row up, or as far as it went at a zero diagonal. Both lie in
+// work: the right side is the n numbers at b, and the factors begin at a, behind it.
+pub fn dense_lu_solve(
+    work: &mut [f64],
+    n: usize,
+    a: usize,
+    ipiv: &[usize],
+    b: usize,
+) -> Result<(), Singular>
     requires n_bound { (b + n ≤ a) × (a + n * n ≤ length work.old) × (n ≤ length ipiv.now) }
     requires by_index { (k : ℕ) → k < n → get_or ipiv.now k 0 < n }
     ensures { (work.new ≡ (solve_of n a ipiv.now b work.old).work)
         × (result ≡ outcome_of (solve_of n a ipiv.now b work.old).ok) }
 {
     forward_all(work, n, a, ipiv, b);
-    for kb in 0..n {
-        if !backward_step(work, n, a, b, kb) {
-            return Outcome::Singular;
-        }
+    for k in (0..n).rev() {
+        backward_step(work, n, a, b, k)?;
     }
-    Outcome::Done
+    Ok(())
 }

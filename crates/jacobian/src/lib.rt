@@ -1,7 +1,8 @@
 // The Jacobian of the corrector, `prja` in its parts: the matrix by differences or from the host, its norm and factors.
 #![tactic(auto)]
 
-ghost use Rattle.std.specs.Prelude.{◌≡◌, ◌+◌, ◌*◌, ◌^◌, ◌≤◌, ◌<◌, length};
+ghost use Rattle.std.specs.Prelude.{◌≡◌, ◌+◌, ◌*◌, ◌^◌, ◌≤◌, ◌<◌, length, is_ok};
+ghost use Rattle.dense.specs.Solve.{outcome_of};
 ghost use Rattle.common.specs.Limits.{max_states};
 ghost use Rattle.common.specs.Layout.{matrix_at, work_length};
 ghost use Rattle.jacobian.specs.Jacobian.{begin_of, r0_of, increment_of, perturb_of, difference_of, restore_of};
@@ -9,10 +10,11 @@ ghost use Rattle.jacobian.specs.Jacobian.{minus_hl0, scaled_of, identity_of, ide
 ghost use Rattle.jacobian.specs.Jacobian.{finish_jacobian_of};
 
 use common::{Common, Settings};
+use dense::Singular;
 
 #[derive(Clone, Copy)]
 pub struct Factoring {
-    pub done: bool,
+    pub outcome: Result<(), Singular>,
     pub common: Common,
 }
 
@@ -110,18 +112,15 @@ fn add_identity(a: &mut [f64], n: usize)
     }
 }
 
-// The identity added to the matrix, and its factors in its place. False where a pivot was zero.
-fn factor(a: &mut [f64], n: usize, ipiv: &mut [usize]) -> bool
+// The identity added to the matrix, and its factors in its place.
+fn factor(a: &mut [f64], n: usize, ipiv: &mut [usize]) -> Result<(), Singular>
     requires { (n * n ≤ length a.old) × (n ≤ length ipiv.old) }
     ensures { (a.new ≡ (identity_factors_of n a.old ipiv.old).a)
         × (ipiv.new ≡ (identity_factors_of n a.old ipiv.old).ipiv)
-        × (result ≡ (identity_factors_of n a.old ipiv.old).ok) }
+        × (result ≡ outcome_of (identity_factors_of n a.old ipiv.old).ok) }
 {
     add_identity(a, n);
-    match dense::dense_lu_factor(a, n, ipiv) {
-        dense::Outcome::Done => true,
-        dense::Outcome::Singular => false,
-    }
+    dense::dense_lu_factor(a, n, ipiv)
 }
 
 // The record with a Jacobian of this norm in force; a factoring that went through is counted.
@@ -145,7 +144,7 @@ pub fn finish_jacobian(s: Settings, c: Common, work: &mut [f64], ipiv: &mut [usi
     requires n_le_max_states { (s.n ≤ max_states) × (work_length s.n ≤ length work.old) × (s.n ≤ length ipiv.old) }
     requires nlu_bound { c.nlu < 2 ^ 63 }
     ensures { ◌≡◌ {A = Factored}
-        (record { done = result.done; common = result.common; work = work.new; ipiv = ipiv.new })
+        (record { done = is_ok result.outcome; common = result.common; work = work.new; ipiv = ipiv.new })
         (finish_jacobian_of s c work.old ipiv.old) }
 {
     let n = s.n;
@@ -154,9 +153,9 @@ pub fn finish_jacobian(s: Settings, c: Common, work: &mut [f64], ipiv: &mut [usi
     let w = common::EWT * n;
     let we = common::SAVF * n;
     let norm = vectors::fnorm_dense(n, &work[a..e], &work[w..we]).value;
-    let done = factor(&mut work[a..e], n, ipiv);
+    let outcome = factor(&mut work[a..e], n, ipiv);
     Factoring {
-        done: done,
-        common: in_force(c, norm, done),
+        outcome,
+        common: in_force(c, norm, outcome.is_ok()),
     }
 }

@@ -15,7 +15,7 @@ use Rattle.vectors.specs.Tolerance.{tolerance_of}
 use Rattle.vectors.specs.Norm.{vmnorm_of, row_of, fnorm_of}
 use Rattle.vectors.specs.Weights.{ewset_of, invert_of, weights_outcome}
 use Rattle.vectors.specs.FirstStep.{largest_rtol_of, relative_of, tolerance_used_of, initial_step_of}
-use Rattle.vectors.specs.declared.Weights.TheVariants.{Refused}
+use Rattle.std.specs.Prelude.{Err}
 
 abbrev d3 : Float
 d3 = lit 0x4008_0000_0000_0000
@@ -60,7 +60,7 @@ pub refused : invert_of (d2 ∷ nan ∷ minus_zero ∷ [])
 unfolding times invert_of le div of_bits
 refused = refl
 
-pub answer : weights_outcome (invert_of (d2 ∷ nan ∷ minus_zero ∷ [])) ≡ Refused 2
+pub answer : weights_outcome (invert_of (d2 ∷ nan ∷ minus_zero ∷ [])) ≡ Err (record { index = 2 })
 unfolding times invert_of le div of_bits
 answer = refl
 

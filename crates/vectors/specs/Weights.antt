@@ -1,7 +1,7 @@
 -- `ewset`, `ewset_scalar_like` and `invert_weights`: the error weights, and their inverses, by which every norm
 -- multiplies. A weight that is at most 0 is refused (12); a NaN is not.
 -- That a weight or its inverse is finite is not claimed.
-use Rattle.std.specs.Prelude.{List, Bool, true, false, cond, ℕ, ◌+◌, length, get_or, set, Float}
+use Rattle.std.specs.Prelude.{List, Bool, true, false, cond, Result, Ok, Err, ℕ, ◌+◌, length, get_or, set, Float}
 use Rattle.std.specs.Float.Ieee as Ieee
 use Rattle.std.specs.Float.{nan}
 use Rattle.loops.specs.For.{for}
@@ -9,8 +9,7 @@ use Rattle.numbers.specs.Float.{◌⊕◌, ◌⊗◌, ◌⊘◌, zero_f, one_f, 
 use Rattle.numbers.specs.Sign.{abs_of}
 use Rattle.numbers.specs.Order.{max_of}
 use Rattle.vectors.specs.Tolerance.{tolerance_of}
-use Rattle.vectors.specs.declared.Weights.{Weights}
-use Rattle.vectors.specs.declared.Weights.TheVariants.{Inverted, Refused}
+use Rattle.vectors.specs.declared.NotPositive.{NotPositive}
 
 -- y is the first n numbers of work, the weights stand from `at` on
 abbrev pub ewset_at : List Float → List Float → ℕ → ℕ → List Float → List Float
@@ -46,5 +45,5 @@ invert_at i s = cond s.refused s (invert_one i s)
 unfoldable pub invert_of : List Float → Inversion
 invert_of ewt = for 0 (length ewt) invert_at (record { ewt = ewt; refused = false; index = 0 })
 
-abbrev pub weights_outcome : Inversion → Weights
-weights_outcome s = cond s.refused (Refused s.index) Inverted
+abbrev pub weights_outcome : Inversion → Result Unit NotPositive
+weights_outcome s = cond s.refused (Err (record { index = s.index })) (Ok tt)

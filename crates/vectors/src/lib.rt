@@ -17,34 +17,29 @@ pub struct Norm {
     pub value: f64,
 }
 
-// What the inversion of the weights answers: all are inverted, or the weight at this index is at most 0.
-#[derive(Clone, Copy)]
-pub enum Weights {
-    Inverted,
-    Refused(usize),
+// The weight at this index is at most 0.
+#[derive(Clone, Copy, PartialEq, Eq)]
+pub struct NotPositive {
+    pub index: usize,
 }
 
 // Entry i of a tolerance list, which is 1 long or holds an entry for each state.
+#[tactic(auto, unfolding(crate::specs::Tolerance::tolerance_of))]
 pub fn tolerance(list: &[f64], i: usize) -> f64
     requires { List1OrN list.now i }
     ensures { result ≡ tolerance_of list.now i }
 {
-    if list.len() == 1 {
-        return list[0];
-    }
-    list[i]
+    if list.len() == 1 { list[0] } else { list[i] }
 }
 
 // The maximum of a number and x, which is ignored if it is a NaN: one test in the norms' chain, where `numbers::max`
 // has two.
 fn larger(m: f64, x: f64) -> f64
     requires { Ieee.ne m m ≡ false }
-    ensures { result ≡ max_of m x }
+    ensures largest { result ≡ max_of m x }
+    ensures number { Ieee.ne result result ≡ false }
 {
-    if m < x {
-        return x;
-    }
-    m
+    if m < x { x } else { m }
 }
 
 // |v|·w at index i.
@@ -64,31 +59,49 @@ pub struct Four {
     pub d: f64,
 }
 
-// The entries i to i + 3, each to its maximum.
-fn next_four(v: &[f64], w: &[f64], i: usize, m: Four) -> Four
-    requires i_in_bounds { (i + 4 ≤ length v.now) × (length v.now ≤ length w.now) }
-    requires a_value { (Ieee.ne m.a m.a ≡ false) × (Ieee.ne m.b m.b ≡ false) }
-    requires c_value { (Ieee.ne m.c m.c ≡ false) × (Ieee.ne m.d m.d ≡ false) }
-    ensures { result ≡ four_at v.now w.now i m }
-{
-    let a = larger(m.a, entry(v, w, i));
-    let b = larger(m.b, entry(v, w, i + 1));
-    let c = larger(m.c, entry(v, w, i + 2));
-    let d = larger(m.d, entry(v, w, i + 3));
-    Four {
-        a: a,
-        b: b,
-        c: c,
-        d: d,
-    }
-}
+const ZEROS: Four = Four {
+    a: 0.0,
+    b: 0.0,
+    c: 0.0,
+    d: 0.0,
+};
 
-// The largest of the four.
-fn largest_of(m: Four) -> f64
-    requires { (Ieee.ne m.a m.a ≡ false) × (Ieee.ne m.c m.c ≡ false) }
-    ensures { result ≡ top_of m }
-{
-    larger(larger(m.a, m.b), larger(m.c, m.d))
+impl Four {
+    // The entries i to i + 3, each to its maximum.
+    fn with_entries(self, v: &[f64], w: &[f64], i: usize) -> Four
+        requires i_in_bounds { (i + 4 ≤ length v.now) × (length v.now ≤ length w.now) }
+        requires a_value { (Ieee.ne self.a self.a ≡ false) × (Ieee.ne self.b self.b ≡ false) }
+        requires c_value { (Ieee.ne self.c self.c ≡ false) × (Ieee.ne self.d self.d ≡ false) }
+        ensures { result ≡ four_at v.now w.now i self }
+    {
+        Four {
+            a: larger(self.a, entry(v, w, i)),
+            b: larger(self.b, entry(v, w, i + 1)),
+            c: larger(self.c, entry(v, w, i + 2)),
+            d: larger(self.d, entry(v, w, i + 3)),
+        }
+    }
+
+    // The largest of the four.
+    fn largest(self) -> f64
+        requires { (Ieee.ne self.a self.a ≡ false) × (Ieee.ne self.c self.c ≡ false) }
+        ensures { result ≡ top_of self }
+    {
+        larger(larger(self.a, self.b), larger(self.c, self.d))
+    }
+
+    // The sums of the rows i to i + 3 with entry j more.
+    fn with_column(self, n: usize, a: &[f64], w: &[f64], i: usize, j: usize) -> Four
+        requires { (i + 4 ≤ n) × (j * n + n ≤ length a.now) × (j < length w.now) }
+        ensures { result ≡ row_sums_at n a.now w.now i j self }
+    {
+        Four {
+            a: add_entry(n, a, w, i, j, self.a),
+            b: add_entry(n, a, w, i + 1, j, self.b),
+            c: add_entry(n, a, w, i + 2, j, self.c),
+            d: add_entry(n, a, w, i + 3, j, self.d),
+        }
+    }
 }
 
 // The largest |v|·w; NaN entries are skipped.
@@ -97,20 +110,15 @@ pub fn vmnorm(v: &[f64], w: &[f64]) -> Norm
     ensures { result ≡ vmnorm_of v.now w.now }
 {
     let n = v.len();
-    let mut m = Four {
-        a: 0.0,
-        b: 0.0,
-        c: 0.0,
-        d: 0.0,
-    };
+    let mut m = ZEROS;
     for k in 0..n / 4 {
-        m = next_four(v, w, 4 * k, m);
+        m = m.with_entries(v, w, 4 * k);
     }
-    let mut norm = largest_of(m);
+    let mut value = m.largest();
     for i in n / 4 * 4..n {
-        norm = larger(norm, entry(v, w, i));
+        value = larger(value, entry(v, w, i));
     }
-    Norm { value: norm }
+    Norm { value }
 }
 
 // The sum of row i with entry j more, divided by its column's weight.
@@ -133,36 +141,14 @@ fn row_sum(n: usize, a: &[f64], w: &[f64], i: usize) -> f64
     sum
 }
 
-// The sums of the rows i to i + 3 with entry j more.
-fn add_entries(n: usize, a: &[f64], w: &[f64], i: usize, j: usize, s: Four) -> Four
-    requires { (i + 4 ≤ n) × (j * n + n ≤ length a.now) × (j < length w.now) }
-    ensures { result ≡ row_sums_at n a.now w.now i j s }
-{
-    let b0 = add_entry(n, a, w, i, j, s.a);
-    let b1 = add_entry(n, a, w, i + 1, j, s.b);
-    let b2 = add_entry(n, a, w, i + 2, j, s.c);
-    let b3 = add_entry(n, a, w, i + 3, j, s.d);
-    Four {
-        a: b0,
-        b: b1,
-        c: b2,
-        d: b3,
-    }
-}
-
 // The sums of the rows i to i + 3.
 fn row_sums(n: usize, a: &[f64], w: &[f64], i: usize) -> Four
     requires { (i + 4 ≤ n) × (n * n ≤ length a.now) × (n ≤ length w.now) }
     ensures { result ≡ row_sums_of n a.now w.now i }
 {
-    let mut s = Four {
-        a: 0.0,
-        b: 0.0,
-        c: 0.0,
-        d: 0.0,
-    };
+    let mut s = ZEROS;
     for j in 0..n {
-        s = add_entries(n, a, w, i, j, s);
+        s = s.with_column(n, a, w, i, j);
     }
     s
 }
@@ -174,10 +160,10 @@ fn four_rows(n: usize, a: &[f64], w: &[f64], i: usize, an: f64) -> f64
     ensures { result ≡ four_rows_at n a.now w.now i an }
 {
     let s = row_sums(n, a, w, i);
-    let an0 = larger(an, s.a * w[i]);
-    let an1 = larger(an0, s.b * w[i + 1]);
-    let an2 = larger(an1, s.c * w[i + 2]);
-    larger(an2, s.d * w[i + 3])
+    let first = larger(an, s.a * w[i]);
+    let second = larger(first, s.b * w[i + 1]);
+    let third = larger(second, s.c * w[i + 2]);
+    larger(third, s.d * w[i + 3])
 }
 
 // The norm of a matrix of n columns that belongs to vmnorm.
@@ -185,14 +171,14 @@ pub fn fnorm_dense(n: usize, a: &[f64], w: &[f64]) -> Norm
     requires { (n * n ≤ length a.now) × (n ≤ length w.now) }
     ensures { result ≡ fnorm_of n a.now w.now }
 {
-    let mut an = 0.0;
+    let mut value = 0.0;
     for k in 0..n / 4 {
-        an = four_rows(n, a, w, 4 * k, an);
+        value = four_rows(n, a, w, 4 * k, value);
     }
     for i in n / 4 * 4..n {
-        an = larger(an, row_sum(n, a, w, i) * w[i]);
+        value = larger(value, row_sum(n, a, w, i) * w[i]);
     }
-    Norm { value: an }
+    Norm { value }
 }
 
 // The weights rtol·|y| + atol of the n numbers at the start of work, written at `at`.
@@ -218,17 +204,17 @@ pub fn ewset_scalar_like(work: &mut [f64], n: usize, at: usize)
 }
 
 // Each weight inverted, up to the first that is at most 0, -0.0 included; a NaN passes.
-pub fn invert_weights(ewt: &mut [f64]) -> Weights
+pub fn invert_weights(ewt: &mut [f64]) -> Result<(), NotPositive>
     ensures { (ewt.new ≡ (invert_of ewt.old).ewt)
         × (result ≡ weights_outcome (invert_of ewt.old)) }
 {
-    for i in 0..ewt.len() {
-        if ewt[i] <= 0.0 {
-            return Weights::Refused(i);
+    for (index, weight) in ewt.iter_mut().enumerate() {
+        if *weight <= 0.0 {
+            return Err(NotPositive { index });
         }
-        ewt[i] = 1.0 / ewt[i];
+        *weight = 1.0 / *weight;
     }
-    Weights::Inverted
+    Ok(())
 }
 
 // The largest relative tolerance of n states.
@@ -250,9 +236,10 @@ fn relative(atol: &[f64], y: &[f64], i: usize, tol: f64) -> f64
     ensures { result ≡ relative_at atol.now y.now i tol }
 {
     if y[i] != 0.0 {
-        return numbers::max(tol, tolerance(atol, i) / numbers::abs(y[i]));
+        numbers::max(tol, tolerance(atol, i) / numbers::abs(y[i]))
+    } else {
+        tol
     }
-    tol
 }
 
 // The largest of these over all states, from `start` on.
@@ -273,18 +260,17 @@ fn tolerance_used(rtol: &[f64], atol: &[f64], y: &[f64]) -> f64
     requires list1or_n_2 { List1OrN atol.now (length y.now - 1) }
     ensures { result ≡ tolerance_used_of rtol.now atol.now y.now }
 {
-    let tol = largest_rtol(rtol, y.len());
-    if tol <= 0.0 {
-        return numbers::clamp(
-            largest_relative(atol, y, tol),
-            100.0 * 2.220446049250313e-16,
-            1.0e-3,
-        );
-    }
+    let rtol = largest_rtol(rtol, y.len());
+    let tol = if rtol <= 0.0 {
+        largest_relative(atol, y, rtol)
+    } else {
+        rtol
+    };
     numbers::clamp(tol, 100.0 * 2.220446049250313e-16, 1.0e-3)
 }
 
 // The size of the first step from t towards tout.
+#[tactic(auto, unfolding(crate::specs::FirstStep::initial_step_of))]
 pub fn initial_step_size(
     t: f64,
     tout: f64,

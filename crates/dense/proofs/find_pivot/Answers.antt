@@ -2,28 +2,25 @@ use native.Mathlib.Omega.{arith}
 use Rattle.loops.proofs.For.{onward, ended}
 use Rattle.dense.specs.Factor.{pivot_of}
 use Rattle.dense.proofs.find_pivot.Goals as goal
-use Rattle.dense.proofs.find_pivot.Goals.{then-x-value, else-x-value}
+use Rattle.dense.proofs.find_pivot.Goals.{then-value-pivot, else-value-pivot}
 
-pub loop-i-init : goal.loop-i-init
+pub loop-row-init : goal.loop-row-init
 unfolding pivot_of
-loop-i-init c = (omega arith, rw c.abs-value.ensures)
+loop-row-init c = (omega arith, rw c.abs.ensures)
 
-pub abs-x-requires : goal.abs-x-requires
-abs-x-requires c = tt
-
-pub loop-i-preserved : goal.loop-i-preserved
-loop-i-preserved c =
-    let x = c.abs-x.ensures in
-    elim c.if-x-value.branch [
-      | then-x-value w ↦ (
-        omega (arith, w.row-is),
-        onward _ _ _ _ _ _ (omega arith) (rw (w.row-is, w.value-is, ← x, w.if-x-value.true)) c.loop-i.invariant.1,
+pub loop-row-preserved : goal.loop-row-preserved
+loop-row-preserved c =
+    let value = c.abs-value.ensures in
+    elim c.if-value-pivot.branch [
+      | then-value-pivot w ↦ rw w.pivot-is (
+        omega arith,
+        onward _ _ _ _ _ _ (omega arith) (rw (← value, w.if-value-pivot.true)) c.loop-row.invariant.1,
       )
-      | else-x-value w ↦ (
-        omega (arith, w.row-is),
-        onward _ _ _ _ _ _ (omega arith) (rw (w.row-is, w.value-is, ← x, w.if-x-value.false)) c.loop-i.invariant.1,
+      | else-value-pivot w ↦ rw w.pivot-is (
+        omega arith,
+        onward _ _ _ _ _ _ (omega arith) (rw (← value, w.if-value-pivot.false)) c.loop-row.invariant.1,
       )
     ]
 
 pub returns : goal.returns
-returns c = (ended _ _ _ _ _ (omega arith) c.loop-i.invariant.1, omega arith)
+returns c = (ended _ _ _ _ _ (omega arith) c.loop-row.invariant.1, omega arith)

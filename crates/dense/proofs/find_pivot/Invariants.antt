@@ -6,9 +6,6 @@ use Rattle.loops.specs.For.{for}
 use Rattle.dense.specs.Factor.{pick_row, pivot_of}
 use Rattle.dense.proofs.find_pivot.Given as goal
 
-abbrev pub invariant-loop-i : goal.invariant-loop-i
-invariant-loop-i l =
-    (l.row < l.n) × (for l.i l.n (pick_row l.n l.k l.a) (record {
-      row = l.row;
-      value = l.value;
-    }) ≡ pivot_of l.n l.k l.a)
+abbrev pub invariant-loop-row : goal.invariant-loop-row
+invariant-loop-row l =
+    (l.pivot.row < l.n) × (for l.row l.n (pick_row l.n l.k l.a) l.pivot ≡ pivot_of l.n l.k l.a)

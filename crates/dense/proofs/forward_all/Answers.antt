@@ -1,8 +1,28 @@
-use mathlib.Core.Path.{refl, ◌∙◌}
+use mathlib.Core.Path.{◌≡◌, refl, sym, ◌∙◌}
 use native.Mathlib.Omega.{arith}
+use mathlib.Core.List.{List}
+use mathlib.Core.Logic.{⊎_elim}
+use Prim.Native.Nat.{ℕ, ◌+◌, ◌<◌}
+use lib.ListN.{length, get_or}
+use lib.Ieee.{Float, nan}
+use Rattle.std.specs.List.{swap}
+use Rattle.std.proofs.lemmas.List.{set-get_or}
+use Rattle.std.proofs.lemmas.List.Edits.{swap_is}
+use Rattle.std.proofs.lemmas.Bool.Decides.{eqb_tells}
 use Rattle.loops.proofs.For.{again, ended, within}
-use Rattle.dense.specs.Solve.{forward_step_of, forward_all_of}
+use Rattle.dense.specs.Solve.{swap_entries_of, forward_step_of, forward_all_of}
 use Rattle.dense.proofs.forward_all.Goals as goal
+
+-- an entry that changes places with itself stays
+swapped : (k p : ℕ) (work : List Float) → k < length work → p < length work
+    → swap_entries_of k p work ≡ swap work k p
+swapped k p work low high =
+    let two = swap_is work k p nan low high in
+    ⊎_elim
+    (λ e. let same : swap work k k ≡ work = sym (swap_is work k k nan low low) ∙ simp (set-get_or work k nan) in
+    rw (e.0, e.1) (sym same))
+    (λ e. rw e.0 two)
+    (eqb_tells p k)
 
 pub loop-k-init : goal.loop-k-init
 unfolding forward_all_of
@@ -12,8 +32,8 @@ pub overflow_add-b-in-loop-k : goal.overflow_add-b-in-loop-k
 overflow_add-b-in-loop-k c =
     omega (arith, c.requires.by_index c.loop-k.k (omega arith))
 
-pub swap_entries-requires : goal.swap_entries-requires
-swap_entries-requires c =
+pub swap-requires : goal.swap-requires
+swap-requires c =
     omega (arith, c.requires.by_index c.loop-k.k (omega arith))
 
 pub less-requires : goal.less-requires
@@ -25,9 +45,13 @@ pub loop-k-preserved : goal.loop-k-preserved
 unfolding forward_step_of
 loop-k-preserved c =
     let last = c.less in
-    let exchange = c.swap_entries in (
-      last.auto.work ∙ (exchange.auto.work ∙ c.loop-k.invariant.0),
-      rw (last.ensures, exchange.ensures) (again _ _ _ _ _ (omega arith) c.loop-k.invariant.1),
+    let b = c.args.b in
+    let k = c.loop-k.k in
+    let p = get_or c.args.ipiv.now k 0 in
+    let low = c.requires.by_index k (omega arith) in
+    let exchanged = swapped (b + k) (b + p) c.loop-k.work (omega arith) (omega arith) in (
+      last.auto.work ∙ (c.swap.auto.self ∙ c.loop-k.invariant.0),
+      rw (last.ensures, c.swap.ensures.after, ← exchanged) (again _ _ _ _ _ (omega arith) c.loop-k.invariant.1),
     )
 
 pub returns : goal.returns

@@ -2,6 +2,7 @@
 use Prim.Native.Nat.{◌+◌, ◌-◌, ◌*◌}
 use mathlib.Core.Path.{◌≡◌}
 use native.Mathlib.Omega.{arith}
+use Rattle.dense.proofs.Laws.{told}
 use Rattle.common.specs.Layout.{ewt_at, savf_at, matrix_at}
 use Rattle.jacobian.specs.Jacobian.{finish_jacobian_of}
 use Rattle.jacobian.proofs.finish_jacobian.Goals as goal
@@ -13,5 +14,6 @@ returns c =
     let size : matrix_at n + n * n - matrix_at n ≡ n * n = omega arith in
     let weights : savf_at n - ewt_at n ≡ n = omega arith in
     let norm = rw (size, weights) at c.fnorm_dense-norm.ensures in
-    let done = rw size at c.factor-done.ensures in
-    rw (c.in_force.ensures, ← norm, size, ← done.0, ← done.1, ← done.2)
+    let factors = rw size at c.factor-outcome.ensures in
+    let counted = rw (factors.2, told) at c.is_ok.ensures.value in
+    rw (c.in_force.ensures, ← norm, size, ← factors.0, ← factors.1, factors.2, told, ← counted)

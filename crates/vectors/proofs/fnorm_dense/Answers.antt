@@ -17,10 +17,10 @@ loop-k-preserved c =
     let next : 4 * (l.k + 1) ≡ 4 * l.k + 4 = omega arith in (
       l.invariant.0,
       omega arith,
-      rw c.four_rows-an.ensures
+      rw c.four_rows-value.ensures
           ((max-larger _ _).number
           ((max-larger _ _).number ((max-larger _ _).number ((max-larger _ _).number l.invariant.2)))),
-      rw (next, c.four_rows-an.ensures) (again-four _ (4 * l.k) c.args.n _ _ (omega arith) l.invariant.3),
+      rw (next, c.four_rows-value.ensures) (again-four _ (4 * l.k) c.args.n _ _ (omega arith) l.invariant.3),
     )
 
 pub loop-i-init : goal.loop-i-init
@@ -32,8 +32,8 @@ loop-i-init c =
 pub loop-i-preserved : goal.loop-i-preserved
 loop-i-preserved c =
     let l = c.loop-i.invariant in (
-      rw c.larger-an.ensures ((max-larger _ _).number l.0),
-      rw (c.larger-an.ensures, c.row_sum.ensures) (again _ _ _ _ _ (omega arith) l.1),
+      c.larger-value.ensures.number,
+      rw (c.larger-value.ensures.largest, c.row_sum.ensures) (again _ _ _ _ _ (omega arith) l.1),
     )
 
 pub returns : goal.returns

@@ -11,8 +11,8 @@ abbrev pub invariant-loop-k : goal.invariant-loop-k
 invariant-loop-k l =
     (l.k-end ≡ l.n / 4)
     × (l.k ≤ l.n / 4)
-    × Number l.an
-    × (for (4 * l.k) l.n (fnorm_turn l.n l.a l.w) l.an ≡ (fnorm_of l.n l.a l.w).value)
+    × Number l.value
+    × (for (4 * l.k) l.n (fnorm_turn l.n l.a l.w) l.value ≡ (fnorm_of l.n l.a l.w).value)
 
 abbrev pub invariant-loop-i : goal.invariant-loop-i
-invariant-loop-i l = Number l.an × (for l.i l.n (fnorm_turn l.n l.a l.w) l.an ≡ (fnorm_of l.n l.a l.w).value)
+invariant-loop-i l = Number l.value × (for l.i l.n (fnorm_turn l.n l.a l.w) l.value ≡ (fnorm_of l.n l.a l.w).value)

@@ -6,6 +6,7 @@ use native.Mathlib.Omega.{arith}
 use lib.ListN.{length, get_or, set, length-set}
 use lib.Ieee as Ieee
 use lib.Ieee.{Float, nan}
+use Rattle.std.proofs.lemmas.List.{set-get_or}
 use Rattle.loops.proofs.For.{onward, ended, stays}
 use Rattle.numbers.specs.Float.{◌⊘◌, zero_f, one_f}
 use Rattle.vectors.specs.Weights.{Inversion, invert_at, invert_of, weights_outcome}
@@ -27,26 +28,25 @@ inverts : (i : ℕ) (ewt : List Float) → Ieee.le (get_or ewt i nan) zero_f ≡
     → invert_at i (going ewt) ≡ going (set ewt i (one_f ⊘ get_or ewt i nan))
 inverts i ewt h = rw h
 
-pub loop-i-init : goal.loop-i-init
+pub loop-index-init : goal.loop-index-init
 unfolding invert_of
-loop-i-init c = (refl, refl, refl)
+loop-index-init c = (refl, refl)
 
-pub returns-then-ewt-i : goal.returns-then-ewt-i
-returns-then-ewt-i c =
-    let one = refuses c.loop-i.i c.loop-i.ewt c.if-ewt-i.true in
+pub returns-then-weight : goal.returns-then-weight
+returns-then-weight c =
+    let one = refuses c.loop-index.index c.loop-index.ewt c.if-weight.true in
     let whole =
-    sym (stays invert_at (c.loop-i.i + 1) (length c.args.ewt.now) _ (λ k. refl))
-    ∙ onward _ _ _ _ _ _ (omega arith) one c.loop-i.invariant.2
+    sym (stays invert_at (c.loop-index.index + 1) (length c.args.ewt.now) _ (λ k. refl))
+    ∙ onward _ _ _ _ _ _ (omega arith) one c.loop-index.invariant.1
     in
-    parts whole
+    simp (set-get_or c.loop-index.ewt c.loop-index.index nan) (parts whole)
 
-pub loop-i-preserved : goal.loop-i-preserved
-loop-i-preserved c =
-    let one = inverts c.loop-i.i c.loop-i.ewt c.if-ewt-i.false in (
-      c.loop-i.invariant.0,
-      simp length-set c.loop-i.invariant.1,
-      onward _ _ _ _ _ _ (omega arith) one c.loop-i.invariant.2,
+pub loop-index-preserved : goal.loop-index-preserved
+loop-index-preserved c =
+    let one = inverts c.loop-index.index c.loop-index.ewt c.if-weight.false in (
+      simp length-set c.loop-index.invariant.0,
+      onward _ _ _ _ _ _ (omega arith) one c.loop-index.invariant.1,
     )
 
 pub returns : goal.returns
-returns c = parts (ended _ _ _ _ _ (omega arith) c.loop-i.invariant.2)
+returns c = parts (ended _ _ _ _ _ (omega arith) c.loop-index.invariant.1)

@@ -12,7 +12,7 @@ use Rattle.vectors.proofs.invert_weights.Given as goal
 abbrev going : List Float → Inversion
 going ewt = record { ewt = ewt; refused = false; index = 0 }
 
-abbrev pub invariant-loop-i : goal.invariant-loop-i
-invariant-loop-i l =
-    (l.i-end ≡ length l.initial.ewt) × (length l.ewt ≡ length l.initial.ewt) ×
-    (for l.i (length l.initial.ewt) invert_at (going l.ewt) ≡ invert_of l.initial.ewt)
+abbrev pub invariant-loop-index : goal.invariant-loop-index
+invariant-loop-index l =
+    (length l.ewt ≡ length l.initial.ewt) ×
+    (for l.index (length l.initial.ewt) invert_at (going l.ewt) ≡ invert_of l.initial.ewt)

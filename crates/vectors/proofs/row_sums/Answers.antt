@@ -8,14 +8,14 @@ pub loop-j-init : goal.loop-j-init
 unfolding row_of
 loop-j-init c = (refl, refl, refl, refl)
 
-pub add_entries-s-requires : goal.add_entries-s-requires
-add_entries-s-requires c =
+pub with_column-s-requires : goal.with_column-s-requires
+with_column-s-requires c =
     (c.requires.0, omega (arith, within c.args.n c.args.n c.loop-j.j c.loop-j-test.true), omega arith)
 
 pub loop-j-preserved : goal.loop-j-preserved
 loop-j-preserved c =
     let l = c.loop-j.invariant in
-    rw c.add_entries-s.ensures (
+    rw c.with_column-s.ensures (
       again _ _ _ _ _ (omega arith) l.0,
       again _ _ _ _ _ (omega arith) l.1,
       again _ _ _ _ _ (omega arith) l.2,

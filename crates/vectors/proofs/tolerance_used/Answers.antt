@@ -1,14 +1,14 @@
--- `tolerance_used` meets its contract: each way returns the clamp that the definition picks under the test that led
--- there. Assumes nothing.
+-- `tolerance_used` meets its contract: it returns the clamp of what the definition picks under the same test.
+-- Assumes nothing.
 use Rattle.vectors.specs.FirstStep.{tolerance_used_of}
 use Rattle.vectors.proofs.tolerance_used.Goals as goal
-
-pub returns-then-tol : goal.returns-then-tol
-unfolding tolerance_used_of
-returns-then-tol c =
-    rw (c.clamp.ensures, c.largest_relative.ensures, ← c.largest_rtol-tol.ensures, c.if-tol.true)
+use Rattle.vectors.proofs.tolerance_used.Goals.{then-rtol, else-rtol}
 
 pub returns : goal.returns
 unfolding tolerance_used_of
 returns c =
-    rw (c.clamp-2.ensures, ← c.largest_rtol-tol.ensures, c.if-tol.false)
+    elim c.if-rtol.branch [
+      | then-rtol w ↦
+          rw (c.clamp.ensures, w.tol-is, w.largest_relative-tol.ensures, ← c.largest_rtol-rtol.ensures, w.if-rtol.true)
+      | else-rtol w ↦ rw (c.clamp.ensures, w.tol-is, ← c.largest_rtol-rtol.ensures, w.if-rtol.false)
+    ]

@@ -5,7 +5,6 @@ use lib.ListN.{length}
 use lib.Ieee.{Float}
 use Rattle.loops.proofs.For.{again, ended}
 use Rattle.vectors.specs.Norm.{vmnorm_of}
-use Rattle.vectors.proofs.Largest.{max-larger}
 use Rattle.vectors.proofs.Maxima.{all-clean, top-zero, clean-number, top-number, four-clean, four-on}
 use Rattle.vectors.proofs.vmnorm.Goals as goal
 
@@ -13,8 +12,8 @@ pub loop-k-init : goal.loop-k-init
 unfolding vmnorm_of
 loop-k-init c = (refl, refl, omega arith, all-clean, rw top-zero)
 
-pub next_four-m-requires : goal.next_four-m-requires
-next_four-m-requires c =
+pub with_entries-m-requires : goal.with_entries-m-requires
+with_entries-m-requires c =
     let p = c.loop-k.invariant.3 in record {
       i_in_bounds = (omega arith, omega arith);
       a_value = (clean-number _ p.a, clean-number _ p.b);
@@ -30,13 +29,13 @@ loop-k-preserved c =
       l.invariant.0,
       l.invariant.1,
       omega arith,
-      rw c.next_four-m.ensures (four-clean v w (4 * l.k) l.m l.invariant.3),
-      rw (next, c.next_four-m.ensures)
+      rw c.with_entries-m.ensures (four-clean v w (4 * l.k) l.m l.invariant.3),
+      rw (next, c.with_entries-m.ensures)
           (four-on v w (4 * l.k) l.m l.invariant.3 (length v) _ (omega arith) l.invariant.4),
     )
 
-pub largest_of-norm-requires : goal.largest_of-norm-requires
-largest_of-norm-requires c =
+pub largest-value-requires : goal.largest-value-requires
+largest-value-requires c =
     let p = c.loop-k.invariant.3 in
     (clean-number _ p.a, clean-number _ p.c)
 
@@ -46,19 +45,19 @@ loop-i-init c =
     let e = length c.args.v.now in
     let whole : 4 * l.k ≡ e / 4 * 4 = omega arith in (
       l.invariant.0,
-      rw c.largest_of-norm.ensures (top-number _ l.invariant.3),
-      rw (c.largest_of-norm.ensures, ← whole) l.invariant.4,
+      rw c.largest-value.ensures (top-number _ l.invariant.3),
+      rw (c.largest-value.ensures, ← whole) l.invariant.4,
     )
 
-pub larger-norm-requires : goal.larger-norm-requires
-larger-norm-requires c = c.loop-i.invariant.1
+pub larger-value-requires : goal.larger-value-requires
+larger-value-requires c = c.loop-i.invariant.1
 
 pub loop-i-preserved : goal.loop-i-preserved
 loop-i-preserved c =
     let l = c.loop-i.invariant in (
       l.0,
-      rw c.larger-norm.ensures ((max-larger _ _).number l.1),
-      rw (c.larger-norm.ensures, c.entry.ensures) (again _ _ _ _ _ (omega arith) l.2),
+      c.larger-value.ensures.number,
+      rw (c.larger-value.ensures.largest, c.entry.ensures) (again _ _ _ _ _ (omega arith) l.2),
     )
 
 pub returns : goal.returns

@@ -17,4 +17,4 @@ invariant-loop-k l =
 
 abbrev pub invariant-loop-i : goal.invariant-loop-i
 invariant-loop-i l =
-    (l.n ≡ length l.v) × Number l.norm × (for l.i (length l.v) (norm_turn l.v l.w) l.norm ≡ (vmnorm_of l.v l.w).value)
+    (l.n ≡ length l.v) × Number l.value × (for l.i (length l.v) (norm_turn l.v l.w) l.value ≡ (vmnorm_of l.v l.w).value)

@@ -1,9 +1,9 @@
--- `swap_rows` meets its contract. The invariant: the columns that are left give the whole exchange. Assumes nothing.
+-- `exchange` meets its contract. The invariant: the columns that are left give the whole exchange. Assumes nothing.
 use mathlib.Core.Path.{◌≡◌}
 use lib.ListN.{length}
 use Rattle.loops.specs.For.{for}
 use Rattle.dense.specs.Factor.{swap_at, swap_of}
-use Rattle.dense.proofs.swap_rows.Given as goal
+use Rattle.dense.proofs.exchange.Given as goal
 
 abbrev pub invariant-loop-j : goal.invariant-loop-j
 invariant-loop-j l =
