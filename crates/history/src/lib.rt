@@ -2,9 +2,9 @@
 // Column j is the n numbers at j·n. Snapshot and interpolation are in crate interpolation.
 #![tactic(auto)]
 
-ghost use Rattle.std.specs.Prelude.{◌≡◌, ◌+◌, ◌*◌, ◌≤◌, length, replicate};
+ghost use Rattle.std.specs.Prelude.{◌≡◌, ◌+◌, ◌*◌, ◌≤◌, length, replicate, Float};
 ghost use Rattle.common.specs.Layout.{matrix_at};
-ghost use Rattle.history.specs.Columns.{add_range, sub_range, predict_columns_of, retract_columns_of, times_of};
+ghost use Rattle.history.specs.Columns.{sweep_of, passes_of, predict_columns_of, retract_columns_of, times_of};
 ghost use Rattle.history.specs.Columns.{rescale_columns_of, add_scaled_of, correct_columns_of, copy_of, slope_of};
 ghost use Rattle.common.specs.Ranges.{StepInRange};
 ghost use Rattle.history.specs.Steps.{least_of, pdh_of, limited_of, adjust_of, stale_of, predicted_of};
@@ -31,55 +31,57 @@ pub fn store(work: &mut [f64], at: usize, f: &[f64])
     ensures { work.new ≡ stored_of at f.now work.old }
 {
     let e = at + f.len();
-    copy_from(&mut work[at..e], f);
+    work[at..e].copy_from_slice(f);
 }
 
-// Adds to each number from a to e the one that stands n further on.
-fn add_next(yh: &mut [f64], n: usize, a: usize, e: usize)
-    requires { e + n ≤ length yh.old }
-    ensures { yh.new ≡ add_range n a e yh.old }
+// Each number from a to e becomes what f makes of it and the one that stands n further on.
+fn sweep<F: Fn(f64, f64) -> f64>(yh: &mut [f64], n: usize, a: usize, e: usize, f: &F)
+    requires callable { F.IsAlwaysCallable f.now }
+    requires room { e + n ≤ length yh.old }
+    ensures { (op : Float → Float → Float) → ((x y z : Float) → F.post f.now x y z → z ≡ op x y)
+        → yh.new ≡ sweep_of op n a e yh.old }
 {
     for i in a..e {
-        yh[i] += yh[i + n];
-    }
-}
-
-// Subtracts from each number from a to e the one that stands n further on.
-fn sub_next(yh: &mut [f64], n: usize, a: usize, e: usize)
-    requires { e + n ≤ length yh.old }
-    ensures { yh.new ≡ sub_range n a e yh.old }
-{
-    for i in a..e {
-        yh[i] -= yh[i + n];
+        yh[i] = f(yh[i], yh[i + n]);
     }
 }
 
 // nq passes: each begins one column further to the left and runs to nqnyh.
+fn passes<F: Fn(f64, f64) -> f64>(yh: &mut [f64], n: usize, nq: usize, nqnyh: usize, f: F)
+    requires callable { F.IsAlwaysCallable f }
+    requires room { (nq * n ≤ nqnyh) × (nqnyh + n ≤ length yh.old) }
+    ensures { (op : Float → Float → Float) → ((x y z : Float) → F.post f x y z → z ≡ op x y)
+        → yh.new ≡ passes_of op n nq nqnyh yh.old }
+{
+    for k in 0..nq {
+        sweep(yh, n, nqnyh - (k + 1) * n, nqnyh, &f);
+    }
+}
+
+// Each number plus the one a column further on, pass by pass.
+#[tactic(auto, unfolding(crate::specs::Columns::predict_columns_of))]
 pub fn predict_columns(yh: &mut [f64], n: usize, nq: usize, nqnyh: usize)
     requires { (nq * n ≤ nqnyh) × (nqnyh + n ≤ length yh.old) }
     ensures { yh.new ≡ predict_columns_of n nq nqnyh yh.old }
 {
-    for k in 0..nq {
-        add_next(yh, n, nqnyh - (k + 1) * n, nqnyh);
-    }
+    passes(yh, n, nq, nqnyh, |x, y| x + y);
 }
 
 // The same passes, subtracting: predict's order, so floats need not return.
+#[tactic(auto, unfolding(crate::specs::Columns::retract_columns_of))]
 pub fn retract_columns(yh: &mut [f64], n: usize, nq: usize, nqnyh: usize)
     requires { (nq * n ≤ nqnyh) × (nqnyh + n ≤ length yh.old) }
     ensures { yh.new ≡ retract_columns_of n nq nqnyh yh.old }
 {
-    for k in 0..nq {
-        sub_next(yh, n, nqnyh - (k + 1) * n, nqnyh);
-    }
+    passes(yh, n, nq, nqnyh, |x, y| x - y);
 }
 
 // Each number times r.
 pub fn scale(v: &mut [f64], r: f64)
     ensures { v.new ≡ times_of r v.old }
 {
-    for i in 0..v.len() {
-        v[i] *= r;
+    for x in v.iter_mut() {
+        *x *= r;
     }
 }
 
@@ -90,7 +92,7 @@ pub fn rescale_columns(yh: &mut [f64], n: usize, l: usize, rh: f64)
 {
     let mut r = 1.0;
     for j in 1..l {
-        r = r * rh;
+        r *= rh;
         let a = j * n;
         let e = a + n;
         scale(&mut yh[a..e], r);
@@ -98,6 +100,7 @@ pub fn rescale_columns(yh: &mut [f64], n: usize, l: usize, rh: f64)
 }
 
 // Column j plus e times the vector at `at`.
+#[tactic(auto, unfolding(crate::specs::Columns::add_scaled_of))]
 fn add_scaled(work: &mut [f64], n: usize, j: usize, e: f64, at: usize)
     requires { (j * n + n ≤ length work.old) × (at + n ≤ length work.old) }
     ensures { work.new ≡ add_scaled_of n j e at work.old }
@@ -108,6 +111,7 @@ fn add_scaled(work: &mut [f64], n: usize, j: usize, e: f64, at: usize)
 }
 
 // The correction acor added to the columns 0 to nq, each with its coefficient.
+#[tactic(auto, unfolding(crate::specs::Columns::correct_columns_of))]
 pub fn correct_columns(s: Settings, c: Common, work: &mut [f64])
     requires step_in_range { StepInRange s c }
     requires n_in_bounds { matrix_at s.n ≤ length work.old }
@@ -120,6 +124,7 @@ pub fn correct_columns(s: Settings, c: Common, work: &mut [f64])
 }
 
 // The n numbers at `to` become those at `from`.
+#[tactic(auto, unfolding(crate::specs::Columns::copy_of))]
 pub fn copy_part(work: &mut [f64], n: usize, to: usize, from: usize)
     requires { (to + n ≤ length work.old) × (from + n ≤ length work.old) }
     ensures { work.new ≡ copy_of n to from work.old }
@@ -130,6 +135,7 @@ pub fn copy_part(work: &mut [f64], n: usize, to: usize, from: usize)
 }
 
 // Column 1 becomes h times the derivative savf.
+#[tactic(auto, unfolding(crate::specs::Columns::slope_of))]
 pub fn set_slope(work: &mut [f64], n: usize, h: f64)
     requires { matrix_at n ≤ length work.old }
     ensures { work.new ≡ slope_of n h work.old }
@@ -143,9 +149,7 @@ pub fn set_slope(work: &mut [f64], n: usize, h: f64)
 pub fn fill(v: &mut [f64], x: f64)
     ensures { v.new ≡ replicate (length v.old) x }
 {
-    for i in 0..v.len() {
-        v[i] = x;
-    }
+    v.fill(x);
 }
 
 // A vector becomes another of its length.
@@ -153,9 +157,7 @@ pub fn copy_from(to: &mut [f64], from: &[f64])
     requires { length to.old ≡ length from.now }
     ensures { to.new ≡ from.now }
 {
-    for i in 0..to.len() {
-        to[i] = from[i];
-    }
+    to.copy_from_slice(from);
 }
 
 // The least factor that keeps a step at hmin or above.
@@ -185,12 +187,10 @@ pub fn limited(c: Common, rh: f64) -> f64
     }
     let d = pdh(c);
     let sm1 = coefficients::sm1(c.nq);
-    if rh2 * d * 1.00001 >= sm1 {
-        return sm1 / d;
-    }
-    rh2
+    if rh2 * d * 1.00001 >= sm1 { sm1 / d } else { rh2 }
 }
 
+#[tactic(auto, unfolding(crate::specs::Steps::adjust_of))]
 pub fn stoda_adjust_step_size(s: Settings, c: Common, rh: f64, work: &mut [f64]) -> Common
     requires step_in_range { StepInRange s c }
     requires n_in_bounds { matrix_at s.n ≤ length work.old }
@@ -199,35 +199,33 @@ pub fn stoda_adjust_step_size(s: Settings, c: Common, rh: f64, work: &mut [f64])
 {
     let r = limited(c, rh);
     rescale_columns(work, s.n, c.nq + 1, r);
-    let mut d = c;
-    d.h = c.h * r;
-    d.rc = c.rc * r;
-    d.ialth = c.nq + 1;
-    d
+    Common {
+        h: c.h * r,
+        rc: c.rc * r,
+        ialth: c.nq + 1,
+        ..c
+    }
 }
 
 // Whether a prediction asks for a Jacobian anew: rc has moved, or msbp steps have passed.
+#[tactic(auto, unfolding(crate::specs::Steps::stale_of))]
 fn is_stale(s: Settings, c: Common) -> bool
     requires { StepInRange s c }
     ensures { result ≡ stale_of s c }
 {
-    if numbers::abs(c.rc - 1.0) > 0.3 {
-        return true;
-    }
-    c.nslp + s.msbp() <= c.nst
+    numbers::abs(c.rc - 1.0) > 0.3 || c.nslp + s.msbp() <= c.nst
 }
 
+#[tactic(auto, unfolding(crate::specs::Steps::predicted_of))]
 pub fn stoda_get_predicted_values(s: Settings, c: Common, work: &mut [f64]) -> Common
     requires step_in_range { StepInRange s c }
     requires n_in_bounds { matrix_at s.n ≤ length work.old }
     ensures { (result ≡ predicted_of s c) × (work.new ≡ predicted_work_of s c work.old) }
 {
     predict_columns(work, s.n, c.nq, c.nqnyh);
-    let mut d = c;
-    d.tn = c.tn + c.h;
-    if is_stale(s, c) {
-        d.due = c.meth.is_bdf();
-        return d;
+    Common {
+        tn: c.tn + c.h,
+        due: if is_stale(s, c) { c.meth.is_bdf() } else { c.due },
+        ..c
     }
-    d
 }

@@ -1,17 +1,9 @@
-use mathlib.Core.Path.{refl}
 use native.Mathlib.Omega.{arith}
-use lib.ListN.{length-set}
 use Rattle.loops.proofs.For.{again, ended}
-use Rattle.history.specs.Columns.{add_scaled_of}
 use Rattle.history.proofs.add_scaled.Goals as goal
 
-pub loop-i-init : goal.loop-i-init
-unfolding add_scaled_of
-loop-i-init c = (refl, refl)
-
 pub loop-i-preserved : goal.loop-i-preserved
-loop-i-preserved c =
-    (simp length-set (omega arith), again _ _ _ _ _ (omega arith) c.loop-i.invariant.1)
+loop-i-preserved c = again _ _ _ _ _ (omega arith) c.loop-i.invariant
 
 pub returns : goal.returns
-returns c = ended _ _ _ _ _ (omega arith) c.loop-i.invariant.1
+returns c = ended _ _ _ _ _ (omega arith) c.loop-i.invariant
