@@ -1,5 +1,8 @@
 // The history's columns: predict, retract, rescale, the correction added, and copies between parts of the work slice.
 // Column j is the n numbers at j·n. Snapshot and interpolation are in crate interpolation.
+// work and n stay two parameters: a struct of both asks of each function that takes it a clause on its ghost name.
+// Settings and Common stay two values: a rule makes the record anew, so a struct of both would be taken apart in each.
+// sweep, add_scaled, copy_part, set_slope count an index: they read one part of a slice and write another part of it.
 #![tactic(auto)]
 
 ghost use Rattle.std.specs.Prelude.{◌≡◌, ◌+◌, ◌*◌, ◌≤◌, length, replicate, Float};
@@ -19,10 +22,7 @@ pub fn norm_at(work: &[f64], n: usize, at: usize) -> Norm
     requires { (at + n ≤ length work.now) × (matrix_at n ≤ length work.now) }
     ensures { result ≡ norm_at_of n at work.now }
 {
-    let e = at + n;
-    let w = common::EWT * n;
-    let we = common::SAVF * n;
-    vectors::vmnorm(&work[at..e], &work[w..we])
+    vectors::vmnorm(&work[at..at + n], &work[common::EWT * n..common::SAVF * n])
 }
 
 // The numbers at `at` become those of f.
@@ -30,11 +30,11 @@ pub fn store(work: &mut [f64], at: usize, f: &[f64])
     requires { at + length f.now ≤ length work.old }
     ensures { work.new ≡ stored_of at f.now work.old }
 {
-    let e = at + f.len();
-    work[at..e].copy_from_slice(f);
+    work[at..at + f.len()].copy_from_slice(f);
 }
 
 // Each number from a to e becomes what f makes of it and the one that stands n further on.
+#[tactic(auto, using(loops::proofs::For::onward, loops::proofs::For::ended))]
 fn sweep<F: Fn(f64, f64) -> f64>(yh: &mut [f64], n: usize, a: usize, e: usize, f: &F)
     requires callable { F.IsAlwaysCallable f.now }
     requires room { e + n ≤ length yh.old }
@@ -47,6 +47,7 @@ fn sweep<F: Fn(f64, f64) -> f64>(yh: &mut [f64], n: usize, a: usize, e: usize, f
 }
 
 // nq passes: each begins one column further to the left and runs to nqnyh.
+#[tactic(auto, using(loops::proofs::For::onward, loops::proofs::For::ended))]
 fn passes<F: Fn(f64, f64) -> f64>(yh: &mut [f64], n: usize, nq: usize, nqnyh: usize, f: F)
     requires callable { F.IsAlwaysCallable f }
     requires room { (nq * n ≤ nqnyh) × (nqnyh + n ≤ length yh.old) }
@@ -77,6 +78,7 @@ pub fn retract_columns(yh: &mut [f64], n: usize, nq: usize, nqnyh: usize)
 }
 
 // Each number times r.
+#[tactic(auto, using(loops::proofs::For::onward, loops::proofs::For::ended))]
 pub fn scale(v: &mut [f64], r: f64)
     ensures { v.new ≡ times_of r v.old }
 {
@@ -85,7 +87,8 @@ pub fn scale(v: &mut [f64], r: f64)
     }
 }
 
-// Column j times rh to the j-th, for the columns 1 to l - 1.
+// Column j times rh to the j-th, for the columns 1 to l - 1. (n may be 0, where chunks_exact_mut would panic.)
+#[tactic(auto, using(loops::proofs::For::onward, loops::proofs::For::ended), unfolding(crate::specs::Columns::rescale_columns_of, crate::specs::Columns::scale_part_of))]
 pub fn rescale_columns(yh: &mut [f64], n: usize, l: usize, rh: f64)
     requires { l * n ≤ length yh.old }
     ensures { yh.new ≡ rescale_columns_of n l rh yh.old }
@@ -94,13 +97,12 @@ pub fn rescale_columns(yh: &mut [f64], n: usize, l: usize, rh: f64)
     for j in 1..l {
         r *= rh;
         let a = j * n;
-        let e = a + n;
-        scale(&mut yh[a..e], r);
+        scale(&mut yh[a..a + n], r);
     }
 }
 
 // Column j plus e times the vector at `at`.
-#[tactic(auto, unfolding(crate::specs::Columns::add_scaled_of))]
+#[tactic(auto, using(loops::proofs::For::onward, loops::proofs::For::ended), unfolding(crate::specs::Columns::add_scaled_of))]
 fn add_scaled(work: &mut [f64], n: usize, j: usize, e: f64, at: usize)
     requires { (j * n + n ≤ length work.old) × (at + n ≤ length work.old) }
     ensures { work.new ≡ add_scaled_of n j e at work.old }
@@ -111,7 +113,7 @@ fn add_scaled(work: &mut [f64], n: usize, j: usize, e: f64, at: usize)
 }
 
 // The correction acor added to the columns 0 to nq, each with its coefficient.
-#[tactic(auto, unfolding(crate::specs::Columns::correct_columns_of))]
+#[tactic(auto, using(loops::proofs::For::onward, loops::proofs::For::ended), unfolding(crate::specs::Columns::correct_columns_of))]
 pub fn correct_columns(s: Settings, c: Common, work: &mut [f64])
     requires step_in_range { StepInRange s c }
     requires n_in_bounds { matrix_at s.n ≤ length work.old }
@@ -123,8 +125,8 @@ pub fn correct_columns(s: Settings, c: Common, work: &mut [f64])
     }
 }
 
-// The n numbers at `to` become those at `from`.
-#[tactic(auto, unfolding(crate::specs::Columns::copy_of))]
+// The n numbers at `to` become those at `from`, in turn: where the parts overlap, copy_within would do otherwise.
+#[tactic(auto, using(loops::proofs::For::onward, loops::proofs::For::ended), unfolding(crate::specs::Columns::copy_of))]
 pub fn copy_part(work: &mut [f64], n: usize, to: usize, from: usize)
     requires { (to + n ≤ length work.old) × (from + n ≤ length work.old) }
     ensures { work.new ≡ copy_of n to from work.old }
@@ -135,7 +137,7 @@ pub fn copy_part(work: &mut [f64], n: usize, to: usize, from: usize)
 }
 
 // Column 1 becomes h times the derivative savf.
-#[tactic(auto, unfolding(crate::specs::Columns::slope_of))]
+#[tactic(auto, using(loops::proofs::For::onward, loops::proofs::For::ended), unfolding(crate::specs::Columns::slope_of))]
 pub fn set_slope(work: &mut [f64], n: usize, h: f64)
     requires { matrix_at n ≤ length work.old }
     ensures { work.new ≡ slope_of n h work.old }
@@ -187,7 +189,11 @@ pub fn limited(c: Common, rh: f64) -> f64
     }
     let d = pdh(c);
     let sm1 = coefficients::sm1(c.nq);
-    if rh2 * d * 1.00001 >= sm1 { sm1 / d } else { rh2 }
+    if rh2 * d * 1.00001 >= sm1 {
+        sm1 / d
+    } else {
+        rh2
+    }
 }
 
 #[tactic(auto, unfolding(crate::specs::Steps::adjust_of))]
@@ -225,7 +231,11 @@ pub fn stoda_get_predicted_values(s: Settings, c: Common, work: &mut [f64]) -> C
     predict_columns(work, s.n, c.nq, c.nqnyh);
     Common {
         tn: c.tn + c.h,
-        due: if is_stale(s, c) { c.meth.is_bdf() } else { c.due },
+        due: if is_stale(s, c) {
+            c.meth.is_bdf()
+        } else {
+            c.due
+        },
         ..c
     }
 }
