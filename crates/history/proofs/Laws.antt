@@ -4,14 +4,13 @@
 -- Assumes nothing.
 use mathlib.Core.Path.{◌≡◌, refl, ◌∙◌}
 use mathlib.Core.List.{List}
-use Prim.Native.Nat.{ℕ, ◌+◌, ◌-◌, ◌*◌, ◌<◌, ◌≤◌}
+use Prim.Native.Nat.{ℕ, ◌+◌, ◌*◌, ◌<◌, ◌≤◌}
 use native.Mathlib.Nat.{mul-le-mul_right}
 use native.Mathlib.Omega.{arith}
-use lib.ListN.{length, get_or, set, length-set, replicate, length-replicate}
+use lib.ListN.{length, get_or, length-set, replicate, length-replicate}
 use lib.Seq.{get_or-set_other}
 use lib.Ieee.{Float, nan}
 use borrow.Rule.Slice.PartMut.{same_len_mid}
-use Rattle.loops.specs.For.{for}
 use Rattle.loops.proofs.For.{keeps, always}
 use Rattle.loops.proofs.Stores.{length-for}
 use Rattle.loops.specs.Part.{part}
@@ -21,48 +20,46 @@ use Rattle.common.specs.declared.Settings.{Settings}
 use Rattle.common.specs.declared.Common.{Common}
 use Rattle.common.specs.Record.{with_nq}
 use Rattle.common.specs.Rules.{reset_of}
-use Rattle.history.specs.Columns.{predict_columns_of, retract_columns_of, times_at, times_of, Rescaled, rescale_at}
+use Rattle.history.specs.Columns.{sweep_at, sweep_of, passes_of, predict_columns_of, retract_columns_of, times_at}
+use Rattle.history.specs.Columns.{times_of, Rescaled, rescale_at}
 use Rattle.history.specs.Columns.{rescale_columns_of, add_scaled_at, add_scaled_of, correct_at, correct_columns_of}
 use Rattle.history.specs.Columns.{copy_at, copy_of, slope_at, slope_of, fill_of, scale_part_of}
 use Rattle.common.specs.Ranges.{StepInRange}
 use Rattle.history.specs.Steps.{adjust_of, predicted_of}
 
--- the passes of predict and retract: they differ in g, what a turn stores
-module _ (n nqnyh : ℕ) (g : ℕ → List Float → Float) where
-  abbrev passes : ℕ → List Float → List Float
-  passes nq yh = for 0 nq (λ k s. for (nqnyh - (k + 1) * n) nqnyh (λ i t. set t i (g i t)) s) yh
-
-  length-passes : (nq : ℕ) (yh : List Float) → length (passes nq yh) ≡ length yh
-  length-passes nq yh = length-for _ 0 nq yh (λ k s. length-for _ _ nqnyh s (λ i t. length-set t i (g i t)))
+-- the passes of predict and retract, which differ in op
+module _ (op : Float → Float → Float) (n nqnyh : ℕ) where
+  length-passes : (nq : ℕ) (yh : List Float) → length (passes_of op n nq nqnyh yh) ≡ length yh
+  length-passes nq yh = length-for _ 0 nq yh (λ k s. length-for _ _ nqnyh s (λ i t. simp length-set))
 
   same-pass : (a i : ℕ) (yh : List Float) → a ≤ nqnyh → nqnyh ≤ i
-      → get_or (for a nqnyh (λ k t. set t k (g k t)) yh) i nan ≡ get_or yh i nan
+      → get_or (sweep_of op n a nqnyh yh) i nan ≡ get_or yh i nan
   same-pass a i yh begins beyond =
-      let one : (k : ℕ) (t : List Float) → k < nqnyh → get_or (set t k (g k t)) i nan ≡ get_or t i nan =
-      λ k t below. get_or-set_other t k i (g k t) nan (λ e. omega arith)
+      let one : (k : ℕ) (t : List Float) → k < nqnyh → get_or (sweep_at op n k t) i nan ≡ get_or t i nan =
+      λ k t below. get_or-set_other t k i _ nan (λ e. omega arith)
       in
       keeps (λ t. get_or t i nan ≡ get_or yh i nan) _ nqnyh (λ k t below p. one k t below ∙ p) a yh begins refl
 
-  same-passes : (nq i : ℕ) (yh : List Float) → nqnyh ≤ i → get_or (passes nq yh) i nan ≡ get_or yh i nan
+  same-passes : (nq i : ℕ) (yh : List Float) → nqnyh ≤ i → get_or (passes_of op n nq nqnyh yh) i nan ≡ get_or yh i nan
   same-passes nq i yh beyond =
       always (λ s. get_or s i nan ≡ get_or yh i nan) _ 0 nq yh (λ k s p. same-pass _ i s (omega arith) beyond ∙ p) refl
 
 module _ (n nq nqnyh : ℕ) (yh : List Float) where
   pub length-predict : length (predict_columns_of n nq nqnyh yh) ≡ length yh
   unfolding predict_columns_of
-  length-predict = length-passes n nqnyh (λ i t. get_or t i nan ⊕ get_or t (i + n) nan) nq yh
+  length-predict = length-passes ◌⊕◌ n nqnyh nq yh
 
   pub same-predict : (i : ℕ) → nqnyh ≤ i → get_or (predict_columns_of n nq nqnyh yh) i nan ≡ get_or yh i nan
   unfolding predict_columns_of
-  same-predict i beyond = same-passes n nqnyh (λ j t. get_or t j nan ⊕ get_or t (j + n) nan) nq i yh beyond
+  same-predict i beyond = same-passes ◌⊕◌ n nqnyh nq i yh beyond
 
   pub length-retract : length (retract_columns_of n nq nqnyh yh) ≡ length yh
   unfolding retract_columns_of
-  length-retract = length-passes n nqnyh (λ i t. get_or t i nan ⊖ get_or t (i + n) nan) nq yh
+  length-retract = length-passes ◌⊖◌ n nqnyh nq yh
 
   pub same-retract : (i : ℕ) → nqnyh ≤ i → get_or (retract_columns_of n nq nqnyh yh) i nan ≡ get_or yh i nan
   unfolding retract_columns_of
-  same-retract i beyond = same-passes n nqnyh (λ j t. get_or t j nan ⊖ get_or t (j + n) nan) nq i yh beyond
+  same-retract i beyond = same-passes ◌⊖◌ n nqnyh nq i yh beyond
 
 length-scale : (r : Float) (v : List Float) → length (times_of r v) ≡ length v
 length-scale r v = length-for (times_at r) 0 (length v) v (λ i t. simp length-set)

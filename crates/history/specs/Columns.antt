@@ -12,32 +12,45 @@ use Rattle.common.specs.declared.Common.{Common}
 use Rattle.common.specs.Layout.{savf_at, acor_at}
 use Rattle.common.specs.Rules.{el_of}
 
+-- yh[i] = op yh[i] yh[i + n]
+abbrev pub sweep_at : (Float → Float → Float) → ℕ → ℕ → List Float → List Float
+sweep_at op n i yh = set yh i (op (get_or yh i nan) (get_or yh (i + n) nan))
+
+abbrev pub sweep_of : (Float → Float → Float) → ℕ → ℕ → ℕ → List Float → List Float
+sweep_of op n a e yh = for a e (sweep_at op n) yh
+
+-- pass k begins k + 1 columns before nqnyh
+abbrev pub pass_of : (Float → Float → Float) → ℕ → ℕ → ℕ → List Float → List Float
+pass_of op n nqnyh k yh = sweep_of op n (nqnyh - (k + 1) * n) nqnyh yh
+
+abbrev pub passes_of : (Float → Float → Float) → ℕ → ℕ → ℕ → List Float → List Float
+passes_of op n nq nqnyh yh = for 0 nq (pass_of op n nqnyh) yh
+
 -- yh[i] += yh[i + n]
 abbrev pub add_at : ℕ → ℕ → List Float → List Float
-add_at n i yh = set yh i (get_or yh i nan ⊕ get_or yh (i + n) nan)
+add_at = sweep_at ◌⊕◌
 
 abbrev pub add_range : ℕ → ℕ → ℕ → List Float → List Float
-add_range n a e yh = for a e (add_at n) yh
+add_range = sweep_of ◌⊕◌
+
+abbrev pub predict_pass : ℕ → ℕ → ℕ → List Float → List Float
+predict_pass = pass_of ◌⊕◌
+
+unfoldable pub predict_columns_of : ℕ → ℕ → ℕ → List Float → List Float
+predict_columns_of = passes_of ◌⊕◌
 
 -- yh[i] -= yh[i + n]
 abbrev pub sub_at : ℕ → ℕ → List Float → List Float
-sub_at n i yh = set yh i (get_or yh i nan ⊖ get_or yh (i + n) nan)
+sub_at = sweep_at ◌⊖◌
 
 abbrev pub sub_range : ℕ → ℕ → ℕ → List Float → List Float
-sub_range n a e yh = for a e (sub_at n) yh
-
--- pass k begins k + 1 columns before nqnyh
-abbrev pub predict_pass : ℕ → ℕ → ℕ → List Float → List Float
-predict_pass n nqnyh k yh = add_range n (nqnyh - (k + 1) * n) nqnyh yh
-
-unfoldable pub predict_columns_of : ℕ → ℕ → ℕ → List Float → List Float
-predict_columns_of n nq nqnyh yh = for 0 nq (predict_pass n nqnyh) yh
+sub_range = sweep_of ◌⊖◌
 
 abbrev pub retract_pass : ℕ → ℕ → ℕ → List Float → List Float
-retract_pass n nqnyh k yh = sub_range n (nqnyh - (k + 1) * n) nqnyh yh
+retract_pass = pass_of ◌⊖◌
 
 unfoldable pub retract_columns_of : ℕ → ℕ → ℕ → List Float → List Float
-retract_columns_of n nq nqnyh yh = for 0 nq (retract_pass n nqnyh) yh
+retract_columns_of = passes_of ◌⊖◌
 
 -- each number times r
 abbrev pub times_at : Float → ℕ → List Float → List Float

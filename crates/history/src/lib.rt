@@ -1,10 +1,13 @@
 // The history's columns: predict, retract, rescale, the correction added, and copies between parts of the work slice.
 // Column j is the n numbers at j·n. Snapshot and interpolation are in crate interpolation.
+// work and n stay two parameters: a struct of both asks of each function that takes it a clause on its ghost name.
+// Settings and Common stay two values: a rule makes the record anew, so a struct of both would be taken apart in each.
+// sweep, add_scaled, copy_part, set_slope count an index: they read one part of a slice and write another part of it.
 #![tactic(auto)]
 
-ghost use Rattle.std.specs.Prelude.{◌≡◌, ◌+◌, ◌*◌, ◌≤◌, length, replicate};
+ghost use Rattle.std.specs.Prelude.{◌≡◌, ◌+◌, ◌*◌, ◌≤◌, length, replicate, Float};
 ghost use Rattle.common.specs.Layout.{matrix_at};
-ghost use Rattle.history.specs.Columns.{add_range, sub_range, predict_columns_of, retract_columns_of, times_of};
+ghost use Rattle.history.specs.Columns.{sweep_of, passes_of, predict_columns_of, retract_columns_of, times_of};
 ghost use Rattle.history.specs.Columns.{rescale_columns_of, add_scaled_of, correct_columns_of, copy_of, slope_of};
 ghost use Rattle.common.specs.Ranges.{StepInRange};
 ghost use Rattle.history.specs.Steps.{least_of, pdh_of, limited_of, adjust_of, stale_of, predicted_of};
@@ -19,10 +22,7 @@ pub fn norm_at(work: &[f64], n: usize, at: usize) -> Norm
     requires { (at + n ≤ length work.now) × (matrix_at n ≤ length work.now) }
     ensures { result ≡ norm_at_of n at work.now }
 {
-    let e = at + n;
-    let w = common::EWT * n;
-    let we = common::SAVF * n;
-    vectors::vmnorm(&work[at..e], &work[w..we])
+    vectors::vmnorm(&work[at..at + n], &work[common::EWT * n..common::SAVF * n])
 }
 
 // The numbers at `at` become those of f.
@@ -30,74 +30,80 @@ pub fn store(work: &mut [f64], at: usize, f: &[f64])
     requires { at + length f.now ≤ length work.old }
     ensures { work.new ≡ stored_of at f.now work.old }
 {
-    let e = at + f.len();
-    copy_from(&mut work[at..e], f);
+    work[at..at + f.len()].copy_from_slice(f);
 }
 
-// Adds to each number from a to e the one that stands n further on.
-fn add_next(yh: &mut [f64], n: usize, a: usize, e: usize)
-    requires { e + n ≤ length yh.old }
-    ensures { yh.new ≡ add_range n a e yh.old }
+// Each number from a to e becomes what f makes of it and the one that stands n further on.
+#[tactic(auto, using(crate::proofs::Turns::turns))]
+fn sweep<F: Fn(f64, f64) -> f64>(yh: &mut [f64], n: usize, a: usize, e: usize, f: &F)
+    requires callable { F.IsAlwaysCallable f.now }
+    requires room { e + n ≤ length yh.old }
+    ensures { (op : Float → Float → Float) → ((x y z : Float) → F.post f.now x y z → z ≡ op x y)
+        → yh.new ≡ sweep_of op n a e yh.old }
 {
     for i in a..e {
-        yh[i] += yh[i + n];
-    }
-}
-
-// Subtracts from each number from a to e the one that stands n further on.
-fn sub_next(yh: &mut [f64], n: usize, a: usize, e: usize)
-    requires { e + n ≤ length yh.old }
-    ensures { yh.new ≡ sub_range n a e yh.old }
-{
-    for i in a..e {
-        yh[i] -= yh[i + n];
+        yh[i] = f(yh[i], yh[i + n]);
     }
 }
 
 // nq passes: each begins one column further to the left and runs to nqnyh.
+#[tactic(auto, using(crate::proofs::Turns::turns))]
+fn passes<F: Fn(f64, f64) -> f64>(yh: &mut [f64], n: usize, nq: usize, nqnyh: usize, f: F)
+    requires callable { F.IsAlwaysCallable f }
+    requires room { (nq * n ≤ nqnyh) × (nqnyh + n ≤ length yh.old) }
+    ensures { (op : Float → Float → Float) → ((x y z : Float) → F.post f x y z → z ≡ op x y)
+        → yh.new ≡ passes_of op n nq nqnyh yh.old }
+{
+    for k in 0..nq {
+        sweep(yh, n, nqnyh - (k + 1) * n, nqnyh, &f);
+    }
+}
+
+// Each number plus the one a column further on, pass by pass.
+#[tactic(auto, unfolding(crate::specs::Columns::predict_columns_of))]
 pub fn predict_columns(yh: &mut [f64], n: usize, nq: usize, nqnyh: usize)
     requires { (nq * n ≤ nqnyh) × (nqnyh + n ≤ length yh.old) }
     ensures { yh.new ≡ predict_columns_of n nq nqnyh yh.old }
 {
-    for k in 0..nq {
-        add_next(yh, n, nqnyh - (k + 1) * n, nqnyh);
-    }
+    passes(yh, n, nq, nqnyh, |x, y| x + y);
 }
 
 // The same passes, subtracting: predict's order, so floats need not return.
+#[tactic(auto, unfolding(crate::specs::Columns::retract_columns_of))]
 pub fn retract_columns(yh: &mut [f64], n: usize, nq: usize, nqnyh: usize)
     requires { (nq * n ≤ nqnyh) × (nqnyh + n ≤ length yh.old) }
     ensures { yh.new ≡ retract_columns_of n nq nqnyh yh.old }
 {
-    for k in 0..nq {
-        sub_next(yh, n, nqnyh - (k + 1) * n, nqnyh);
-    }
+    passes(yh, n, nq, nqnyh, |x, y| x - y);
 }
 
 // Each number times r.
+#[tactic(auto, using(crate::proofs::Turns::turns))]
 pub fn scale(v: &mut [f64], r: f64)
     ensures { v.new ≡ times_of r v.old }
 {
-    for i in 0..v.len() {
-        v[i] *= r;
+    for x in v.iter_mut() {
+        *x *= r;
     }
 }
 
-// Column j times rh to the j-th, for the columns 1 to l - 1.
+// Column j times rh to the j-th, for the columns 1 to l - 1. (n may be 0, where chunks_exact_mut would panic.)
+#[tactic(auto, using(crate::proofs::Turns::turns), unfolding(crate::specs::Columns::rescale_columns_of))]
 pub fn rescale_columns(yh: &mut [f64], n: usize, l: usize, rh: f64)
     requires { l * n ≤ length yh.old }
     ensures { yh.new ≡ rescale_columns_of n l rh yh.old }
 {
     let mut r = 1.0;
+    #[tactic(auto, using(crate::proofs::Turns::turns), unfolding(crate::specs::Columns::scale_part_of))]
     for j in 1..l {
-        r = r * rh;
+        r *= rh;
         let a = j * n;
-        let e = a + n;
-        scale(&mut yh[a..e], r);
+        scale(&mut yh[a..a + n], r);
     }
 }
 
 // Column j plus e times the vector at `at`.
+#[tactic(auto, using(crate::proofs::Turns::turns), unfolding(crate::specs::Columns::add_scaled_of))]
 fn add_scaled(work: &mut [f64], n: usize, j: usize, e: f64, at: usize)
     requires { (j * n + n ≤ length work.old) × (at + n ≤ length work.old) }
     ensures { work.new ≡ add_scaled_of n j e at work.old }
@@ -108,6 +114,7 @@ fn add_scaled(work: &mut [f64], n: usize, j: usize, e: f64, at: usize)
 }
 
 // The correction acor added to the columns 0 to nq, each with its coefficient.
+#[tactic(auto, using(crate::proofs::Turns::turns), unfolding(crate::specs::Columns::correct_columns_of))]
 pub fn correct_columns(s: Settings, c: Common, work: &mut [f64])
     requires step_in_range { StepInRange s c }
     requires n_in_bounds { matrix_at s.n ≤ length work.old }
@@ -119,7 +126,8 @@ pub fn correct_columns(s: Settings, c: Common, work: &mut [f64])
     }
 }
 
-// The n numbers at `to` become those at `from`.
+// The n numbers at `to` become those at `from`, in turn: where the parts overlap, copy_within would do otherwise.
+#[tactic(auto, using(crate::proofs::Turns::turns), unfolding(crate::specs::Columns::copy_of))]
 pub fn copy_part(work: &mut [f64], n: usize, to: usize, from: usize)
     requires { (to + n ≤ length work.old) × (from + n ≤ length work.old) }
     ensures { work.new ≡ copy_of n to from work.old }
@@ -130,6 +138,7 @@ pub fn copy_part(work: &mut [f64], n: usize, to: usize, from: usize)
 }
 
 // Column 1 becomes h times the derivative savf.
+#[tactic(auto, using(crate::proofs::Turns::turns), unfolding(crate::specs::Columns::slope_of))]
 pub fn set_slope(work: &mut [f64], n: usize, h: f64)
     requires { matrix_at n ≤ length work.old }
     ensures { work.new ≡ slope_of n h work.old }
@@ -143,9 +152,7 @@ pub fn set_slope(work: &mut [f64], n: usize, h: f64)
 pub fn fill(v: &mut [f64], x: f64)
     ensures { v.new ≡ replicate (length v.old) x }
 {
-    for i in 0..v.len() {
-        v[i] = x;
-    }
+    v.fill(x);
 }
 
 // A vector becomes another of its length.
@@ -153,9 +160,7 @@ pub fn copy_from(to: &mut [f64], from: &[f64])
     requires { length to.old ≡ length from.now }
     ensures { to.new ≡ from.now }
 {
-    for i in 0..to.len() {
-        to[i] = from[i];
-    }
+    to.copy_from_slice(from);
 }
 
 // The least factor that keeps a step at hmin or above.
@@ -186,11 +191,13 @@ pub fn limited(c: Common, rh: f64) -> f64
     let d = pdh(c);
     let sm1 = coefficients::sm1(c.nq);
     if rh2 * d * 1.00001 >= sm1 {
-        return sm1 / d;
+        sm1 / d
+    } else {
+        rh2
     }
-    rh2
 }
 
+#[tactic(auto, unfolding(crate::specs::Steps::adjust_of))]
 pub fn stoda_adjust_step_size(s: Settings, c: Common, rh: f64, work: &mut [f64]) -> Common
     requires step_in_range { StepInRange s c }
     requires n_in_bounds { matrix_at s.n ≤ length work.old }
@@ -199,35 +206,37 @@ pub fn stoda_adjust_step_size(s: Settings, c: Common, rh: f64, work: &mut [f64])
 {
     let r = limited(c, rh);
     rescale_columns(work, s.n, c.nq + 1, r);
-    let mut d = c;
-    d.h = c.h * r;
-    d.rc = c.rc * r;
-    d.ialth = c.nq + 1;
-    d
+    Common {
+        h: c.h * r,
+        rc: c.rc * r,
+        ialth: c.nq + 1,
+        ..c
+    }
 }
 
 // Whether a prediction asks for a Jacobian anew: rc has moved, or msbp steps have passed.
+#[tactic(auto, unfolding(crate::specs::Steps::stale_of))]
 fn is_stale(s: Settings, c: Common) -> bool
     requires { StepInRange s c }
     ensures { result ≡ stale_of s c }
 {
-    if numbers::abs(c.rc - 1.0) > 0.3 {
-        return true;
-    }
-    c.nslp + s.msbp() <= c.nst
+    numbers::abs(c.rc - 1.0) > 0.3 || c.nslp + s.msbp() <= c.nst
 }
 
+#[tactic(auto, unfolding(crate::specs::Steps::predicted_of))]
 pub fn stoda_get_predicted_values(s: Settings, c: Common, work: &mut [f64]) -> Common
     requires step_in_range { StepInRange s c }
     requires n_in_bounds { matrix_at s.n ≤ length work.old }
     ensures { (result ≡ predicted_of s c) × (work.new ≡ predicted_work_of s c work.old) }
 {
     predict_columns(work, s.n, c.nq, c.nqnyh);
-    let mut d = c;
-    d.tn = c.tn + c.h;
-    if is_stale(s, c) {
-        d.due = c.meth.is_bdf();
-        return d;
+    Common {
+        tn: c.tn + c.h,
+        due: if is_stale(s, c) {
+            c.meth.is_bdf()
+        } else {
+            c.due
+        },
+        ..c
     }
-    d
 }

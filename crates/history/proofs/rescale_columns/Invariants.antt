@@ -1,16 +1,12 @@
 -- `rescale_columns` meets its contract. The invariant: from the power so far the rest gives the whole.
 -- Assumes nothing.
 use mathlib.Core.Path.{◌≡◌}
-use lib.ListN.{length}
 use Rattle.loops.specs.For.{for}
 use Rattle.numbers.specs.Float.{one_f}
-use Rattle.history.specs.Columns.{Rescaled, rescale_at}
+use Rattle.history.specs.Columns.{rescale_at}
 use Rattle.history.proofs.rescale_columns.Given as goal
 
 abbrev pub invariant-loop-j : goal.invariant-loop-j
 invariant-loop-j l =
-    let begun : Rescaled = record { r = one_f; yh = l.initial.yh } in
-    (length l.yh ≡ length l.initial.yh) × (for l.j l.l (rescale_at l.n l.rh) (record {
-      r = l.r;
-      yh = l.yh;
-    }) ≡ for 1 l.l (rescale_at l.n l.rh) begun)
+    for l.j l.l (rescale_at l.n l.rh) (record { r = l.r; yh = l.yh })
+    ≡ for 1 l.l (rescale_at l.n l.rh) (record { r = one_f; yh = l.initial.yh })

@@ -6,7 +6,6 @@ use Rattle.loops.specs.For.{for}
 use Rattle.history.specs.Columns.{times_at, times_of}
 use Rattle.history.proofs.scale.Given as goal
 
-abbrev pub invariant-loop-i : goal.invariant-loop-i
-invariant-loop-i l =
-    (length l.v ≡ length l.initial.v)
-    × (for l.i (length l.initial.v) (times_at l.r) l.v ≡ times_of l.r l.initial.v)
+abbrev pub invariant-loop-x : goal.invariant-loop-x
+invariant-loop-x l =
+    for l.x-index (length l.initial.v) (times_at l.r) l.v ≡ times_of l.r l.initial.v
