@@ -4,6 +4,8 @@
 ghost use Rattle.std.specs.Prelude.{◌*◌, ◌<◌, ◌≤◌, length};
 ghost use Rattle.common.specs.Limits.{max_states};
 
+pub const LINKS: usize = 32;
+
 // As many states as the library takes at most.
 pub const STATES: usize = common::MAX_STATES;
 
@@ -14,13 +16,10 @@ const DRAG: f64 = 40.0;
 const GRAVITY: f64 = 9.81;
 
 // Every link is held aside, at rest.
-pub fn first_pose(y: &mut [f64])
-    requires { max_states ≤ length y.old }
-{
-    for i in 0..32usize {
-        y[i] = 0.5;
-        y[32 + i] = 0.0;
-    }
+pub fn first_pose() -> [f64; STATES] {
+    let mut y = [0.0; STATES];
+    y[..LINKS].fill(0.5);
+    y
 }
 
 // The angle of the neighbour towards the root.
@@ -28,19 +27,17 @@ fn above(t: f64, y: &[f64], i: usize) -> f64
     requires { (i < 32) × (max_states ≤ length y.now) }
 {
     if i == 0 {
-        return 1.2 * t / (1.0 + t * t);
+        1.2 * t / (1.0 + t * t)
+    } else {
+        y[i - 1]
     }
-    y[i - 1]
 }
 
 // The angle of the other neighbour; the last link has none.
 fn below(y: &[f64], i: usize) -> f64
     requires { (i < 32) × (max_states ≤ length y.now) }
 {
-    if i == 31 {
-        return y[i];
-    }
-    y[i + 1]
+    if i == LINKS - 1 { y[i] } else { y[i + 1] }
 }
 
 fn acceleration(t: f64, y: &[f64], i: usize) -> f64
@@ -48,16 +45,19 @@ fn acceleration(t: f64, y: &[f64], i: usize) -> f64
 {
     let a = y[i];
     let pull = SPRING * (above(t, y, i) - a + (below(y, i) - a));
-    pull - DRAG * y[32 + i] - GRAVITY * (a - a * a * a / 6.0)
+    pull - DRAG * y[LINKS + i] - GRAVITY * (a - a * a * a / 6.0)
 }
 
-pub fn derivative(t: f64, y: &[f64], f: &mut [f64])
-    requires { (max_states ≤ length y.now) × (max_states ≤ length f.old) }
+// The angles change by the speeds, the speeds by the accelerations.
+pub fn derivative(t: f64, y: &[f64]) -> [f64; STATES]
+    requires { max_states ≤ length y.now }
 {
-    for i in 0..32usize {
-        f[i] = y[32 + i];
-        f[32 + i] = acceleration(t, y, i);
+    let mut f = [0.0; STATES];
+    f[..LINKS].copy_from_slice(&y[LINKS..STATES]);
+    for (i, speed) in f[LINKS..].iter_mut().enumerate() {
+        *speed = acceleration(t, y, i);
     }
+    f
 }
 
 // ---- the Jacobian, column by column
@@ -71,51 +71,34 @@ fn put(j: &mut [f64], row: usize, column: usize, x: f64)
 // What the angle a of link i does to its own acceleration.
 fn own(i: usize, a: f64) -> f64 {
     let gravity = GRAVITY * (1.0 - a * a / 2.0);
-    if i == 31 {
-        return -SPRING - gravity;
+    if i == LINKS - 1 {
+        -SPRING - gravity
+    } else {
+        -SPRING * 2.0 - gravity
     }
-    -SPRING * 2.0 - gravity
-}
-
-fn to_above(i: usize, j: &mut [f64])
-    requires { (i < 32) × (max_states * max_states ≤ length j.old) }
-{
-    if i == 0 {
-        return;
-    }
-    put(j, 32 + i, i - 1, SPRING);
-}
-
-fn to_below(i: usize, j: &mut [f64])
-    requires { (i < 32) × (max_states * max_states ≤ length j.old) }
-{
-    if i == 31 {
-        return;
-    }
-    put(j, 32 + i, i + 1, SPRING);
 }
 
 fn link(i: usize, a: f64, j: &mut [f64])
     requires { (i < 32) × (max_states * max_states ≤ length j.old) }
 {
-    put(j, i, 32 + i, 1.0);
-    put(j, 32 + i, 32 + i, -DRAG);
-    put(j, 32 + i, i, own(i, a));
-    to_above(i, j);
-    to_below(i, j);
-}
-
-fn clear(j: &mut [f64]) {
-    for k in 0..j.len() {
-        j[k] = 0.0;
+    let speed = LINKS + i;
+    put(j, i, speed, 1.0);
+    put(j, speed, speed, -DRAG);
+    put(j, speed, i, own(i, a));
+    if i > 0 {
+        put(j, speed, i - 1, SPRING);
+    }
+    if i + 1 < LINKS {
+        put(j, speed, i + 1, SPRING);
     }
 }
 
-pub fn jacobian(y: &[f64], j: &mut [f64])
-    requires { (max_states ≤ length y.now) × (max_states * max_states ≤ length j.old) }
+pub fn jacobian(y: &[f64]) -> [f64; STATES * STATES]
+    requires { max_states ≤ length y.now }
 {
-    clear(j);
-    for i in 0..32usize {
-        link(i, y[i], j);
+    let mut j = [0.0; STATES * STATES];
+    for i in 0..LINKS {
+        link(i, y[i], &mut j);
     }
+    j
 }

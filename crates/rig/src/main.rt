@@ -4,11 +4,6 @@
 // bit.
 #![tactic(auto)]
 
-ghost use Rattle.std.specs.Prelude.{◌≡◌, ◌*◌, ◌≤◌, length};
-ghost use Rattle.common.specs.Layout.{question_length};
-ghost use Rattle.common.specs.Limits.{max_states};
-ghost use Rattle.common.specs.SessionWords.{session_length};
-
 mod chain;
 mod show;
 mod watch;
@@ -19,294 +14,178 @@ use refusals::Options;
 use std::io;
 use watch::Watch;
 
-// How many numbers the Jacobian and the question have.
-const JACOBIAN_LENGTH: usize = STATES * STATES;
-
 const QUESTION_LENGTH: usize = common::QUESTION * STATES + common::HEADER;
 
 // made by tools/record.py: the family's place
 const FAMILY_AT: usize = 8 * 12;
 // end of the family's place
 
-// The last answer, at the end the one that ended the run, and what was seen up to it.
+// What an answer asks of the host.
 #[derive(Clone, Copy)]
-struct Outcome {
-    end: Reply,
-    watch: Watch,
+enum Wanted {
+    Derivative,
+    Jacobian,
+    FirstReport,
+    Report,
 }
 
-fn is_asked(number: usize) -> bool {
-    if number < 100 {
-        return false;
-    }
-    number < 110
-}
-
-// ---- what is seen of a question
-
-// Whether this request is for the first column of a Jacobian by differences: at the time of the last derivative, and at
-// the pose that it asked for but for the first state.
-fn is_first(r: Reply, at: f64, pose: &[f64], y: &[f64]) -> bool
-    requires { (max_states ≤ length pose.now) × (max_states ≤ length y.now) }
-{
-    if r.number != 100 {
-        return false;
-    }
-    if r.time != at {
-        return false;
-    }
-    if y[0] == pose[0] {
-        return false;
-    }
-    for i in 1..STATES {
-        if y[i] != pose[i] {
-            return false;
+impl Wanted {
+    // By the answer's number. The end of a run and a refusal ask for nothing.
+    fn of(number: usize) -> Option<Wanted> {
+        match number {
+            100 => Some(Wanted::Derivative),
+            101 => Some(Wanted::Jacobian),
+            102 => Some(Wanted::FirstReport),
+            103 => Some(Wanted::Report),
+            _ => None,
         }
     }
-    true
 }
 
-// What was seen with this question, whose pose is kept. The family is a byte of the session: docs/SESSION.md.
-fn watched(w: Watch, r: Reply, pose: &mut [f64], session: &[u8], y: &[f64]) -> Watch
-    requires { (length pose.old ≡ max_states) × (length session.now ≡ session_length)
-        × (length y.now ≡ question_length max_states) }
-{
-    if r.number > 101 {
-        return watch::reported(w, r, session[FAMILY_AT]);
-    }
-    let first = is_first(r, w.at, pose, y);
-    copy(y, pose);
-    watch::requested(w, r, first)
+// What the host lends to each call of a run.
+#[derive(Drop)]
+struct Lent {
+    work: [f64; 5312],
+    pivots: [usize; STATES],
+    session: [u8; common::SESSION_LENGTH],
+    question: [f64; QUESTION_LENGTH],
 }
 
-// The pose at time t, if it lies within the reported step.
-fn frame(rt: &impl Print, t: f64, r: Reply, question: &[f64], pose: &mut [f64]) -> io::Result<()>
-    requires { (question_length max_states ≤ length question.now) × (max_states ≤ length pose.old) }
-{
-    if t <= r.previous {
-        return Ok(());
+impl Lent {
+    fn new() -> Lent {
+        Lent {
+            work: [0.0; 5312],
+            pivots: [0; STATES],
+            session: [0; common::SESSION_LENGTH],
+            question: [0.0; QUESTION_LENGTH],
+        }
     }
-    if r.time < t {
-        return Ok(());
+
+    fn start(&mut self, options: Options) -> Reply {
+        raimsklo::raimsklo_start(
+            0.0,
+            2.0,
+            &chain::first_pose(),
+            &[0.001],
+            &[0.0001],
+            options,
+            &mut self.work,
+            &mut self.pivots,
+            &mut self.session,
+            &mut self.question,
+        )
     }
-    if r.order > 12 {
-        return Ok(());
+
+    // The kinds are the calls' own: 1 a derivative, 2 a Jacobian, 3 continue.
+    fn reply(&mut self, kind: usize, numbers: &[f64], time: f64) -> Reply {
+        raimsklo::raimsklo_reply(
+            kind,
+            numbers,
+            time,
+            &mut self.work,
+            &mut self.pivots,
+            &mut self.session,
+            &mut self.question,
+        )
     }
-    let end = STATES + common::HEADER + STATES * (r.order + 1);
-    let refused = raimsklo::raimsklo_interpolate(t, pose, &question[STATES..end]);
-    show::frame(rt, t, refused, pose)
+
+    // The answer to what the host replies: what is wanted, or to a report the reported pose as it is.
+    fn answer(&mut self, wanted: Wanted, time: f64) -> Reply {
+        match wanted {
+            Wanted::Derivative => {
+                let f = chain::derivative(time, &self.question);
+                self.reply(1, &f, time)
+            }
+            Wanted::Jacobian => {
+                let j = chain::jacobian(&self.question);
+                self.reply(2, &j, time)
+            }
+            Wanted::FirstReport | Wanted::Report => {
+                let mut pose = [0.0; STATES];
+                pose.copy_from_slice(&self.question[..STATES]);
+                self.reply(3, &pose, time)
+            }
+        }
+    }
+
+    // The family is a byte of the session: docs/SESSION.md.
+    fn is_adams(&self) -> bool {
+        self.session[FAMILY_AT] == 1
+    }
 }
 
-// At each quarter of a second.
-fn frames(rt: &impl Print, r: Reply, question: &[f64], pose: &mut [f64]) -> io::Result<()>
-    requires { (question_length max_states ≤ length question.now) × (max_states ≤ length pose.old) }
-{
-    for k in 1..9u32 {
-        frame(rt, k as f64 * 0.25, r, question, pose)?;
+// The poses at the quarters of a second that lie within the reported step.
+fn frames(rt: &impl Print, r: &Reply, question: &[f64; QUESTION_LENGTH]) -> io::Result<()> {
+    for quarter in 1..9u32 {
+        let t = quarter as f64 * 0.25;
+        if r.previous < t && t <= r.time && r.order <= 12 {
+            let end = STATES + common::HEADER + STATES * (r.order + 1);
+            let mut pose = [0.0; STATES];
+            let refused = raimsklo::raimsklo_interpolate(t, &mut pose, &question[STATES..end]);
+            show::frame(rt, t, refused, &pose)?;
+        }
     }
     Ok(())
 }
 
-fn copy(from: &[f64], to: &mut [f64])
-    requires { length to.old ≤ length from.now }
-{
-    for i in 0..to.len() {
-        to[i] = from[i];
-    }
-}
-
-// ---- a run
-
-// 1 derivative, 3 continue.
-fn kind(number: usize) -> usize {
-    if number == 100 {
-        return 1;
-    }
-    3
-}
-
-// What the host replies to a wanted derivative, or to a report: y as it is.
-fn fill_in(rt: &impl Print, asked: Reply, question: &[f64], numbers: &mut [f64]) -> io::Result<()>
-    requires { (length numbers.old ≡ max_states) × (question_length max_states ≤ length question.now) }
-{
-    if asked.number == 100 {
-        chain::derivative(asked.time, question, numbers);
-        return Ok(());
-    }
-    frames(rt, asked, question, numbers)?;
-    copy(question, numbers);
-    Ok(())
-}
-
-// The answer to the host's reply to the question that stands.
-fn replied(
-    rt: &impl Print,
-    asked: Reply,
-    numbers: &mut [f64],
-    columns: &mut [f64],
-    work: &mut [f64],
-    pivots: &mut [usize],
-    session: &mut [u8],
-    question: &mut [f64],
-) -> io::Result<Reply>
-    requires { (length numbers.old ≡ max_states) × (length columns.old ≡ max_states * max_states)
-        × (length question.old ≡ question_length max_states) }
-{
-    if asked.number == 101 {
-        chain::jacobian(question, columns);
-        return Ok(raimsklo::raimsklo_reply(
-            2, columns, asked.time, work, pivots, session, question,
-        ));
-    }
-    fill_in(rt, asked, question, numbers)?;
-    Ok(raimsklo::raimsklo_reply(
-        kind(asked.number),
-        numbers,
-        asked.time,
-        work,
-        pivots,
-        session,
-        question,
-    ))
-}
-
-fn start(
-    options: Options,
-    numbers: &mut [f64],
-    work: &mut [f64],
-    pivots: &mut [usize],
-    session: &mut [u8],
-    question: &mut [f64],
-) -> Reply
-    requires { max_states ≤ length numbers.old }
-{
-    chain::first_pose(numbers);
-    raimsklo::raimsklo_start(
-        0.0,
-        2.0,
-        numbers,
-        &[0.001],
-        &[0.0001],
-        options,
-        work,
-        pivots,
-        session,
-        question,
+fn cost(rt: &impl Print, end: Reply, w: &Watch) -> io::Result<()> {
+    println!(rt;
+        "ended by {}, h {:016x}",
+        end.number,
+        numbers::to_bits(end.h)
+    )?;
+    println!(rt;
+        "derivatives {}, Jacobians {}, factorings {}",
+        end.nfe, end.nje, end.nlu
+    )?;
+    println!(rt;
+        "derivatives seen {}, Jacobians seen {}",
+        w.derivatives, w.jacobians
+    )?;
+    println!(rt;
+        "steps {}, accepted {}, rejected {}",
+        end.total, end.accepted, end.rejected
+    )?;
+    println!(rt; "reports {}, wrong {}", w.reports, w.wrong)?;
+    println!(rt;
+        "most derivatives in a step {}, capped at {}",
+        w.most, w.capped
     )
 }
 
-// The question that stands is watched and replied to.
-fn turn(
-    rt: &impl Print,
-    o: Outcome,
-    pose: &mut [f64],
-    numbers: &mut [f64],
-    columns: &mut [f64],
-    work: &mut [f64],
-    pivots: &mut [usize],
-    session: &mut [u8],
-    question: &mut [f64],
-) -> io::Result<Outcome>
-    requires { (length pose.old ≡ max_states) × (length numbers.old ≡ max_states)
-        × (length columns.old ≡ max_states * max_states) × (length session.old ≡ session_length)
-        × (length question.old ≡ question_length max_states) }
-{
-    let w = watched(o.watch, o.end, pose, session, question);
-    let r = replied(rt, o.end, numbers, columns, work, pivots, session, question)?;
-    Ok(Outcome { end: r, watch: w })
-}
-
-fn drive(
-    rt: &impl Print,
-    options: Options,
-    pose: &mut [f64],
-    numbers: &mut [f64],
-    columns: &mut [f64],
-    work: &mut [f64],
-    pivots: &mut [usize],
-    session: &mut [u8],
-    question: &mut [f64],
-) -> io::Result<Outcome>
-    requires { (length pose.old ≡ max_states) × (length numbers.old ≡ max_states)
-        × (length columns.old ≡ max_states * max_states) × (length session.old ≡ session_length)
-        × (length question.old ≡ question_length max_states) }
-{
-    let w = Watch {
-        reports: 0,
-        wrong: 0,
-        most: 0,
-        capped: 0,
-        time: 0.0,
-        asked: 0,
-        begun: 0,
-        columns: 0,
-        family: 0,
-        derivatives: 0,
-        jacobians: 0,
-        at: 0.0,
-    };
-    let mut o = Outcome {
-        end: start(options, numbers, work, pivots, session, question),
-        watch: w,
-    };
-    for _ in 0..100000usize {
-        if !is_asked(o.end.number) {
-            break;
-        }
-        o = turn(
-            rt, o, pose, numbers, columns, work, pivots, session, question,
-        )?;
-    }
-    Ok(o)
-}
-
-fn cost(rt: &impl Print, end: Reply, w: Watch) -> io::Result<()> {
-    show::count(rt, b"ended by ", end.number)?;
-    print!(rt; ", h ")?;
-    show::pattern(rt, end.h)?;
-    show::count(rt, b"\nderivatives ", end.nfe)?;
-    show::count(rt, b", Jacobians ", end.nje)?;
-    show::count(rt, b", factorings ", end.nlu)?;
-    show::count(rt, b"\nderivatives seen ", w.derivatives)?;
-    show::count(rt, b", Jacobians seen ", w.jacobians)?;
-    show::count(rt, b"\nsteps ", end.total)?;
-    show::count(rt, b", accepted ", end.accepted)?;
-    show::count(rt, b", rejected ", end.rejected)?;
-    show::count(rt, b"\nreports ", w.reports)?;
-    show::count(rt, b", wrong ", w.wrong)?;
-    show::count(rt, b"\nmost derivatives in a step ", w.most)?;
-    show::count(rt, b", capped at ", w.capped)?;
-    println!(rt; "")
-}
-
 fn run(rt: &impl Print, options: Options) -> io::Result<()> {
-    let mut pose = [0.0; STATES];
-    let mut numbers = [0.0; STATES];
-    let mut columns = [0.0; JACOBIAN_LENGTH];
-    let mut work = [0.0; 5312];
-    let mut pivots = [0usize; STATES];
-    let mut session = [0u8; common::SESSION_LENGTH];
-    let mut question = [0.0; QUESTION_LENGTH];
-    let o = drive(
-        rt,
-        options,
-        &mut pose,
-        &mut numbers,
-        &mut columns,
-        &mut work,
-        &mut pivots,
-        &mut session,
-        &mut question,
-    )?;
-    cost(rt, o.end, o.watch)?;
-    show::pose(rt, &question)
+    let mut lent = Lent::new();
+    let mut watch = Watch::new();
+    let mut r = lent.start(options);
+    for _ in 0..100000 {
+        let Some(wanted) = Wanted::of(r.number) else {
+            break;
+        };
+        match wanted {
+            Wanted::Derivative => watch.derivative(&r, &lent.question),
+            Wanted::Jacobian => watch.jacobian(&lent.question),
+            Wanted::FirstReport => watch.first_report(&r, lent.is_adams()),
+            Wanted::Report => {
+                watch.step_report(&r, lent.is_adams());
+                frames(rt, &r, &lent.question)?;
+            }
+        }
+        r = lent.answer(wanted, r.time);
+    }
+    cost(rt, r, &watch)?;
+    show::pose(rt, &lent.question[..STATES])
 }
 
 fn main(rt: HostRuntime) -> io::Result<()> {
-    let mut options = raimsklo::raimsklo_defaults();
+    let options = raimsklo::raimsklo_defaults();
     println!(rt; "Jacobian by differences")?;
     run(&rt, options)?;
-    options.supplied = 1;
     println!(rt; "Jacobian supplied")?;
-    run(&rt, options)
+    run(
+        &rt,
+        Options {
+            supplied: 1,
+            ..options
+        },
+    )
 }

@@ -1,7 +1,8 @@
 // What was seen of a run: its requests one by one, and each report held to them. A report's count is that of the
 // derivatives asked for since the one before, and within the cap of a step with as many Jacobians as were begun in it;
 // a report that is not so is counted as wrong.
-ghost use Rattle.std.specs.Prelude.{◌≤◌};
+ghost use Rattle.std.specs.Prelude.{◌≤◌, length};
+ghost use Rattle.common.specs.Limits.{max_states};
 
 use crate::chain::STATES;
 use raimsklo::Reply;
@@ -16,116 +17,115 @@ const BDF: usize = 73;
 const JACOBIANS: usize = 19;
 
 // What was seen of a run.
-#[derive(Clone, Copy)]
+#[derive(Drop)]
 pub struct Watch {
     // The reports, how many of them were wrong, the largest count with its cap, and the last one's time.
     pub reports: usize,
     pub wrong: usize,
     pub most: usize,
     pub capped: usize,
-    pub time: f64,
+    time: f64,
     // Since the last report: the derivatives asked for, the Jacobians begun, and how many columns these have by
-    // differences. The family is the one in force there.
-    pub asked: usize,
-    pub begun: usize,
-    pub columns: usize,
-    pub family: u8,
-    // In all, and the time of the last derivative.
+    // differences. `adams`: the family in force there was Adams.
+    asked: usize,
+    begun: usize,
+    columns: usize,
+    adams: bool,
+    // In all, and the last request: the time of its derivative, and its pose.
     pub derivatives: usize,
     pub jacobians: usize,
-    pub at: f64,
+    at: f64,
+    pose: [f64; STATES],
 }
 
-// A count and some more. It stops at a million.
-fn added(n: usize, more: usize) -> usize
-    requires { more ≤ 100 }
-{
-    if n < 1000000 {
-        return n + more;
+impl Watch {
+    pub fn new() -> Watch {
+        Watch {
+            reports: 0,
+            wrong: 0,
+            most: 0,
+            capped: 0,
+            time: 0.0,
+            asked: 0,
+            begun: 0,
+            columns: 0,
+            adams: false,
+            derivatives: 0,
+            jacobians: 0,
+            at: 0.0,
+            pose: [0.0; STATES],
+        }
     }
-    n
-}
 
-fn cap(w: Watch) -> usize {
-    if w.family == 1 {
-        return added(w.columns, ADAMS);
+    // A derivative is asked for at y. It may be for the first column of a Jacobian by differences.
+    pub fn derivative(&mut self, r: &Reply, y: &[f64])
+        requires { max_states ≤ length y.now }
+    {
+        if self.is_first_column(r, y) {
+            self.begin_jacobian();
+            self.columns = self.columns.saturating_add(STATES);
+        }
+        self.asked = self.asked.saturating_add(1);
+        self.derivatives = self.derivatives.saturating_add(1);
+        self.at = r.time;
+        self.pose.copy_from_slice(&y[..STATES]);
     }
-    added(w.columns, BDF)
-}
 
-// A report begins where the last one ended and its count is that of the derivatives seen since, but for the first: it
-// has none, and the one seen was the start's. Any other goes forward and keeps to both caps.
-fn is_right(w: Watch, r: Reply) -> bool {
-    if r.previous != w.time {
-        return false;
+    // The Jacobian is asked for at y.
+    pub fn jacobian(&mut self, y: &[f64])
+        requires { max_states ≤ length y.now }
+    {
+        self.begin_jacobian();
+        self.pose.copy_from_slice(&y[..STATES]);
     }
-    if r.number == 102 {
-        return r.count == 0 && w.asked == 1;
-    }
-    if r.time <= r.previous {
-        return false;
-    }
-    if r.count != w.asked {
-        return false;
-    }
-    if w.begun > JACOBIANS {
-        return false;
-    }
-    r.count <= cap(w)
-}
 
-fn larger(a: usize, b: usize) -> usize {
-    if a < b {
-        return b;
+    // The first report has no count, and the one derivative seen was the start's.
+    pub fn first_report(&mut self, r: &Reply, adams: bool) {
+        let right = r.previous == self.time && r.count == 0 && self.asked == 1;
+        self.report(r, adams, right);
     }
-    a
-}
 
-// The cap of the step with the largest count.
-fn capped(w: Watch, r: Reply) -> usize {
-    if w.most < r.count {
-        return cap(w);
+    // Any other begins where the last one ended, goes forward, has the count of the derivatives seen since, and keeps
+    // to both caps.
+    pub fn step_report(&mut self, r: &Reply, adams: bool) {
+        let right = r.previous == self.time
+            && r.time > r.previous
+            && r.count == self.asked
+            && self.begun <= JACOBIANS
+            && r.count <= self.cap();
+        self.report(r, adams, right);
     }
-    w.capped
-}
 
-// How many reports were wrong.
-fn wrong(w: Watch, r: Reply) -> usize {
-    if is_right(w, r) {
-        return w.wrong;
+    fn begin_jacobian(&mut self) {
+        self.begun = self.begun.saturating_add(1);
+        self.jacobians = self.jacobians.saturating_add(1);
     }
-    added(w.wrong, 1)
-}
 
-// What was seen with this report, at which the given family is in force.
-pub fn reported(w: Watch, r: Reply, family: u8) -> Watch {
-    let mut v = w;
-    v.reports = added(w.reports, 1);
-    v.wrong = wrong(w, r);
-    v.most = larger(w.most, r.count);
-    v.capped = capped(w, r);
-    v.time = r.time;
-    v.asked = 0;
-    v.begun = 0;
-    v.columns = 0;
-    v.family = family;
-    v
-}
+    // At the time of the last derivative, and at the pose that it asked for but for the first state.
+    fn is_first_column(&self, r: &Reply, y: &[f64]) -> bool
+        requires { max_states ≤ length y.now }
+    {
+        r.time == self.at && y[0] != self.pose[0] && y[1..STATES] == self.pose[1..]
+    }
 
-// What was seen with this request: a derivative, which may be the first of a Jacobian's columns, or a Jacobian.
-pub fn requested(w: Watch, r: Reply, first: bool) -> Watch {
-    let mut v = w;
-    if first || r.number == 101 {
-        v.begun = added(w.begun, 1);
-        v.jacobians = added(w.jacobians, 1);
+    fn cap(&self) -> usize {
+        self.columns
+            .saturating_add(if self.adams { ADAMS } else { BDF })
     }
-    if first {
-        v.columns = added(w.columns, STATES);
+
+    fn report(&mut self, r: &Reply, adams: bool, right: bool) {
+        self.reports = self.reports.saturating_add(1);
+        if !right {
+            self.wrong = self.wrong.saturating_add(1);
+        }
+        if r.count > self.most {
+            self.most = r.count;
+            self.capped = self.cap();
+        }
+        self.time = r.time;
+        self.asked = 0;
+        self.begun = 0;
+        self.columns = 0;
+        self.adams = adams;
     }
-    if r.number == 100 {
-        v.asked = added(w.asked, 1);
-        v.derivatives = added(w.derivatives, 1);
-        v.at = r.time;
-    }
-    v
 }

@@ -1,7 +1,0 @@
--- `first_pose` is safe and ends: each turn keeps the length. Assumes nothing.
-use Rattle.std.proofs.Common.{◌≡◌, ◌≤◌, length}
-use Rattle.rig.proofs.chain.first_pose.Given as goal
-
-abbrev pub invariant-loop-i : goal.invariant-loop-i
-invariant-loop-i l =
-    (l.i ≤ 32) × (length l.y ≡ length l.initial.y)
