@@ -5,7 +5,6 @@
 ghost use Rattle.std.specs.Prelude.{◌≡◌, ◌+◌, ◌-◌, ◌^◌, ◌≤◌, ◌<◌, length};
 ghost use Rattle.common.specs.Layout.{matrix_at};
 ghost use Rattle.common.specs.Ranges.{StepInRange};
-ghost use Rattle.vectors.specs.Tolerance.{List1OrN};
 ghost use Rattle.history.specs.Columns.{correct_columns_of};
 ghost use Rattle.acceptance.specs.Order.{Settled};
 ghost use Rattle.acceptance.specs.Accept.{corrected_of, keep_family_of, test_family_of, accept_of, Closed, closed_of};
@@ -13,7 +12,7 @@ ghost use Rattle.acceptance.specs.Accept.{corrected_of, keep_family_of, test_fam
 mod family;
 mod order;
 
-use common::{Common, Settings};
+use common::{Common, Problem, Settings};
 use family::Change;
 
 // The branch that an accepted step took.
@@ -116,28 +115,19 @@ pub fn accept(s: Settings, c: Common, dsm: f64, work: &mut [f64]) -> Chosen
 
 // acor is scaled by the order that the step used, and the weights are those of the new state, inverted up to the first
 // that is at most 0 (12).
-pub fn close(
-    s: Settings,
-    c: Common,
-    order: usize,
-    rtol: &[f64],
-    atol: &[f64],
-    work: &mut [f64],
-) -> vectors::Weights
-    requires step_in_range { StepInRange s c }
-    requires list1or_n { List1OrN rtol.now (s.n - 1) }
-    requires list1or_n_2 { List1OrN atol.now (s.n - 1) }
-    requires le_order { (1 ≤ order) × (order ≤ 12) × (matrix_at s.n ≤ length work.old) }
+pub fn close(g: &Problem, c: Common, order: usize, work: &mut [f64]) -> vectors::Weights
+    requires step_in_range { StepInRange g.now.settings c }
+    requires le_order { (1 ≤ order) × (order ≤ 12) × (matrix_at g.now.settings.n ≤ length work.old) }
     ensures { ◌≡◌ {A = Closed} (record { weights = result; work = work.new })
-        (closed_of s c order rtol.now atol.now work.old) }
+        (closed_of g.now.settings c order g.now.rtol.now g.now.atol.now work.old) }
 {
-    let n = s.n;
+    let n = g.settings.n;
     let r = 1.0 / coefficients::tesco(c.table, order, 1);
     let a = common::ACOR * n;
     let e = common::Y * n;
     history::scale(&mut work[a..e], r);
     let w = common::EWT * n;
     let we = common::SAVF * n;
-    vectors::ewset(rtol, atol, work, n, w);
+    vectors::ewset(g.rtol, g.atol, work, n, w);
     vectors::invert_weights(&mut work[w..we])
 }

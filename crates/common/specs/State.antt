@@ -3,6 +3,7 @@
 use Rattle.std.specs.Prelude.{List, ℕ, Float}
 use Rattle.common.specs.declared.Settings.{Settings}
 use Rattle.common.specs.declared.Common.{Common}
+use Rattle.common.specs.declared.given.Problem.{Problem}
 
 -- what the start fixes: the settings and the tolerance lists
 pub record Given : Type 0 where
@@ -40,3 +41,7 @@ put_w w x = made x x.c w
 
 abbrev pub moved_to : State → Moved → State
 moved_to x m = made x m.common m.work
+
+-- a problem's values, behind its references
+abbrev pub given_by : Problem → Given
+given_by g = given g.settings g.rtol.now g.atol.now

@@ -10,6 +10,10 @@ ghost use Rattle.common.specs.Limits.{max_states, mxordn_of, mxords_of, msbp_of,
 ghost use Rattle.common.specs.Rules.{first_call_init_of, reset_of, tiny_of, order_in_force_of, el_of};
 ghost use Rattle.common.specs.Initial.{initial_of};
 
+mod given;
+
+pub use given::Problem;
+
 // The largest number of states.
 pub const MAX_STATES: usize = 64;
 
