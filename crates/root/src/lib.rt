@@ -12,6 +12,7 @@ pub struct Answer {
 }
 
 // k factors y, multiplied from the left, each product rounded.
+#[tactic(auto, unfolding(crate::specs::Root::power_of), using(loops::proofs::For::ended))]
 fn power(y: f64, k: usize) -> f64
     ensures { result ≡ power_of k y }
 {
