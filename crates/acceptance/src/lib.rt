@@ -15,6 +15,7 @@ mod order;
 
 use common::{Common, Settings};
 use family::Change;
+use vectors::NotPositive;
 
 // The branch that an accepted step took.
 #[derive(Clone, Copy)]
@@ -123,7 +124,7 @@ pub fn close(
     rtol: &[f64],
     atol: &[f64],
     work: &mut [f64],
-) -> vectors::Weights
+) -> Result<(), NotPositive>
     requires step_in_range { StepInRange s c }
     requires list1or_n { List1OrN rtol.now (s.n - 1) }
     requires list1or_n_2 { List1OrN atol.now (s.n - 1) }
