@@ -1,11 +1,11 @@
 -- An accepted step, as in `stoda`: the columns corrected, the family test where icount is below 0, the order choice
 -- where ialth comes to 0; and the end of a step, where acor is scaled and the weights are those of the new state.
 -- An accepted step passed the method's own error test; how far it lies from the solution is not claimed.
-use Rattle.std.specs.Prelude.{cond, List, ℕ, ◌+◌, ◌-◌, eqb, ltb, Float}
+use Rattle.std.specs.Prelude.{cond, List, Result, ℕ, ◌+◌, ◌-◌, eqb, ltb, Float}
 use Rattle.loops.specs.Part.{put_part}
 use Rattle.numbers.specs.Float.{◌⊘◌, one_f}
 use Rattle.coefficients.specs.Table.{tesco_of}
-use Rattle.vectors.specs.declared.Weights.{Weights}
+use Rattle.vectors.specs.declared.NotPositive.{NotPositive}
 use Rattle.vectors.specs.Weights.{ewset_of, Inversion, invert_of, weights_outcome}
 use Rattle.common.specs.declared.Settings.{Settings}
 use Rattle.common.specs.declared.Common.{Common}
@@ -54,7 +54,7 @@ accept_of s c dsm work = test_family_of s (corrected_of c) dsm (correct_columns_
 -- ---- the end of a step
 
 pub record Closed : Type 0 where
-  pub weights : Weights
+  pub weights : Result Unit NotPositive
   pub work : List Float
 
 abbrev pub closed_with : ℕ → List Float → Inversion → Closed

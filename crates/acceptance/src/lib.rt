@@ -14,6 +14,7 @@ mod order;
 
 use common::{Common, Problem, Settings};
 use family::Change;
+use vectors::NotPositive;
 
 // The branch that an accepted step took.
 #[derive(Clone, Copy)]
@@ -115,7 +116,7 @@ pub fn accept(s: Settings, c: Common, dsm: f64, work: &mut [f64]) -> Chosen
 
 // acor is scaled by the order that the step used, and the weights are those of the new state, inverted up to the first
 // that is at most 0 (12).
-pub fn close(g: &Problem, c: Common, order: usize, work: &mut [f64]) -> vectors::Weights
+pub fn close(g: &Problem, c: Common, order: usize, work: &mut [f64]) -> Result<(), NotPositive>
     requires step_in_range { StepInRange g.now.settings c }
     requires le_order { (1 ≤ order) × (order ≤ 12) × (matrix_at g.now.settings.n ≤ length work.old) }
     ensures { ◌≡◌ {A = Closed} (record { weights = result; work = work.new })

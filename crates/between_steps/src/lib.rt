@@ -159,5 +159,5 @@ pub fn state_weights(n: usize, work: &mut [f64])
     let w = common::EWT * n;
     let we = common::SAVF * n;
     vectors::ewset_scalar_like(work, n, w);
-    vectors::invert_weights(&mut work[w..we]);
+    let _ = vectors::invert_weights(&mut work[w..we]); // none of these weights is refused: each is at least 2^-52
 }

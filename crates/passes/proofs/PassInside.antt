@@ -11,7 +11,7 @@ use Rattle.common.specs.declared.Common.{Common}
 use Rattle.common.specs.Ranges.{Inside, Lent}
 use Rattle.jacobian.specs.Jacobian.{finish_jacobian_of}
 use Rattle.jacobian.proofs.Laws.{length-finished, length-finished-ipiv, finished-below}
-use Rattle.corrector.specs.declared.Correction.{Correction}
+use Rattle.corrector.specs.Iterate.{Correction}
 use Rattle.corrector.specs.Verdict.{judge_of}
 use Rattle.corrector.proofs.Judged.{same-judge}
 use Rattle.corrector.specs.Iterate.{open_of}

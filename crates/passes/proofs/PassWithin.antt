@@ -18,7 +18,7 @@ use Rattle.common.specs.Rules.{icount20}
 use Rattle.common.specs.Ranges.{Accepted, shape_of, Orders}
 use Rattle.jacobian.specs.Jacobian.{finish_jacobian_of}
 use Rattle.jacobian.proofs.Laws.{SameStep}
-use Rattle.corrector.specs.declared.Correction.{Correction}
+use Rattle.corrector.specs.Iterate.{Correction}
 use Rattle.corrector.specs.Verdict.{judge_of}
 use Rattle.corrector.proofs.Judged.{same-judge, judged}
 use Rattle.corrector.specs.Iterate.{open_of}

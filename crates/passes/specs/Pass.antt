@@ -1,10 +1,9 @@
 -- The replies inside a step, and what they lead to: the Jacobian, the iterations, the verdict, the error test,
 -- acceptance, the report. That this is `stoda` of the Rust is not claimed here: refinement has it of the tree in rules.
-use Rattle.std.specs.Prelude.{Bool, true, false, List, ℕ, ◌+◌, ltb, Float}
+use Rattle.std.specs.Prelude.{Bool, true, false, List, ℕ, ◌+◌, ltb, Float, Result, Ok, Err}
 use Rattle.std.specs.Float.Ieee as Ieee
 use Rattle.numbers.specs.Float.{zero_f, one_f}
-use Rattle.vectors.specs.declared.Weights.{Weights}
-use Rattle.vectors.specs.declared.Weights.TheVariants.{Inverted, Refused}
+use Rattle.vectors.specs.declared.NotPositive.{NotPositive}
 use Rattle.common.specs.declared.Settings.{Settings}
 use Rattle.common.specs.declared.Common.{Common}
 use Rattle.common.specs.Layout.{ftem_at, acor_at, y_at, yfd_at}
@@ -58,9 +57,9 @@ reported_of n x =
     })
     (copy_of n (y_at n) 0 x.w) x.p
 
-unfoldable pub closed_at : ℕ → State → Weights → RunState
-closed_at n x (Refused i) = turn_at (weight_refused x.c i) x
-closed_at n x Inverted = reported_of n x
+unfoldable pub closed_at : ℕ → State → Result Unit NotPositive → RunState
+closed_at n x (Err e) = turn_at (weight_refused x.c e.index) x
+closed_at n x (Ok u) = reported_of n x
 
 unfoldable pub end_step_of : Given → State → ℕ → RunState
 end_step_of g x order =

@@ -19,6 +19,7 @@ use between_steps::Status;
 use common::{Common, Settings};
 use corrector::Pass;
 use questions::{At, Phase, Question, Step, Turn};
+use vectors::NotPositive;
 
 // ---- a pass's end
 
@@ -79,14 +80,14 @@ fn end_step(
         ≡ end_step_of (given s rtol.now atol.now) (state c work.old p) order }
 {
     match acceptance::close(s, c, order, rtol, atol, work) {
-        vectors::Weights::Refused(i) => {
+        Ok(()) => report(c, s.n, work),
+        Err(NotPositive { index }) => {
             Turn {
-                question: Question::WeightRefused(i),
+                question: Question::WeightRefused(index),
                 phase: Phase::Finished,
                 common: c,
             }
         }
-        vectors::Weights::Inverted => report(c, s.n, work),
     }
 }
 
@@ -171,7 +172,8 @@ fn iterate(
     let pass = verdict.pass;
     let d = verdict.common;
     match pass {
-        Pass::Converged => error_test(s, d, x.del, rtol, atol, work),
+        // an iteration that is refused does not converge
+        Pass::Converged => error_test(s, d, x.unwrap_or(0.0), rtol, atol, work),
         Pass::Retry => questions::open_pass(d, n, work),
         Pass::NoConvergence => pass_failed(s, d, work),
         Pass::Further => questions::ask_in_step(d, Phase::FurtherDerivative),
@@ -220,12 +222,11 @@ fn matrix_done(
         (state c work.old ipiv.old) }
 {
     let f = jacobian::finish_jacobian(s, c, work, ipiv);
-    let done = f.done;
     let d = f.common;
-    if done {
-        return iterations(s, d, rtol, atol, work, ipiv);
+    match f.outcome {
+        Ok(()) => iterations(s, d, rtol, atol, work, ipiv),
+        Err(_) => pass_failed(s, d, work),
     }
-    pass_failed(s, d, work)
 }
 
 // ---- replies in a pass

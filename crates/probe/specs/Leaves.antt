@@ -5,13 +5,12 @@ use Rattle.std.specs.Prelude.{Float}
 use Rattle.std.specs.Float.{nan}
 use Rattle.loops.specs.For.{for}
 use Rattle.common.specs.Limits.{max_states}
-use Rattle.vectors.specs.declared.Weights.{Weights}
-use Rattle.vectors.specs.declared.Weights.TheVariants.{Inverted, Refused}
+use Rattle.std.specs.Prelude.{Result, Ok, Err}
+use Rattle.vectors.specs.declared.NotPositive.{NotPositive}
 use Rattle.vectors.specs.Norm.{vmnorm_of, fnorm_of}
 use Rattle.vectors.specs.Weights.{ewset_of, ewset_like_of}
 use Rattle.vectors.specs.FirstStep.{initial_step_of}
-use Rattle.dense.specs.declared.Outcome.{Outcome}
-use Rattle.dense.specs.declared.Outcome.TheVariants.{Done, Singular}
+use Rattle.dense.specs.declared.Singular.{Singular}
 use Rattle.dense.specs.Factor.{factor_of}
 use Rattle.dense.specs.Solve.{solve_of, outcome_of}
 
@@ -65,9 +64,9 @@ ewset_like_left n at work =
     cond (is_behind n at (length work)) (work_left 0 (ewset_like_of n at work)) (work_left 2 work)
 
 -- the index refused, or the number of weights
-abbrev pub index_of : ℕ → Weights → ℕ
-index_of count Inverted = count
-index_of count (Refused i) = i
+abbrev pub index_of : ℕ → Result Unit NotPositive → ℕ
+index_of count (Ok u) = count
+index_of count (Err e) = e.index
 
 unfoldable pub initial_step_or_nan : Float → Float → List Float → List Float → List Float → List Float → List Float
     → Float
@@ -77,9 +76,9 @@ initial_step_or_nan t tout y f0 w rtol atol =
     (initial_step_of t tout y f0 w rtol atol)
     nan
 
-abbrev pub outcome_number : Outcome → ℕ
-outcome_number Done = 0
-outcome_number Singular = 1
+abbrev pub outcome_number : Result Unit Singular → ℕ
+outcome_number (Ok u) = 0
+outcome_number (Err e) = 1
 
 -- the number returned, the matrix and the pivots
 pub record FactorsLeft : Type 0 where

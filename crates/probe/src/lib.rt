@@ -17,8 +17,8 @@ ghost use Rattle.probe.specs.Leaves.{initial_step_or_nan, FactorsLeft, factor_le
 
 pub mod steps;
 
-use dense::Outcome;
-use vectors::Weights;
+use dense::Singular;
+use vectors::NotPositive;
 
 pub fn probe_abs(x: f64) -> f64
     ensures { result ≡ abs_of x }
@@ -285,8 +285,8 @@ pub fn probe_invert_weights(ewt: &mut [f64]) -> usize
 {
     let n = ewt.len();
     match vectors::invert_weights(ewt) {
-        Weights::Inverted => n,
-        Weights::Refused(i) => i,
+        Ok(()) => n,
+        Err(NotPositive { index }) => index,
     }
 }
 
@@ -323,8 +323,8 @@ pub fn probe_dense_lu_factor(a: &mut [f64], n: usize, ipiv: &mut [usize]) -> usi
         return 2;
     }
     match dense::dense_lu_factor(a, n, ipiv) {
-        Outcome::Done => 0,
-        Outcome::Singular => 1,
+        Ok(()) => 0,
+        Err(Singular) => 1,
     }
 }
 
@@ -340,7 +340,7 @@ pub fn probe_dense_lu_solve(work: &mut [f64], n: usize, a: usize, ipiv: &[usize]
         return 2;
     }
     match dense::dense_lu_solve(work, n, a, ipiv, b) {
-        Outcome::Done => 0,
-        Outcome::Singular => 1,
+        Ok(()) => 0,
+        Err(Singular) => 1,
     }
 }

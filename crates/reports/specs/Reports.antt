@@ -1,10 +1,9 @@
 -- The start and the reports, as in `solve`: the first weights and the first step, and what the host's answer to a
 -- report does. What an answer is to a host is not here: see answers.
-use Rattle.std.specs.Prelude.{Bool, true, false, List, Float}
+use Rattle.std.specs.Prelude.{Bool, true, false, List, Float, Result, Ok, Err}
 use Rattle.numbers.specs.Float.{◌⊕◌}
 use Rattle.numbers.specs.Sign.{refused}
-use Rattle.vectors.specs.declared.Weights.{Weights}
-use Rattle.vectors.specs.declared.Weights.TheVariants.{Inverted, Refused}
+use Rattle.vectors.specs.declared.NotPositive.{NotPositive}
 use Rattle.vectors.specs.Weights.{ewset_of, ewset_like_of, invert_of, weights_outcome}
 use Rattle.common.specs.declared.Settings.{Settings}
 use Rattle.common.specs.Layout.{ewt_at, y_at, ewt}
@@ -39,9 +38,9 @@ unfoldable pub sized_of : Settings → State → Float → RunState
 sized_of s x h = sized_at s x h (refused h s.direction)
 
 -- 12: a weight at most 0
-unfoldable pub weighted_at : Given → State → Weights → RunState
-weighted_at g x (Refused i) = turn_at (weight_refused x.c i) x
-weighted_at g x Inverted = sized_of g.s x (first_step_of g.s x.c g.rtol g.atol x.w)
+unfoldable pub weighted_at : Given → State → Result Unit NotPositive → RunState
+weighted_at g x (Err e) = turn_at (weight_refused x.c e.index) x
+weighted_at g x (Ok u) = sized_of g.s x (first_step_of g.s x.c g.rtol g.atol x.w)
 
 -- the derivative at the start
 unfoldable pub first_derivative_of : Given → State → List Float → RunState

@@ -14,6 +14,7 @@ ghost use Rattle.reports.specs.Reports.{after_report_of, modified_of};
 use between_steps::{Answer, Status};
 use common::{Common, Settings};
 use questions::{At, Phase, Question, Turn};
+use vectors::NotPositive;
 
 // The first step is known: refused (11), or the first report.
 fn sized(s: Settings, c: Common, h: f64, work: &mut [f64]) -> Turn
@@ -92,14 +93,14 @@ pub fn first_derivative(
     let we = common::SAVF * n;
     vectors::ewset(rtol, atol, work, n, w);
     match vectors::invert_weights(&mut work[w..we]) {
-        vectors::Weights::Refused(k) => {
+        Ok(()) => weighted(s, c, rtol, atol, work),
+        Err(NotPositive { index }) => {
             Turn {
-                question: Question::WeightRefused(k),
+                question: Question::WeightRefused(index),
                 phase: Phase::Finished,
                 common: c,
             }
         }
-        vectors::Weights::Inverted => weighted(s, c, rtol, atol, work),
     }
 }
 

@@ -3,14 +3,14 @@
 use Rattle.passes.specs.Pass.{end_step_of, closed_at}
 use Rattle.passes.proofs.end_step.Goals as goal
 
-pub returns-in-Refused : goal.returns-in-Refused
+pub returns-in-Err : goal.returns-in-Err
 unfolding end_step_of closed_at
-returns-in-Refused c p = rw (← c.close.ensures, c.in-Refused.is)
+returns-in-Err c p = rw (← c.close.ensures, c.in-Err.is)
 
-pub returns-in-Inverted : goal.returns-in-Inverted
+pub returns-in-Ok : goal.returns-in-Ok
 unfolding end_step_of closed_at
-returns-in-Inverted c p =
+returns-in-Ok c p =
     rw (
       ← c.close.ensures,
-      c.in-Inverted.is,
+      c.in-Ok.is,
     ) (c.report.ensures p)

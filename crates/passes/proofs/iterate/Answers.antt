@@ -66,6 +66,7 @@ returns-in-Converged c =
       ← c.norm_at-pnorm.ensures,
       ← c.judge-verdict.ensures,
       c.in-Converged.is,
+      ← c.unwrap_or.ensures,
     )
     (c.error_test.ensures _)
 

@@ -15,11 +15,11 @@ iterations-requires c =
     let lent = rw (← c.finish_jacobian-f.ensures) at (lent-factored x.s x.c x.work.now x.ipiv.now l) in
     record { inside = inside; list1or_n = p.list1or_n; list1or_n_2 = p.list1or_n_2; lent = lent }
 
-pub returns-then-done : goal.returns-then-done
+pub returns-in-Ok : goal.returns-in-Ok
 unfolding matrix_done_of matrix_done_at
-returns-then-done c =
+returns-in-Ok c =
     let f = c.finish_jacobian-f in
-    rw (← f.ensures, c.if-done.true)
+    rw (← f.ensures, c.in-Ok.is)
     c.iterations.ensures
 
 pub pass_failed-requires : goal.pass_failed-requires
@@ -32,9 +32,9 @@ pass_failed-requires c =
     (lent-factored x.s x.c x.work.now x.ipiv.now p.lent) in
     record { inside = inside; n_in_bounds = omega (arith, lent.sized) }
 
-pub returns : goal.returns
+pub returns-in-Err : goal.returns-in-Err
 unfolding matrix_done_of matrix_done_at
-returns c =
+returns-in-Err c =
     let f = c.finish_jacobian-f in
-    rw (← f.ensures, c.if-done.false)
+    rw (← f.ensures, c.in-Err.is)
     (c.pass_failed.ensures _)

@@ -13,28 +13,28 @@ pub dense_lu_factor-requires : goal.dense_lu_factor-requires
 dense_lu_factor-requires c =
     matrix-fits _ _ _ (sym c.is_matrix.ensures ∙ c.if-not-is_matrix.false)
 
-pub returns-in-Done : goal.returns-in-Done
+pub returns-in-Ok : goal.returns-in-Ok
 unfolding factor_left
-returns-in-Done c =
+returns-in-Ok c =
     let e = c.dense_lu_factor.ensures in
     rw (
       ← c.is_matrix.ensures,
       c.if-not-is_matrix.false,
       ← e.2,
-      c.in-Done.is,
+      c.in-Ok.is,
       e.0,
       e.1,
     )
 
-pub returns-in-Singular : goal.returns-in-Singular
+pub returns-in-Err : goal.returns-in-Err
 unfolding factor_left
-returns-in-Singular c =
+returns-in-Err c =
     let e = c.dense_lu_factor.ensures in
     rw (
       ← c.is_matrix.ensures,
       c.if-not-is_matrix.false,
       ← e.2,
-      c.in-Singular.is,
+      c.in-Err.is,
       e.0,
       e.1,
     )

@@ -6,14 +6,15 @@ use mathlib.Core.Bool.{true}
 use mathlib.Core.List.{List}
 use lib.ListN.{length}
 use lib.Ieee.{Float}
-use Rattle.dense.specs.declared.Outcome.{Outcome}
+use Rattle.std.specs.Prelude.{Result}
+use Rattle.dense.specs.declared.Singular.{Singular}
 use Rattle.dense.specs.Solve.{solve_of, outcome_of}
 use Rattle.probe.specs.Leaves.{is_system, are_pivots, work_left, outcome_number, solve_left}
 use Rattle.probe.proofs.Sizes.{system-fits}
 use Rattle.probe.proofs.probe_dense_lu_solve.Goals as goal
 
 -- under both tests, what is left where the solving gives the outcome r
-solved : (n a : ℕ) (ipiv : List ℕ) (b : ℕ) (work : List Float) {r : Outcome}
+solved : (n a : ℕ) (ipiv : List ℕ) (b : ℕ) (work : List Float) {r : Result Unit Singular}
     → is_system n a b (length work) (length ipiv) ≡ true → are_pivots n ipiv ≡ true
     → r ≡ outcome_of (solve_of n a ipiv b work).ok
     → solve_left n a ipiv b work ≡ work_left (outcome_number r) (solve_of n a ipiv b work).work
@@ -42,24 +43,24 @@ dense_lu_solve-requires c =
     let fits = system-fits _ _ _ _ _ (sym c.is_system.ensures ∙ c.if-not-is_system.false) in
     record { n_bound = fits; by_index = c.are_pivots.ensures.1 (c.if-not-are_pivots.false) }
 
-pub returns-in-Done : goal.returns-in-Done
-returns-in-Done c =
+pub returns-in-Ok : goal.returns-in-Ok
+returns-in-Ok c =
     let a = c.args in
     let fits = sym c.is_system.ensures ∙ c.if-not-is_system.false in
     let below = sym c.are_pivots.ensures.0 ∙ c.if-not-are_pivots.false in
     rw (
       solved a.n a.a a.ipiv.now a.b a.work.now fits below c.dense_lu_solve.ensures.1,
-      c.in-Done.is,
+      c.in-Ok.is,
       c.dense_lu_solve.ensures.0,
     )
 
-pub returns-in-Singular : goal.returns-in-Singular
-returns-in-Singular c =
+pub returns-in-Err : goal.returns-in-Err
+returns-in-Err c =
     let a = c.args in
     let fits = sym c.is_system.ensures ∙ c.if-not-is_system.false in
     let below = sym c.are_pivots.ensures.0 ∙ c.if-not-are_pivots.false in
     rw (
       solved a.n a.a a.ipiv.now a.b a.work.now fits below c.dense_lu_solve.ensures.1,
-      c.in-Singular.is,
+      c.in-Err.is,
       c.dense_lu_solve.ensures.0,
     )

@@ -2,12 +2,12 @@
 -- Assumes nothing.
 use Rattle.probe.proofs.probe_invert_weights.Goals as goal
 
-pub returns-in-Inverted : goal.returns-in-Inverted
-returns-in-Inverted c =
+pub returns-in-Ok : goal.returns-in-Ok
+returns-in-Ok c =
     let e = c.invert_weights.ensures in
-    (e.0, rw (← e.1, c.in-Inverted.is))
+    (e.0, rw (← e.1, c.in-Ok.is))
 
-pub returns-in-Refused : goal.returns-in-Refused
-returns-in-Refused c =
+pub returns-in-Err : goal.returns-in-Err
+returns-in-Err c =
     let e = c.invert_weights.ensures in
-    (e.0, rw (← e.1, c.in-Refused.is))
+    (e.0, rw (← e.1, c.in-Err.is))

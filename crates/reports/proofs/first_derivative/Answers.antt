@@ -17,17 +17,17 @@ weighted-requires c =
     let p = c.requires in
     record { le_n = p.le_n; list1or_n = p.list1or_n; list1or_n_2 = p.list1or_n_2; n_in_bounds = omega arith }
 
-pub returns-in-Refused : goal.returns-in-Refused
+pub returns-in-Err : goal.returns-in-Err
 unfolding first_derivative_of weighted_at
-returns-in-Refused c p =
+returns-in-Err c p =
     let n = c.args.s.n in
     let weights : savf_at n - ewt_at n ≡ n = omega arith in
     let w = rw weights at c.invert_weights.ensures in
-    rw (weights, ← c.take_first.ensures, ← c.ewset.ensures, ← w.0, ← w.1, c.in-Refused.is)
+    rw (weights, ← c.take_first.ensures, ← c.ewset.ensures, ← w.0, ← w.1, c.in-Err.is)
 
-pub returns-in-Inverted : goal.returns-in-Inverted
+pub returns-in-Ok : goal.returns-in-Ok
 unfolding first_derivative_of weighted_at
-returns-in-Inverted c p =
+returns-in-Ok c p =
     let n = c.args.s.n in
     let weights : savf_at n - ewt_at n ≡ n = omega arith in
     let w = rw weights at c.invert_weights.ensures in
@@ -37,5 +37,5 @@ returns-in-Inverted c p =
       ← c.ewset.ensures,
       ← w.0,
       ← w.1,
-      c.in-Inverted.is,
+      c.in-Ok.is,
     ) g
