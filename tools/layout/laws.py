@@ -268,65 +268,6 @@ record-between x f r =
 """
 
 
-# ---- proofs/fields/counts/Answers.antt and proofs/fields/common/Answers.antt
-
-
-def answers(function, header, uses, goals, returns):
-    bodies = "\n".join(f"pub {goal} : goal.{goal}\n{goal} c = search rules\n" for goal in goals)
-    return f"""-- `{function}` meets its contract: {header}
--- Made by tools/record.py. Assumes nothing.
-{uses}use borrow.Author.Rules.{{rules}}
-use Rattle.session.proofs.fields.{function}.Goals as goal
-
-{bodies}
-pub returns : goal.returns
-returns c =
-{returns}"""
-
-
-def counts_answers():
-    """Each number of a state is a call, which a goal and a name of its result number from the second on."""
-    calls, goals = [], []
-    for f in COUNTS:
-        if f.kind == "usize":
-            continue
-        name = {"Phase": "phase_number", "MethodFamily": "family_number", "bool": "flag_number"}[f.kind]
-        k = sum(call.split("-")[0] == name for call in calls) + 1
-        calls.append(name + (f"-{k}" if k > 1 else ""))
-        goals.append(f"{name}-requires" + (f"-{k}" if k > 1 else ""))
-    binds = lines((f"let c{k} = c{k - 1 or ''} in" for k in range(1, len(calls))), "    ")
-    facts = lines((f"c{k or ''}.{call}.ensures," for k, call in enumerate(reversed(calls))), "      ")
-    return answers("counts", "each word is its field, a state by its number.", "", goals,
-                   f"{binds}    rw (\n{facts}    )\n")
-
-
-def common_answers():
-    """Each word that is read leaves a goal by its place."""
-    word = BY_NAME["meth"].word
-    places = sorted(f.word for f in RECORD if not f.is_float and f.name != "meth")
-    goals = ["floats_alone-c-requires", f"bounds-u-{word}", "family-requires", *(f"bounds-u-{k}" for k in places)]
-    steps, name = "", "c"
-    for left in [*range(len(places) - 12, 0, -12), 0]:
-        steps += f"    let c{left} = {name} in\n"
-        name = f"c{left}"
-    returns = f"""\
-{steps}    let b = c0.floats_alone-c in
-    let u = c0.args.u.now in
-    ap (λ (m : MethodFamily). with_counts m u b.result) c0.family.ensures
-    ∙ ap (with_counts (family_of (get_or u {word} 0)) u) b.ensures
-"""
-    uses = """\
-use mathlib.Core.Path.{ap, ◌∙◌}
-use lib.ListN.{get_or}
-use Rattle.common.specs.declared.MethodFamily.{MethodFamily}
-use Rattle.session.specs.States.{family_of}
-use Rattle.session.specs.Fields.{with_counts}
-"""
-    return answers("common", "the family and the counts over the record of the floats.", uses, goals, returns)
-
-
 def make(put):
     put(f"{SESSION}/proofs/Fits.antt", fits())
     put(f"{SESSION}/proofs/Listed.antt", laws())
-    put(f"{SESSION}/proofs/fields/counts/Answers.antt", counts_answers())
-    put(f"{SESSION}/proofs/fields/common/Answers.antt", common_answers())

@@ -7,7 +7,7 @@ COUNT_ARRAY = "[usize; common::COUNT_WORDS]"
 FLOAT_ARRAY = "[f64; common::FLOAT_WORDS]"
 # A field of Common from its word, in code and in the definitions; and the number of a field.
 STATE = {"bool": "{} == 1", "MethodFamily": "family({})", "usize": "{}", "f64": "{}"}
-NUMBER = {"bool": "flag_number({})", "MethodFamily": "family_number({})", "usize": "{}", "f64": "{}"}
+NUMBER = {"bool": "usize::from({})", "MethodFamily": "family_number({})", "usize": "{}", "f64": "{}"}
 STATE_OF = {"bool": "flag_of ({})", "MethodFamily": "family_of ({})", "usize": "{}", "f64": "{}"}
 NUMBER_OF = {"bool": "flag_number {}", "MethodFamily": "family_number {}", "Phase": "phase_number {}", "usize": "{}",
              "f64": "{}"}
@@ -41,8 +41,8 @@ def accessor(name):
 
 def source():
     one = lambda parts: lines((f"{p}," for p in parts), "        ")
-    number = lambda f: NUMBER[f.kind].format("meth" if f.name == "meth" else f.code)
-    numbers = ["phase_number(phase)"] + [number(f) for f in COUNTS[1:]]
+    number = lambda f: NUMBER[f.kind].format(f.code)
+    numbers = ["x.phase as usize"] + [number(f) for f in COUNTS[1:]]
     record = sorted(RECORD, key=lambda f: not f.is_float)
     return f"""// A session's fields as words and back, and the ranges of 13 that one word says.
 // {FROM}
@@ -50,7 +50,7 @@ ghost use Rattle.std.specs.Prelude.{{◌≡◌}};
 ghost use Rattle.session.specs.Fields.{{counts_of, floats_of, settings_of, floats_alone_of, common_of, session_of}};
 ghost use Rattle.session.specs.Fields.{{lowest, highest}};
 
-use crate::states::{{family, family_number, flag_number, phase_number}};
+use crate::states::{{family, family_number, phase}};
 use common::{{Common, MethodFamily, Settings}};
 use questions::Session;
 
@@ -67,8 +67,6 @@ pub fn counts(x: Session) -> {COUNT_ARRAY}
 {{
     let s = x.settings;
     let c = x.common;
-    let phase = x.phase;
-    let meth = c.meth;
     [
 {one(numbers)}    ]
 }}
@@ -101,20 +99,18 @@ fn floats_alone(f: &{FLOAT_ARRAY}) -> Common
 fn common(u: &{COUNT_ARRAY}, f: &{FLOAT_ARRAY}) -> Common
     ensures {{ result ≡ common_of u.now f.now }}
 {{
-    let c = floats_alone(f);
     Common {{
-{one(f"{f.name}: " + (f.code if f.is_float else STATE[f.kind].format(place(f))) for f in record)}    }}
+{one(f"{f.name}: " + STATE[f.kind].format(place(f)) for f in record if not f.is_float)}        ..floats_alone(f)
+    }}
 }}
 
 pub fn session(u: &{COUNT_ARRAY}, f: &{FLOAT_ARRAY}) -> Session
     ensures {{ result ≡ session_of u.now f.now }}
 {{
-    let s = settings(u, f);
-    let c = common(u, f);
     Session {{
-        settings: s,
-        common: c,
-        phase: crate::states::phase(u[0]),
+        settings: settings(u, f),
+        common: common(u, f),
+        phase: phase(u[0]),
     }}
 }}
 """

@@ -4,7 +4,7 @@ ghost use Rattle.std.specs.Prelude.{◌≡◌};
 ghost use Rattle.session.specs.Fields.{counts_of, floats_of, settings_of, floats_alone_of, common_of, session_of};
 ghost use Rattle.session.specs.Fields.{lowest, highest};
 
-use crate::states::{family, family_number, flag_number, phase_number};
+use crate::states::{family, family_number, phase};
 use common::{Common, MethodFamily, Settings};
 use questions::Session;
 
@@ -103,10 +103,8 @@ pub fn counts(x: Session) -> [usize; common::COUNT_WORDS]
 {
     let s = x.settings;
     let c = x.common;
-    let phase = x.phase;
-    let meth = c.meth;
     [
-        phase_number(phase),
+        x.phase as usize,
         s.n,
         s.maxsteps,
         s.mxordn,
@@ -114,11 +112,11 @@ pub fn counts(x: Session) -> [usize; common::COUNT_WORDS]
         s.maxcor,
         s.msbp,
         s.mxncf,
-        flag_number(s.supplied),
-        flag_number(s.given),
+        usize::from(s.supplied),
+        usize::from(s.given),
         s.nrtol,
         s.natol,
-        family_number(meth),
+        family_number(c.meth),
         c.nq,
         c.lmax,
         c.nqnyh,
@@ -137,9 +135,9 @@ pub fn counts(x: Session) -> [usize; common::COUNT_WORDS]
         c.ncf,
         c.m,
         c.column,
-        flag_number(c.due),
-        flag_number(c.jcur),
-        flag_number(c.setup),
+        usize::from(c.due),
+        usize::from(c.jcur),
+        usize::from(c.setup),
     ]
 }
 
@@ -242,25 +240,7 @@ fn floats_alone(f: &[f64; common::FLOAT_WORDS]) -> Common
 fn common(u: &[usize; common::COUNT_WORDS], f: &[f64; common::FLOAT_WORDS]) -> Common
     ensures { result ≡ common_of u.now f.now }
 {
-    let c = floats_alone(f);
     Common {
-        hmin: c.hmin,
-        hmxi: c.hmxi,
-        tn: c.tn,
-        h: c.h,
-        hu: c.hu,
-        told: c.told,
-        rc: c.rc,
-        el0: c.el0,
-        conit: c.conit,
-        rmax: c.rmax,
-        pdest: c.pdest,
-        pdlast: c.pdlast,
-        pdnorm: c.pdnorm,
-        convrate: c.convrate,
-        pnorm: c.pnorm,
-        rate: c.rate,
-        delp: c.delp,
         meth: family(u[12]),
         nq: u[13],
         lmax: u[14],
@@ -283,17 +263,16 @@ fn common(u: &[usize; common::COUNT_WORDS], f: &[f64; common::FLOAT_WORDS]) -> C
         due: u[31] == 1,
         jcur: u[32] == 1,
         setup: u[33] == 1,
+        ..floats_alone(f)
     }
 }
 
 pub fn session(u: &[usize; common::COUNT_WORDS], f: &[f64; common::FLOAT_WORDS]) -> Session
     ensures { result ≡ session_of u.now f.now }
 {
-    let s = settings(u, f);
-    let c = common(u, f);
     Session {
-        settings: s,
-        common: c,
-        phase: crate::states::phase(u[0]),
+        settings: settings(u, f),
+        common: common(u, f),
+        phase: phase(u[0]),
     }
 }

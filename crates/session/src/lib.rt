@@ -104,5 +104,7 @@ pub fn in_range(u: &[usize; common::COUNT_WORDS], x: Session, bytes: &[u8], ipiv
     ensures { result ≡ in_range_of bytes.now ipiv.now }
 {
     let s = x.settings;
-    ranges::fields(u, s, x.common) && ranges::tolerances(bytes, s) && ranges::pivots_below(ipiv, s.n)
+    ranges::fields(u, s, x.common)
+        && ranges::tolerances(bytes, s)
+        && ranges::pivots_below(ipiv, s.n)
 }

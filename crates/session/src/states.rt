@@ -1,18 +1,9 @@
-// The numbers that stand for a flag, a family and a phase.
+// The numbers that stand for a family and a phase; a phase's is its place in the enum.
 ghost use Rattle.std.specs.Prelude.{◌≡◌};
-ghost use Rattle.session.specs.States.{flag_number, family_number, family_of, phase_number, phase_of};
+ghost use Rattle.session.specs.States.{family_number, family_of, phase_of};
 
 use common::MethodFamily;
 use questions::Phase;
-
-pub fn flag_number(flag: bool) -> usize
-    ensures { result ≡ flag_number flag }
-{
-    if flag {
-        return 1;
-    }
-    0
-}
 
 pub fn family_number(meth: MethodFamily) -> usize
     ensures { result ≡ family_number meth }
@@ -23,34 +14,18 @@ pub fn family_number(meth: MethodFamily) -> usize
     }
 }
 
+#[tactic(auto, unfolding(crate::specs::States::family_of))]
 pub fn family(w: usize) -> MethodFamily
     ensures { result ≡ family_of w }
 {
-    if w == 1 {
-        return MethodFamily::Adams;
-    }
-    MethodFamily::Bdf
-}
-
-pub fn phase_number(phase: Phase) -> usize
-    ensures { result ≡ phase_number phase }
-{
-    match phase {
-        Phase::FirstDerivative => 0,
-        Phase::FirstReport => 1,
-        Phase::FirstModified => 2,
-        Phase::Opened => 3,
-        Phase::JacobianAsked => 4,
-        Phase::DifferenceColumn => 5,
-        Phase::FurtherDerivative => 6,
-        Phase::Restep => 7,
-        Phase::Report => 8,
-        Phase::Modified => 9,
-        Phase::Finished => 10,
+    match w {
+        1 => MethodFamily::Adams,
+        _ => MethodFamily::Bdf,
     }
 }
 
 // An unknown number, which 13 refuses, is read as the last.
+#[tactic(auto, unfolding(crate::specs::States::phase_of))]
 pub fn phase(w: usize) -> Phase
     ensures { result ≡ phase_of w }
 {

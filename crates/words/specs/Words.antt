@@ -47,8 +47,11 @@ counts_over bytes at k list = row_over (λ w. w) bytes at k list
 abbrev pub counts_in : List ℕ → ℕ → ℕ → List ℕ
 counts_in bytes at k = counts_over bytes at k (replicate k 0)
 
+abbrev pub put_count_at : ℕ → List ℕ → ℕ → List ℕ → List ℕ
+put_count_at at list i bytes = put_word bytes (8 * (at + i)) (get_or list i 0)
+
 unfoldable pub put_counts_of : ℕ → List ℕ → List ℕ → List ℕ
-put_counts_of at list bytes = put_row_of at (length list) list bytes
+put_counts_of at list bytes = for 0 (length list) (put_count_at at list) bytes
 
 -- ---- floats
 
