@@ -10,7 +10,7 @@ use between_steps::Status;
 use questions::Question;
 use refusals::Refusal;
 
-// Fields that a case has no use for are 0.
+// Fields that a case has no use for are 0. C reads it, so each case is a number, and no enum.
 #[repr(C)]
 #[derive(Clone, Copy)]
 pub struct Reply {

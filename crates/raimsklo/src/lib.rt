@@ -1,6 +1,7 @@
 // What the host calls; crates/raimsklo_c exports it by C's rules. Nothing is asked of the host: each function answers
 // at every argument, and its contract is one equation for the answer and for the whole contents of every lent slice,
-// refused calls included.
+// refused calls included. The four lent slices stay apart, as C lends each by itself: a struct of them would have to name
+// a ghost for each in every clause.
 #![tactic(auto)]
 
 ghost use Rattle.std.specs.Prelude.{◌≡◌, true, ℕ, length};
@@ -62,9 +63,10 @@ pub fn raimsklo_work_length(n: usize) -> usize
     ensures { result ≡ work_length_for n }
 {
     if n > common::MAX_STATES {
-        return 0;
+        0
+    } else {
+        n * n + common::MATRIX * n
     }
-    n * n + common::MATRIX * n
 }
 
 // How many numbers the question of n states has; 0 where n is above the largest number of states.
@@ -73,9 +75,10 @@ pub fn raimsklo_question_length(n: usize) -> usize
     ensures { result ≡ question_length_for n }
 {
     if n > common::MAX_STATES {
-        return 0;
+        0
+    } else {
+        common::QUESTION * n + common::HEADER
     }
-    common::QUESTION * n + common::HEADER
 }
 
 // How many bytes a session has.

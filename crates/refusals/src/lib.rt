@@ -13,6 +13,7 @@ ghost use Rattle.refusals.specs.Refusal.{entry_of};
 use common::Settings;
 
 // What the host chooses, beside the problem. The names are those of the Rust's `LSODA`.
+// C lends it, so a choice that may be left out is a flag beside a number, and no `Option`.
 #[repr(C)]
 #[derive(Clone, Copy)]
 pub struct Options {
