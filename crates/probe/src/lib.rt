@@ -4,7 +4,7 @@
 // the history and the record are in steps.rt.
 #![tactic(auto)]
 
-ghost use Rattle.std.specs.Prelude.{◌≡◌, true, ℕ, ◌≤◌, ◌<◌, length, get_or};
+ghost use Rattle.std.specs.Prelude.{◌≡◌, ◌≤◌, length};
 ghost use Rattle.std.specs.Float.Ieee as Ieee;
 ghost use Rattle.std.specs.Float.{binary64};
 ghost use Rattle.numbers.specs.Sign.{abs_of, signum_of, copysign_of, refused};
