@@ -1,7 +1,7 @@
 """What is made in the probe: the record from the numbers that are lent; fields that these leave out are blank."""
 from .table import *
 
-STATE = {"bool": "{} == 1", "MethodFamily": "meth", "usize": "{}", "f64": "{}"}
+STATE = {"bool": "{} == 1", "MethodFamily": "family({})", "usize": "{}", "f64": "{}"}
 STATE_OF = {"bool": "eqb ({}) 1", "MethodFamily": "lent_family ({})", "usize": "{}", "f64": "{}"}
 
 
@@ -21,12 +21,13 @@ def in_order(fields):
     return sorted(fields, key=lambda f: (not f.is_float, f.kind != "MethodFamily"))
 
 
-def function(name, record, fields, first=""):
-    return f"""fn {name}(floats: &[f64], counts: &[usize]) -> {record}
+def function(name, record, fields):
+    return f"""#[tactic(auto, unfolding(crate::specs::Lent::lent_{name}))]
+fn {name}(floats: &[f64], counts: &[usize]) -> {record}
     requires {{ (length floats.now ≡ {len(PROBED_FLOATS)}) × (length counts.now ≡ {len(PROBED_COUNTS)}) }}
     ensures {{ result ≡ lent_{name} floats.now counts.now }}
 {{
-{first}    {record} {{
+    {record} {{
 {lines((f"{f.name}: {lent(f, 0)}," for f in fields), "        ")}    }}
 }}
 """
@@ -40,9 +41,8 @@ lent_{name} fs cs = {record_of((f.name, lent(f, 1)) for f in fields)}
 
 
 def make(put):
-    family = f"    let meth = family(counts[{PROBED_COUNTS.index('meth')}]);\n"
     common = in_order(COMMON_FIELDS)
     put(f"{PROBE}/src/steps.rt", function("settings", "Settings", SETTINGS_FIELDS) + "\n"
-        + function("common", "Common", common, family), "the record from the numbers that are lent")
+        + function("common", "Common", common), "the record from the numbers that are lent")
     put(f"{PROBE}/specs/Lent.antt", definition("settings", "Settings", SETTINGS_FIELDS)
         + definition("common", "Common", common), "the record from the numbers that are lent")

@@ -1,3 +1,4 @@
 mod Order
+mod Pivots
 mod Sizes
 pub mod Usable

@@ -1,9 +1,8 @@
 -- The norms, weights, first step, factoring and solving at every argument: what they give where the sizes serve, and
 -- otherwise a NaN, or the number 2 and everything as it was. Matrices have at most 64 columns.
-use Rattle.std.specs.Prelude.{Bool, true, cond, ◌&&◌, ◌||◌, List, ℕ, ◌+◌, ◌-◌, ◌*◌, eqb, leb, ltb, length, get_or}
-use Rattle.std.specs.Prelude.{Float}
+use Rattle.std.specs.Prelude.{Bool, cond, ◌&&◌, ◌||◌, List, ℕ, ◌+◌, ◌-◌, ◌*◌, eqb, leb, ltb, length, take, Float}
+use Rattle.std.specs.List.{list_all}
 use Rattle.std.specs.Float.{nan}
-use Rattle.loops.specs.For.{for}
 use Rattle.common.specs.Limits.{max_states}
 use Rattle.std.specs.Prelude.{Result, Ok, Err}
 use Rattle.vectors.specs.declared.NotPositive.{NotPositive}
@@ -33,12 +32,9 @@ is_weighed n rtol atol at len = is_tolerance_list n rtol && (is_tolerance_list n
 unfoldable pub is_system : ℕ → ℕ → ℕ → ℕ → ℕ → Bool
 is_system n a b len pivots = leb a len && (is_matrix n (len - a) pivots && leb (b + n) a)
 
-abbrev pub pivot_at : ℕ → List ℕ → ℕ → Bool → Bool
-pivot_at n ipiv k ok = ok && ltb (get_or ipiv k 0) n
-
 -- each of the first n pivots is below n
 unfoldable pub are_pivots : ℕ → List ℕ → Bool
-are_pivots n ipiv = for 0 n (pivot_at n ipiv) true
+are_pivots n ipiv = list_all (λ p. ltb p n) (take n ipiv)
 
 -- the number returned, and the numbers lent
 pub record WorkLeft : Type 0 where

@@ -1,9 +1,10 @@
 // For comparisons with the reference alone: the functions that a host cannot reach otherwise. crates/probe_c exports
 // them by C's rules. Nothing is asked of the host: where a callee's requires is not met, a NaN or the number 2 is
-// answered, and what was lent stays as it was. The functions on the history and the record are in steps.rt.
+// answered, and what was lent stays as it was. Answers are numbers and not enums, since C reads them. The functions on
+// the history and the record are in steps.rt.
 #![tactic(auto)]
 
-ghost use Rattle.std.specs.Prelude.{◌≡◌, true, ℕ, ◌≤◌, ◌<◌, length, get_or};
+ghost use Rattle.std.specs.Prelude.{◌≡◌, ◌≤◌, length};
 ghost use Rattle.std.specs.Float.Ieee as Ieee;
 ghost use Rattle.std.specs.Float.{binary64};
 ghost use Rattle.numbers.specs.Sign.{abs_of, signum_of, copysign_of, refused};
@@ -81,201 +82,166 @@ pub fn probe_sqrt(x: f64) -> f64
 }
 
 // Whether there is such an order, where the last is given.
+#[tactic(auto, unfolding(crate::specs::Probe::is_order))]
 fn is_order(order: usize, last: usize) -> bool
     ensures { result ≡ is_order order last }
 {
-    if order < 1 {
-        return false;
-    }
-    order <= last
+    (1..=last).contains(&order)
 }
 
 // Coefficient i of an order in a table: 0 none yet, 1 Adams, 2 BDF.
+#[tactic(auto, unfolding(crate::specs::Probe::elco_or_nan))]
 pub fn probe_elco(table: usize, order: usize, i: usize) -> f64
     ensures { result ≡ elco_or_nan table order i }
 {
-    if 2 < table {
-        return numbers::not_a_number();
+    if table <= 2 && i <= 12 && is_order(order, 12) {
+        coefficients::elco(table, order, i)
+    } else {
+        numbers::not_a_number()
     }
-    if 12 < i {
-        return numbers::not_a_number();
-    }
-    if is_order(order, 12) {
-        return coefficients::elco(table, order, i);
-    }
-    numbers::not_a_number()
 }
 
 // Error entry i of an order in a table.
+#[tactic(auto, unfolding(crate::specs::Probe::tesco_or_nan))]
 pub fn probe_tesco(table: usize, order: usize, i: usize) -> f64
     ensures { result ≡ tesco_or_nan table order i }
 {
-    if 2 < table {
-        return numbers::not_a_number();
+    if table <= 2 && i <= 2 && is_order(order, 12) {
+        coefficients::tesco(table, order, i)
+    } else {
+        numbers::not_a_number()
     }
-    if 2 < i {
-        return numbers::not_a_number();
-    }
-    if is_order(order, 12) {
-        return coefficients::tesco(table, order, i);
-    }
-    numbers::not_a_number()
 }
 
+#[tactic(auto, unfolding(crate::specs::Probe::cm1_or_nan))]
 pub fn probe_cm1(table: usize, order: usize) -> f64
     ensures { result ≡ cm1_or_nan table order }
 {
     if is_order(order, 12) {
-        return coefficients::cm1(table, order);
+        coefficients::cm1(table, order)
+    } else {
+        numbers::not_a_number()
     }
-    numbers::not_a_number()
 }
 
+#[tactic(auto, unfolding(crate::specs::Probe::cm2_or_nan))]
 pub fn probe_cm2(table: usize, order: usize) -> f64
     ensures { result ≡ cm2_or_nan table order }
 {
     if is_order(order, 5) {
-        return coefficients::cm2(table, order);
+        coefficients::cm2(table, order)
+    } else {
+        numbers::not_a_number()
     }
-    numbers::not_a_number()
 }
 
+#[tactic(auto, unfolding(crate::specs::Probe::sm1_or_nan))]
 pub fn probe_sm1(order: usize) -> f64
     ensures { result ≡ sm1_or_nan order }
 {
     if is_order(order, 12) {
-        return coefficients::sm1(order);
+        coefficients::sm1(order)
+    } else {
+        numbers::not_a_number()
     }
-    numbers::not_a_number()
 }
 
 // Whether a matrix of n columns and a vector of n, of these lengths, are there.
+#[tactic(auto, unfolding(crate::specs::Leaves::is_matrix))]
 fn is_matrix(n: usize, matrix: usize, vector: usize) -> bool
     ensures { result ≡ is_matrix n matrix vector }
 {
-    if common::MAX_STATES < n {
-        return false;
-    }
-    if matrix < n * n {
-        return false;
-    }
-    n <= vector
+    n <= common::MAX_STATES && n * n <= matrix && n <= vector
 }
 
 // Whether a tolerance list of this length serves n states.
+#[tactic(auto, unfolding(crate::specs::Leaves::is_tolerance_list))]
 fn is_list(n: usize, len: usize) -> bool
     ensures { result ≡ is_tolerance_list n len }
 {
-    if n < 1 {
-        return false;
-    }
-    if len == 1 {
-        return true;
-    }
-    len == n
+    1 <= n && (len == 1 || len == n)
 }
 
 // Whether n numbers at `at` stand behind the first n of so many.
+#[tactic(auto, unfolding(crate::specs::Leaves::is_behind))]
 fn is_behind(n: usize, at: usize, len: usize) -> bool
     ensures { result ≡ is_behind n at len }
 {
-    if at < n {
-        return false;
-    }
-    if len < n {
-        return false;
-    }
-    if len - n < at {
-        return false;
-    }
-    true
+    n <= at && n <= len && at <= len - n
 }
 
 // Whether the lists and the places serve for the weights of n states.
+#[tactic(auto, unfolding(crate::specs::Leaves::is_weighed))]
 fn is_weighed(n: usize, rtol: usize, atol: usize, at: usize, len: usize) -> bool
     ensures { result ≡ is_weighed n rtol atol at len }
 {
-    if !is_list(n, rtol) {
-        return false;
-    }
-    if !is_list(n, atol) {
-        return false;
-    }
-    is_behind(n, at, len)
+    is_list(n, rtol) && is_list(n, atol) && is_behind(n, at, len)
 }
 
 // Whether a right side at b, a matrix at a behind it, and n pivots are there.
+#[tactic(auto, unfolding(crate::specs::Leaves::is_system))]
 fn is_system(n: usize, a: usize, b: usize, len: usize, pivots: usize) -> bool
     ensures { result ≡ is_system n a b len pivots }
 {
-    if len < a {
-        return false;
-    }
-    if !is_matrix(n, len - a, pivots) {
-        return false;
-    }
-    if a < n {
-        return false;
-    }
-    if a - n < b {
-        return false;
-    }
-    true
+    a <= len && is_matrix(n, len - a, pivots) && n <= a && b <= a - n
 }
 
 // Whether each of the first n pivots is below n.
+#[tactic(auto, unfolding(crate::specs::Leaves::are_pivots))]
 fn are_pivots(n: usize, ipiv: &[usize]) -> bool
     requires { n ≤ length ipiv.now }
-    ensures { (result ≡ are_pivots n ipiv.now)
-        × (result ≡ true → (k : ℕ) → k < n → get_or ipiv.now k 0 < n) }
+    ensures { result ≡ are_pivots n ipiv.now }
 {
-    for k in 0..n {
-        if n <= ipiv[k] {
-            return false;
-        }
-    }
-    true
+    ipiv[..n].iter().all(|pivot| *pivot < n)
 }
 
+#[tactic(auto, unfolding(crate::specs::Leaves::vmnorm_or_nan))]
 pub fn probe_vmnorm(v: &[f64], w: &[f64]) -> f64
     ensures { result ≡ vmnorm_or_nan v.now w.now }
 {
     if v.len() <= w.len() {
-        return vectors::vmnorm(v, w).value;
+        vectors::vmnorm(v, w).value
+    } else {
+        numbers::not_a_number()
     }
-    numbers::not_a_number()
 }
 
+#[tactic(auto, unfolding(crate::specs::Leaves::fnorm_or_nan))]
 pub fn probe_fnorm_dense(n: usize, a: &[f64], w: &[f64]) -> f64
     ensures { result ≡ fnorm_or_nan n a.now w.now }
 {
     if is_matrix(n, a.len(), w.len()) {
-        return vectors::fnorm_dense(n, a, w).value;
+        vectors::fnorm_dense(n, a, w).value
+    } else {
+        numbers::not_a_number()
     }
-    numbers::not_a_number()
 }
 
 // The weights of the first n numbers of work, at `at`. 0 done, 2 not.
+#[tactic(auto, unfolding(crate::specs::Leaves::ewset_left))]
 pub fn probe_ewset(rtol: &[f64], atol: &[f64], work: &mut [f64], n: usize, at: usize) -> usize
     ensures { ◌≡◌ {A = WorkLeft} (record { number = result; work = work.new })
         (ewset_left rtol.now atol.now n at work.old) }
 {
     if is_weighed(n, rtol.len(), atol.len(), at, work.len()) {
         vectors::ewset(rtol, atol, work, n, at);
-        return 0;
+        0
+    } else {
+        2
     }
-    2
 }
 
+#[tactic(auto, unfolding(crate::specs::Leaves::ewset_like_left))]
 pub fn probe_ewset_scalar_like(work: &mut [f64], n: usize, at: usize) -> usize
     ensures { ◌≡◌ {A = WorkLeft} (record { number = result; work = work.new })
         (ewset_like_left n at work.old) }
 {
     if is_behind(n, at, work.len()) {
         vectors::ewset_scalar_like(work, n, at);
-        return 0;
+        0
+    } else {
+        2
     }
-    2
 }
 
 // The index of the weight that is refused, or the number of weights where none is.
@@ -290,6 +256,7 @@ pub fn probe_invert_weights(ewt: &mut [f64]) -> usize
     }
 }
 
+#[tactic(auto, unfolding(crate::specs::Leaves::initial_step_or_nan))]
 pub fn probe_initial_step_size(
     t: f64,
     tout: f64,
@@ -302,16 +269,11 @@ pub fn probe_initial_step_size(
     ensures { result ≡ initial_step_or_nan t tout y.now f0.now w.now
         rtol.now atol.now }
 {
-    if w.len() < f0.len() {
-        return numbers::not_a_number();
+    if f0.len() <= w.len() && is_list(y.len(), rtol.len()) && is_list(y.len(), atol.len()) {
+        vectors::initial_step_size(t, tout, y, f0, w, rtol, atol)
+    } else {
+        numbers::not_a_number()
     }
-    if !is_list(y.len(), rtol.len()) {
-        return numbers::not_a_number();
-    }
-    if is_list(y.len(), atol.len()) {
-        return vectors::initial_step_size(t, tout, y, f0, w, rtol, atol);
-    }
-    numbers::not_a_number()
 }
 
 // 0 done, 1 singular, 2 nothing done.

@@ -1,9 +1,9 @@
 // For comparisons with the reference alone: the functions on the history, the record and the snapshot.
 // Nothing is asked of the host: where a callee's requires is not met, the number 2 is answered, and what was lent stays
-// as it was. A record is lent as its 11 floats and 14 counts, in the order of specs/Lent.antt.
+// as it was. A record is lent as its 11 floats and 14 counts, in the order of specs/Lent.antt. All this is C's form.
 ghost use Rattle.std.specs.Prelude.{◌≡◌, [], length};
 ghost use Rattle.interpolation.specs.Evaluate.{Interpolated, interpolate_of};
-ghost use Rattle.probe.specs.Lent.{lent_family, lent_settings, lent_common, written_floats, written_counts, number1};
+ghost use Rattle.probe.specs.Lent.{lent_family, lent_settings, lent_common, written_floats, written_counts};
 ghost use Rattle.probe.specs.Lent.{are_columns, in_range, are_limits, is_usable};
 ghost use Rattle.probe.specs.Left.{Columns, predict_left, retract_left, RecordLeft, correct_left, adjust_left};
 ghost use Rattle.probe.specs.Left.{predicted_left, init_left, reset_left, snapshot_left};
@@ -14,70 +14,54 @@ use common::{Common, MethodFamily, Settings};
 const ENOUGH_WORK: usize = common::MATRIX * common::MAX_STATES;
 
 // Whether nq passes over the columns up to nqnyh, and the column behind it, lie within so many numbers.
+#[tactic(auto, unfolding(crate::specs::Lent::are_columns))]
 fn are_columns(n: usize, nq: usize, nqnyh: usize, len: usize) -> bool
     ensures { result ≡ are_columns n nq nqnyh len }
 {
-    if common::MAX_STATES < n {
-        return false;
-    }
-    if 12 < nq {
-        return false;
-    }
-    if nqnyh < nq * n {
-        return false;
-    }
-    if len < n {
-        return false;
-    }
-    if len - n < nqnyh {
-        return false;
-    }
-    true
+    n <= common::MAX_STATES && nq <= 12 && nq * n <= nqnyh && n <= len && nqnyh <= len - n
 }
 
 // 0 done, 2 not.
+#[tactic(auto, unfolding(crate::specs::Left::predict_left))]
 pub fn probe_predict_columns(yh: &mut [f64], n: usize, nq: usize, nqnyh: usize) -> usize
     ensures { ◌≡◌ {A = Columns} (record { number = result; yh = yh.new })
         (predict_left n nq nqnyh yh.old) }
 {
     if are_columns(n, nq, nqnyh, yh.len()) {
         history::predict_columns(yh, n, nq, nqnyh);
-        return 0;
+        0
+    } else {
+        2
     }
-    2
 }
 
+#[tactic(auto, unfolding(crate::specs::Left::retract_left))]
 pub fn probe_retract_columns(yh: &mut [f64], n: usize, nq: usize, nqnyh: usize) -> usize
     ensures { ◌≡◌ {A = Columns} (record { number = result; yh = yh.new })
         (retract_left n nq nqnyh yh.old) }
 {
     if are_columns(n, nq, nqnyh, yh.len()) {
         history::retract_columns(yh, n, nq, nqnyh);
-        return 0;
+        0
+    } else {
+        2
     }
-    2
 }
 
 // 2 is BDF, and any other number Adams.
+#[tactic(auto, unfolding(crate::specs::Lent::lent_family))]
 fn family(number: usize) -> MethodFamily
     ensures { result ≡ lent_family number }
 {
     if number == 2 {
-        return MethodFamily::Bdf;
+        MethodFamily::Bdf
+    } else {
+        MethodFamily::Adams
     }
-    MethodFamily::Adams
-}
-
-fn number(flag: bool) -> usize
-    ensures { result ≡ number1 flag }
-{
-    if flag {
-        return 1;
-    }
-    0
 }
 
 // made by tools/record.py: the record from the numbers that are lent
+#[tactic(auto, unfolding(crate::specs::Lent::lent_settings))]
 fn settings(floats: &[f64], counts: &[usize]) -> Settings
     requires { (length floats.now ≡ 11) × (length counts.now ≡ 14) }
     ensures { result ≡ lent_settings floats.now counts.now }
@@ -99,11 +83,11 @@ fn settings(floats: &[f64], counts: &[usize]) -> Settings
     }
 }
 
+#[tactic(auto, unfolding(crate::specs::Lent::lent_common))]
 fn common(floats: &[f64], counts: &[usize]) -> Common
     requires { (length floats.now ≡ 11) × (length counts.now ≡ 14) }
     ensures { result ≡ lent_common floats.now counts.now }
 {
-    let meth = family(counts[4]);
     Common {
         hmin: 0.0,
         hmxi: floats[0],
@@ -122,7 +106,7 @@ fn common(floats: &[f64], counts: &[usize]) -> Common
         pnorm: 0.0,
         rate: 0.0,
         delp: 0.0,
-        meth: meth,
+        meth: family(counts[4]),
         nq: counts[5],
         lmax: counts[6],
         nqnyh: counts[7],
@@ -148,6 +132,7 @@ fn common(floats: &[f64], counts: &[usize]) -> Common
 }
 // end of the record from the numbers that are lent
 
+#[tactic(auto, unfolding(crate::specs::Lent::written_floats))]
 fn put_floats(c: Common, floats: &mut [f64])
     requires { length floats.old ≡ 11 }
     ensures { floats.new ≡ written_floats c floats.old }
@@ -164,6 +149,7 @@ fn put_floats(c: Common, floats: &mut [f64])
     floats[10] = c.convrate;
 }
 
+#[tactic(auto, unfolding(crate::specs::Lent::written_counts))]
 fn put_counts(c: Common, counts: &mut [usize])
     requires { length counts.old ≡ 14 }
     ensures { counts.new ≡ written_counts c counts.old }
@@ -176,74 +162,54 @@ fn put_counts(c: Common, counts: &mut [usize])
     counts[10] = c.table;
     counts[11] = c.nslp;
     counts[12] = c.nst;
-    counts[13] = number(c.due);
+    counts[13] = usize::from(c.due);
 }
 
 // Whether the sizes and the order are in the ranges that a step's functions ask for, and so is the work's length.
+#[tactic(auto, unfolding(crate::specs::Lent::in_range))]
 fn in_range(n: usize, nq: usize, nqnyh: usize, table: usize, work: usize) -> bool
     ensures { result ≡ in_range n nq nqnyh table work }
 {
-    if n < 1 {
-        return false;
-    }
-    if common::MAX_STATES < n {
-        return false;
-    }
-    if nq < 1 {
-        return false;
-    }
-    if 2 < table {
-        return false;
-    }
-    if work < common::MATRIX * n {
-        return false;
-    }
-    are_columns(n, nq, nqnyh, common::EWT * n)
+    (1..=common::MAX_STATES).contains(&n)
+        && 1 <= nq
+        && table <= 2
+        && common::MATRIX * n <= work
+        && are_columns(n, nq, nqnyh, common::EWT * n)
 }
 
 // Whether the limits are, and the number of steps at the last Jacobian.
+#[tactic(auto, unfolding(crate::specs::Lent::are_limits))]
 fn are_limits(mxordn: usize, mxords: usize, msbp: usize, nslp: usize) -> bool
     ensures { result ≡ are_limits mxordn mxords msbp nslp }
 {
-    if 1000000 < mxordn {
-        return false;
-    }
-    if 1000000 < mxords {
-        return false;
-    }
-    if 1000000 < msbp {
-        return false;
-    }
-    nslp < 4611686018427387904
+    mxordn <= 1000000 && mxords <= 1000000 && msbp <= 1000000 && nslp < 1 << 62
 }
 
 // Whether a record is lent that the functions below take, beside so much work.
+#[tactic(auto, unfolding(crate::specs::Lent::is_usable))]
 fn is_usable(floats: &[f64], counts: &[usize], work: usize) -> bool
     ensures { result ≡ is_usable floats.now counts.now work }
 {
-    if floats.len() != 11 {
-        return false;
-    }
-    if counts.len() != 14 {
-        return false;
-    }
-    if !are_limits(counts[1], counts[2], counts[3], counts[11]) {
-        return false;
-    }
-    in_range(counts[0], counts[5], counts[7], counts[10], work)
+    floats.len() == 11
+        && counts.len() == 14
+        && are_limits(counts[1], counts[2], counts[3], counts[11])
+        && in_range(counts[0], counts[5], counts[7], counts[10], work)
 }
 
+#[tactic(auto, unfolding(crate::specs::Left::correct_left))]
 pub fn probe_correct_columns(floats: &[f64], counts: &[usize], work: &mut [f64]) -> usize
     ensures { ◌≡◌ {A = Columns} (record { number = result; yh = work.new })
         (correct_left floats.now counts.now work.old) }
 {
     if is_usable(floats, counts, work.len()) {
         history::correct_columns(settings(floats, counts), common(floats, counts), work);
-        return 0;
+        0
+    } else {
+        2
     }
-    2
 }
 
+#[tactic(auto, unfolding(crate::specs::Left::adjust_left))]
 pub fn probe_stoda_adjust_step_size(
     floats: &mut [f64],
     counts: &mut [usize],
@@ -260,11 +226,13 @@ pub fn probe_stoda_adjust_step_size(
         let d = history::stoda_adjust_step_size(s, c, rh, work);
         put_floats(d, floats);
         put_counts(d, counts);
-        return 0;
+        0
+    } else {
+        2
     }
-    2
 }
 
+#[tactic(auto, unfolding(crate::specs::Left::predicted_left))]
 pub fn probe_stoda_get_predicted_values(
     floats: &mut [f64],
     counts: &mut [usize],
@@ -280,11 +248,13 @@ pub fn probe_stoda_get_predicted_values(
         let d = history::stoda_get_predicted_values(s, c, work);
         put_floats(d, floats);
         put_counts(d, counts);
-        return 0;
+        0
+    } else {
+        2
     }
-    2
 }
 
+#[tactic(auto, unfolding(crate::specs::Left::init_left))]
 pub fn probe_stoda_first_call_init(floats: &mut [f64], counts: &mut [usize]) -> usize
     ensures { ◌≡◌ {A = RecordLeft}
         (record { number = result; floats = floats.new; counts = counts.new; work = [] })
@@ -296,11 +266,13 @@ pub fn probe_stoda_first_call_init(floats: &mut [f64], counts: &mut [usize]) -> 
         let d = c.stoda_first_call_init(s);
         put_floats(d, floats);
         put_counts(d, counts);
-        return 0;
+        0
+    } else {
+        2
     }
-    2
 }
 
+#[tactic(auto, unfolding(crate::specs::Left::reset_left))]
 pub fn probe_stoda_reset(floats: &mut [f64], counts: &mut [usize]) -> usize
     ensures { ◌≡◌ {A = RecordLeft}
         (record { number = result; floats = floats.new; counts = counts.new; work = [] })
@@ -312,9 +284,10 @@ pub fn probe_stoda_reset(floats: &mut [f64], counts: &mut [usize]) -> usize
         let d = c.stoda_reset(s);
         put_floats(d, floats);
         put_counts(d, counts);
-        return 0;
+        0
+    } else {
+        2
     }
-    2
 }
 
 // The snapshot stands in the question from n on.

