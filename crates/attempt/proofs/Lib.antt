@@ -1,2 +1,3 @@
+pub mod InRange
 pub mod Ranges
 pub mod Laws

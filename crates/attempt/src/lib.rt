@@ -28,6 +28,7 @@ pub struct Attempted {
 }
 
 // The history and the time are put back to where the step began.
+#[tactic(auto, unfolding(crate::specs::Attempt::retracted_of))]
 fn retract(s: Settings, c: Common, work: &mut [f64]) -> Common
     requires step_in_range { StepInRange s c }
     requires n_in_bounds { matrix_at s.n ≤ length work.old }
@@ -35,13 +36,15 @@ fn retract(s: Settings, c: Common, work: &mut [f64]) -> Common
         × (work.new ≡ retract_columns_of s.n c.nq c.nqnyh work.old) }
 {
     history::retract_columns(work, s.n, c.nq, c.nqnyh);
-    let mut d = c;
-    d.rmax = 2.0;
-    d.tn = c.told;
-    d
+    Common {
+        rmax: 2.0,
+        tn: c.told,
+        ..c
+    }
 }
 
 // The columns rescaled, then predicted again.
+#[tactic(auto, using(crate::proofs::InRange::ranges), unfolding(crate::specs::Attempt::repredict_of, history::specs::Steps::adjust_of))]
 fn repredict(s: Settings, c: Common, rh: f64, work: &mut [f64]) -> Common
     requires step_in_range { StepInRange s c }
     requires n_in_bounds { matrix_at s.n ≤ length work.old }
@@ -53,6 +56,7 @@ fn repredict(s: Settings, c: Common, rh: f64, work: &mut [f64]) -> Common
 }
 
 // `stoda_handle_corrector_failure`: poor at the mxncf-th such pass or at the smallest step, else a quarter of it.
+#[tactic(auto, using(crate::proofs::InRange::ranges), unfolding(crate::specs::Attempt::no_convergence_of, crate::specs::Attempt::no_convergence_at, crate::specs::Attempt::unconverged_of, crate::specs::Attempt::retracted_of, crate::specs::Attempt::quartered_of))]
 pub fn no_convergence(s: Settings, c: Common, work: &mut [f64]) -> Attempted
     requires step_in_range { StepInRange s c }
     requires ncf_bound { (c.ncf < 2 ^ 62) × (c.rejected < 2 ^ 63) }
@@ -60,65 +64,69 @@ pub fn no_convergence(s: Settings, c: Common, work: &mut [f64]) -> Attempted
     ensures { ◌≡◌ {A = Attempt} (record { next = result.next; common = result.common; work = work.new })
         (no_convergence_of s c work.old) }
 {
-    let mut d = retract(s, c, work);
-    d.ncf = c.ncf + 1;
-    if d.is_tiny() {
+    let d = Common {
+        ncf: c.ncf + 1,
+        ..retract(s, c, work)
+    };
+    if d.is_tiny() || d.ncf == s.mxncf() {
         return Attempted {
             next: Next::Poor,
             common: d,
         };
     }
-    if d.ncf == s.mxncf() {
-        return Attempted {
-            next: Next::Poor,
-            common: d,
-        };
-    }
-    d.due = d.meth.is_bdf();
-    d.rejected = c.rejected + 1;
-    let rh = numbers::max(0.25, history::least(d));
+    let e = Common {
+        due: d.meth.is_bdf(),
+        rejected: c.rejected + 1,
+        ..d
+    };
+    let rh = numbers::max(0.25, history::least(e));
     Attempted {
         next: Next::Pass,
-        common: repredict(s, d, rh, work),
+        common: repredict(s, e, rh, work),
     }
 }
 
 // The error of a converged pass, 1 being what is allowed. A pass that converged at once has the size of its correction
 // at hand.
+#[tactic(auto, unfolding(crate::specs::Attempt::error_of))]
 pub fn error(s: Settings, c: Common, del: f64, work: &[f64]) -> f64
     requires step_in_range { StepInRange s c }
     requires n_in_bounds { matrix_at s.n ≤ length work.now }
     ensures { result ≡ error_of s c del work.now }
 {
-    let tesco = coefficients::tesco(c.table, c.nq, 1);
-    if c.m == 0 {
-        return del / tesco;
-    }
-    let n = s.n;
-    history::norm_at(work, n, common::ACOR * n).value / tesco
+    let size = if c.m == 0 {
+        del
+    } else {
+        history::norm_at(work, s.n, common::ACOR * s.n).value
+    };
+    size / coefficients::tesco(c.table, c.nq, 1)
 }
 
 // The factor after the first and the second error failure.
+#[tactic(auto, unfolding(crate::specs::Attempt::shrunk_of))]
 fn shrunk(c: Common, dsm: f64) -> f64
     requires { c.nq ≤ 12 }
     ensures { result ≡ shrunk_of c dsm }
 {
     let rh = numbers::min(1.0 / (1.2 * root::root(dsm, c.nq + 1).value + 1.2e-6), 1.0);
-    if 2 <= c.kflag {
-        return numbers::max(numbers::min(rh, 0.2), history::least(c));
-    }
+    let rh = if 2 <= c.kflag {
+        numbers::min(rh, 0.2)
+    } else {
+        rh
+    };
     numbers::max(rh, history::least(c))
 }
 
 // An error failure, retracted: too small at the smallest step or at the tenth failure, from the third on a tenth of
 // the step and a derivative anew.
+#[tactic(auto, unfolding(crate::specs::Attempt::missed_of, crate::specs::Attempt::missed_at, crate::specs::Attempt::tenth_of))]
 fn missed(s: Settings, c: Common, dsm: f64, work: &mut [f64]) -> Attempted
     requires step_in_range { StepInRange s c }
     requires n_in_bounds { matrix_at s.n ≤ length work.old }
     ensures { ◌≡◌ {A = Attempt} (record { next = result.next; common = result.common; work = work.new })
         (missed_of s c dsm work.old) }
 {
-    if c.is_tiny() {
+    if c.is_tiny() || c.kflag == 10 {
         return Attempted {
             next: Next::TooSmall,
             common: c,
@@ -131,23 +139,18 @@ fn missed(s: Settings, c: Common, dsm: f64, work: &mut [f64]) -> Attempted
             common: repredict(s, c, rh, work),
         };
     }
-    if c.kflag == 10 {
-        return Attempted {
-            next: Next::TooSmall,
-            common: c,
-        };
-    }
-    let n = s.n;
-    history::copy_part(work, n, common::Y * n, 0);
-    let mut d = c;
-    d.h = c.h * numbers::max(0.1, history::least(c));
+    history::copy_part(work, s.n, common::Y * s.n, 0);
     Attempted {
         next: Next::Restep,
-        common: d,
+        common: Common {
+            h: c.h * numbers::max(0.1, history::least(c)),
+            ..c
+        },
     }
 }
 
 // The error is above 1.
+#[tactic(auto, using(crate::proofs::InRange::ranges), unfolding(crate::specs::Attempt::failed_of, crate::specs::Attempt::overshot_of, crate::specs::Attempt::retracted_of))]
 pub fn error_failure(s: Settings, c: Common, dsm: f64, work: &mut [f64]) -> Attempted
     requires step_in_range { StepInRange s c }
     requires kflag_bound { (c.kflag ≤ 9) × (c.rejected < 2 ^ 63) }
@@ -155,13 +158,16 @@ pub fn error_failure(s: Settings, c: Common, dsm: f64, work: &mut [f64]) -> Atte
     ensures { ◌≡◌ {A = Attempt} (record { next = result.next; common = result.common; work = work.new })
         (failed_of s c dsm work.old) }
 {
-    let mut d = retract(s, c, work);
-    d.rejected = c.rejected + 1;
-    d.kflag = c.kflag + 1;
+    let d = Common {
+        rejected: c.rejected + 1,
+        kflag: c.kflag + 1,
+        ..retract(s, c, work)
+    };
     missed(s, d, dsm, work)
 }
 
 // The derivative after the third to ninth error failure is in savf: order 1 from there, and a prediction.
+#[tactic(auto, using(crate::proofs::InRange::ranges), unfolding(crate::specs::Attempt::restep_of, common::specs::Rules::reset_of))]
 pub fn restep(s: Settings, c: Common, work: &mut [f64]) -> Common
     requires step_in_range { StepInRange s c }
     requires n_in_bounds { matrix_at s.n ≤ length work.old }
@@ -169,12 +175,15 @@ pub fn restep(s: Settings, c: Common, work: &mut [f64]) -> Common
         (restep_of s c work.old) }
 {
     history::set_slope(work, s.n, c.h);
-    let mut d = c;
-    d.due = c.meth.is_bdf();
-    d.ialth = 5;
-    if c.nq == 1 {
-        return history::stoda_get_predicted_values(s, d, work);
-    }
-    d.nq = 1;
-    history::stoda_get_predicted_values(s, d.stoda_reset(s), work)
+    let d = Common {
+        due: c.meth.is_bdf(),
+        ialth: 5,
+        ..c
+    };
+    let e = if c.nq == 1 {
+        d
+    } else {
+        Common { nq: 1, ..d }.stoda_reset(s)
+    };
+    history::stoda_get_predicted_values(s, e, work)
 }
