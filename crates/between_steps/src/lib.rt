@@ -25,7 +25,7 @@ pub enum Status {
 }
 
 // What the host says to a report; the Rust's `XOut` is Continue.
-#[derive(Clone, Copy)]
+#[derive(Clone, Copy, PartialEq, Eq)]
 pub enum Answer {
     Continue,
     Interrupt,
@@ -33,7 +33,7 @@ pub enum Answer {
 }
 
 // The kind of a reply.
-#[derive(Clone, Copy)]
+#[derive(Clone, Copy, PartialEq, Eq)]
 pub enum Kind {
     Derivative,
     Jacobian,
@@ -43,18 +43,19 @@ pub enum Kind {
 // ---- a step begins
 
 // The interval's end cuts the step: rescaled to what is left. Its setup is skipped.
+#[tactic(auto, unfolding(crate::specs::Begin::cut_of))]
 fn cut(s: Settings, c: Common, work: &mut [f64]) -> Common
     requires inside { Inside s c }
     requires n_in_bounds { matrix_at s.n ≤ length work.old }
     ensures { ◌≡◌ {A = Moved} (record { common = result; work = work.new })
         (cut_of s c work.old) }
 {
-    let mut d = c;
-    d.setup = false;
+    let d = Common { setup: false, ..c };
     history::stoda_adjust_step_size(s, d, (s.xend - c.tn) / c.h, work)
 }
 
 // First-call setup.
+#[tactic(auto, unfolding(crate::specs::Begin::setup_of, common::specs::Rules::first_call_init_of))]
 fn setup(s: Settings, c: Common) -> Common
     requires { Accepted s }
     ensures { result ≡ setup_of s c }
@@ -64,6 +65,7 @@ fn setup(s: Settings, c: Common) -> Common
 }
 
 // What comes before a step's first prediction: the cut, else the setup if it is due.
+#[tactic(auto, unfolding(crate::specs::Begin::prepared_of, crate::specs::Begin::prepared_at))]
 fn prepare(s: Settings, c: Common, work: &mut [f64]) -> Common
     requires inside { Inside s c }
     requires n_in_bounds { matrix_at s.n ≤ length work.old }
@@ -71,31 +73,36 @@ fn prepare(s: Settings, c: Common, work: &mut [f64]) -> Common
         (prepared_of s c work.old) }
 {
     if numbers::abs(c.h) > numbers::abs(s.xend - c.tn) {
-        return cut(s, c, work);
+        cut(s, c, work)
+    } else if c.setup {
+        setup(s, c)
+    } else {
+        c
     }
-    let due = c.setup;
-    if due {
-        return setup(s, c);
-    }
-    c
 }
 
 // A step begins: prepared and predicted, with the norm of its first prediction.
+#[tactic(auto, unfolding(crate::specs::Begin::first_prediction_of, crate::specs::Begin::predicted_at))]
 pub fn first_prediction(s: Settings, c: Common, work: &mut [f64]) -> Common
     requires inside { Inside s c }
     requires n_in_bounds { matrix_at s.n ≤ length work.old }
     ensures { ◌≡◌ {A = Moved} (record { common = result; work = work.new })
         (first_prediction_of s c work.old) }
 {
-    let mut d = prepare(s, c, work);
-    d.kflag = 0;
-    d.ncf = 0;
-    d.count = 0;
-    d.jcur = false;
-    d.told = c.tn;
-    let mut e = history::stoda_get_predicted_values(s, d, work);
-    e.pnorm = history::norm_at(work, s.n, 0).value;
-    e
+    let prepared = prepare(s, c, work);
+    let d = Common {
+        kflag: 0,
+        ncf: 0,
+        count: 0,
+        jcur: false,
+        told: c.tn,
+        ..prepared
+    };
+    let e = history::stoda_get_predicted_values(s, d, work);
+    Common {
+        pnorm: history::norm_at(work, s.n, 0).value,
+        ..e
+    }
 }
 
 // ---- the start and the reports
@@ -105,18 +112,14 @@ pub fn first_prediction(s: Settings, c: Common, work: &mut [f64]) -> Common
 pub fn first_size(s: Settings, c: Common, h: f64) -> f64
     ensures { result ≡ first_size_of s c h }
 {
-    let mut h1 = h;
-    if c.hmxi != 0.0 {
-        h1 = h / numbers::max(numbers::abs(h) * c.hmxi, 1.0);
-    }
-    let mut h2 = h1;
-    if numbers::abs(h1) > numbers::abs(s.xend - c.tn) {
-        h2 = s.xend - c.tn;
-    }
-    if numbers::abs(h2) < c.hmin {
-        return c.hmin * s.direction;
-    }
-    h2
+    let left = s.xend - c.tn;
+    let h1 = if c.hmxi != 0.0 {
+        h / numbers::max(numbers::abs(h) * c.hmxi, 1.0)
+    } else {
+        h
+    };
+    let h2 = if numbers::abs(h1) > numbers::abs(left) { left } else { h1 };
+    if numbers::abs(h2) < c.hmin { c.hmin * s.direction } else { h2 }
 }
 
 // The derivative at the start in savf, and y in column 0.

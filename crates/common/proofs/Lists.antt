@@ -8,8 +8,8 @@ use mathlib.Core.Logic.{inl, inr}
 use native.Mathlib.Nat.{ℕ_set}
 use Rattle.vectors.specs.Tolerance.{List1OrN}
 
-pub one-or-n : (list : List Float) (i : ℕ) → ∥ List1OrN list i ∥₁ → List1OrN list i
-one-or-n list i p = decided (dec_lt i (length list))
+pub one_or_n : (list : List Float) (i : ℕ) → ∥ List1OrN list i ∥₁ → List1OrN list i
+one_or_n list i p = decided (dec_lt i (length list))
   where
     decided : Dec (i < length list) → List1OrN list i
     decided (yes h) = inr h

@@ -85,40 +85,41 @@ pub struct Turn {
 // ---- questions
 
 // A derivative that belongs to no step.
+#[tactic(auto, unfolding(crate::specs::Turns::asked_of))]
 pub fn ask(c: Common, phase: Phase) -> Turn
     requires { c.nfe < 2 ^ 63 }
     ensures { result ≡ asked_of c phase }
 {
-    let mut d = c;
-    d.nfe = c.nfe + 1;
     Turn {
         question: Question::Derivative(At { time: c.tn }),
-        phase: phase,
-        common: d,
+        phase,
+        common: Common {
+            nfe: c.nfe + 1,
+            ..c
+        },
     }
 }
 
 // A derivative of the step under way.
+#[tactic(auto, unfolding(crate::specs::Turns::asked_of, crate::specs::Turns::asked_in_step_of))]
 pub fn ask_in_step(c: Common, phase: Phase) -> Turn
     requires { (c.nfe < 2 ^ 63) × (c.count < 2 ^ 63) }
     ensures { result ≡ asked_in_step_of c phase }
 {
-    let mut d = c;
-    d.nfe = c.nfe + 1;
-    d.count = c.count + 1;
-    Turn {
-        question: Question::Derivative(At { time: c.tn }),
-        phase: phase,
-        common: d,
-    }
+    let counted = Common {
+        count: c.count + 1,
+        ..c
+    };
+    ask(counted, phase)
 }
 
+#[tactic(auto, unfolding(crate::specs::Turns::finished_of))]
 pub fn finish(c: Common, status: Status) -> Turn
     ensures { result ≡ finished_of c status }
 {
     let end = End {
         h: c.h,
-        status: status,
+        status,
         nfe: c.nfe,
         nje: c.nje,
         nlu: c.nlu,
@@ -136,6 +137,7 @@ pub fn finish(c: Common, status: Status) -> Turn
 // ---- between steps: the pivots are not lent, so a contract says of any that they stay
 
 // A pass opens: the derivative at the prediction is wanted.
+#[tactic(auto, unfolding(crate::specs::Begin::open_pass_of))]
 pub fn open_pass(c: Common, n: usize, work: &mut [f64]) -> Turn
     requires { (c.nfe < 2 ^ 63) × (c.count < 2 ^ 63) × (matrix_at n ≤ length work.old) }
     ensures { (p : List ℕ)
@@ -146,6 +148,7 @@ pub fn open_pass(c: Common, n: usize, work: &mut [f64]) -> Turn
 }
 
 // A step begins: its first prediction, its first pass.
+#[tactic(auto, unfolding(crate::specs::Begin::began_of))]
 fn begin_step(s: Settings, c: Common, work: &mut [f64]) -> Turn
     requires inside { Inside s c }
     requires n_in_bounds { matrix_at s.n ≤ length work.old }
@@ -155,6 +158,7 @@ fn begin_step(s: Settings, c: Common, work: &mut [f64]) -> Turn
 }
 
 // The loop of `solve`: the interval's end, the largest number of steps, another step.
+#[tactic(auto, unfolding(crate::specs::Begin::go_on_of, crate::specs::Begin::go_on_at))]
 pub fn go_on(s: Settings, c: Common, work: &mut [f64]) -> Turn
     requires inside { Inside s c }
     requires n_in_bounds { matrix_at s.n ≤ length work.old }
@@ -162,9 +166,11 @@ pub fn go_on(s: Settings, c: Common, work: &mut [f64]) -> Turn
 {
     if (s.xend - c.tn) * s.direction > 0.0 {
         if s.maxsteps <= c.nst {
-            return finish(c, Status::NeedsMoreSteps);
+            finish(c, Status::NeedsMoreSteps)
+        } else {
+            begin_step(s, c, work)
         }
-        return begin_step(s, c, work);
+    } else {
+        finish(c, Status::Success)
     }
-    finish(c, Status::Success)
 }

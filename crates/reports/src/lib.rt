@@ -1,10 +1,9 @@
 // The start and the reports: the first step, and what the host's answers and a state that it has modified lead to.
 #![tactic(auto)]
 
-ghost use Rattle.std.specs.Prelude.{List, ◌≡◌, ℕ, ◌-◌, ◌≤◌, length};
-ghost use Rattle.vectors.specs.Tolerance.{List1OrN};
+ghost use Rattle.std.specs.Prelude.{List, ◌≡◌, ℕ, ◌≤◌, length};
 ghost use Rattle.common.specs.Layout.{matrix_at};
-ghost use Rattle.common.specs.State.{given, state};
+ghost use Rattle.common.specs.State.{given_by, state};
 ghost use Rattle.common.specs.Ranges.{Inside};
 ghost use Rattle.between_steps.specs.Start.{first_step_of};
 ghost use Rattle.questions.specs.Turns.{run_state};
@@ -12,88 +11,78 @@ ghost use Rattle.reports.specs.Reports.{sized_of, first_derivative_of, after_fir
 ghost use Rattle.reports.specs.Reports.{after_report_of, modified_of};
 
 use between_steps::{Answer, Status};
-use common::{Common, Settings};
+use common::{Common, Problem, Settings};
 use questions::{At, Phase, Question, Turn};
 use vectors::NotPositive;
 
 // The first step is known: refused (11), or the first report.
+#[tactic(auto, unfolding(crate::specs::Reports::sized_of, crate::specs::Reports::sized_at))]
 fn sized(s: Settings, c: Common, h: f64, work: &mut [f64]) -> Turn
     requires { matrix_at s.n ≤ length work.old }
     ensures { (p : List ℕ) → run_state result work.new p ≡ sized_of s (state c work.old p) h }
 {
-    let mut d = c;
-    d.h = h;
     if numbers::is_refused(h, s.direction) {
-        return Turn {
+        Turn {
             question: Question::StepRefused(h),
             phase: Phase::Finished,
-            common: d,
-        };
-    }
-    d.h = between_steps::first_size(s, c, h);
-    history::set_slope(work, s.n, d.h);
-    Turn {
-        question: Question::FirstReport(At { time: c.tn }),
-        phase: Phase::FirstReport,
-        common: d,
+            common: Common { h, ..c },
+        }
+    } else {
+        let h = between_steps::first_size(s, c, h);
+        history::set_slope(work, s.n, h);
+        Turn {
+            question: Question::FirstReport(At { time: c.tn }),
+            phase: Phase::FirstReport,
+            common: Common { h, ..c },
+        }
     }
 }
 
-// The weights of the start stand: the first step is the given one or computed.
-fn weighted(s: Settings, c: Common, rtol: &[f64], atol: &[f64], work: &mut [f64]) -> Turn
-    requires le_n { 1 ≤ s.n }
-    requires list1or_n { List1OrN rtol.now (s.n - 1) }
-    requires list1or_n_2 { List1OrN atol.now (s.n - 1) }
-    requires n_in_bounds { matrix_at s.n ≤ length work.old }
-    ensures { (p : List ℕ) → run_state result work.new p
-        ≡ sized_of s (state c work.old p)
-        (first_step_of s c rtol.now atol.now work.old) }
+// The first step, as given or computed from the weights of the start.
+#[tactic(auto, using(common::proofs::Lists::one_or_n))]
+fn first_step(g: &Problem, c: Common, work: &[f64]) -> f64
+    requires le_n { 1 ≤ g.now.settings.n }
+    requires n_in_bounds { matrix_at g.now.settings.n ≤ length work.now }
+    ensures { result ≡ first_step_of g.now.settings c g.now.rtol.now g.now.atol.now work.now }
 {
-    let given = s.given;
-    if given {
-        return sized(s, c, c.h, work);
+    if g.settings.given {
+        c.h
+    } else {
+        let n = g.settings.n;
+        let f = common::SAVF * n;
+        let fe = common::FTEM * n;
+        let w = common::EWT * n;
+        vectors::initial_step_size(
+            c.tn,
+            g.settings.xend,
+            &work[0..n],
+            &work[f..fe],
+            &work[w..f],
+            g.rtol,
+            g.atol,
+        )
     }
-    let n = s.n;
-    let f = common::SAVF * n;
-    let fe = common::FTEM * n;
-    let w = common::EWT * n;
-    let h = vectors::initial_step_size(
-        c.tn,
-        s.xend,
-        &work[0..n],
-        &work[f..fe],
-        &work[w..f],
-        rtol,
-        atol,
-    );
-    sized(s, c, h, work)
 }
 
 // The derivative at the start.
-pub fn first_derivative(
-    s: Settings,
-    c: Common,
-    rtol: &[f64],
-    atol: &[f64],
-    f: &[f64],
-    work: &mut [f64],
-) -> Turn
-    requires le_n { 1 ≤ s.n }
-    requires list1or_n { List1OrN rtol.now (s.n - 1) }
-    requires list1or_n_2 { List1OrN atol.now (s.n - 1) }
-    requires f_len { length f.now ≡ s.n }
-    requires n_in_bounds { matrix_at s.n ≤ length work.old }
+#[tactic(auto, using(common::proofs::Lists::one_or_n), unfolding(crate::specs::Reports::first_derivative_of, crate::specs::Reports::weighted_at))]
+pub fn first_derivative(g: &Problem, c: Common, f: &[f64], work: &mut [f64]) -> Turn
+    requires le_n { 1 ≤ g.now.settings.n }
+    requires f_len { length f.now ≡ g.now.settings.n }
+    requires n_in_bounds { matrix_at g.now.settings.n ≤ length work.old }
     ensures { (p : List ℕ) → run_state result work.new p
-        ≡ first_derivative_of (given s rtol.now atol.now)
-        (state c work.old p) f.now }
+        ≡ first_derivative_of (given_by g.now) (state c work.old p) f.now }
 {
-    let n = s.n;
+    let n = g.settings.n;
     between_steps::take_first(n, f, work);
     let w = common::EWT * n;
     let we = common::SAVF * n;
-    vectors::ewset(rtol, atol, work, n, w);
+    vectors::ewset(g.rtol, g.atol, work, n, w);
     match vectors::invert_weights(&mut work[w..we]) {
-        Ok(()) => weighted(s, c, rtol, atol, work),
+        Ok(()) => {
+            let h = first_step(g, c, work);
+            sized(g.settings, c, h, work)
+        }
         Err(NotPositive { index }) => {
             Turn {
                 question: Question::WeightRefused(index),
@@ -104,6 +93,7 @@ pub fn first_derivative(
     }
 }
 
+#[tactic(auto, unfolding(crate::specs::Reports::after_first_report_of))]
 pub fn after_first_report(
     s: Settings,
     c: Common,
@@ -118,8 +108,7 @@ pub fn after_first_report(
     ensures { (p : List ℕ) → run_state result work.new p
         ≡ after_first_report_of s (state c work.old p) answer y.now time }
 {
-    let mut d = c;
-    d.tn = time;
+    let d = Common { tn: time, ..c };
     match answer {
         Answer::Continue => questions::go_on(s, d, work),
         Answer::Interrupt => questions::finish(d, Status::Interrupted),
@@ -131,6 +120,7 @@ pub fn after_first_report(
 }
 
 // The derivative after a modified first report.
+#[tactic(auto, unfolding(crate::specs::Reports::first_modified_of))]
 pub fn first_modified(s: Settings, c: Common, f: &[f64], work: &mut [f64]) -> Turn
     requires inside { Inside s c }
     requires f_len { length f.now ≡ s.n }
@@ -144,6 +134,7 @@ pub fn first_modified(s: Settings, c: Common, f: &[f64], work: &mut [f64]) -> Tu
     questions::go_on(s, c, work)
 }
 
+#[tactic(auto, unfolding(crate::specs::Reports::after_report_of))]
 pub fn after_report(
     s: Settings,
     c: Common,
@@ -159,19 +150,22 @@ pub fn after_report(
         ≡ after_report_of s (state c work.old p) answer y.now time }
 {
     between_steps::take_state(s.n, y, work);
-    let mut d = c;
-    d.tn = time;
+    let d = Common { tn: time, ..c };
     match answer {
         Answer::Continue => questions::go_on(s, d, work),
         Answer::Interrupt => questions::finish(d, Status::Interrupted),
         Answer::Modified => {
-            d.tn = c.told + c.hu;
-            questions::ask(d, Phase::Modified)
+            let before = Common {
+                tn: c.told + c.hu,
+                ..c
+            };
+            questions::ask(before, Phase::Modified)
         }
     }
 }
 
 // The derivative after a modified report.
+#[tactic(auto, unfolding(crate::specs::Reports::modified_of))]
 pub fn modified(s: Settings, c: Common, f: &[f64], work: &mut [f64]) -> Turn
     requires inside { Inside s c }
     requires f_len { length f.now ≡ s.n }
