@@ -447,16 +447,16 @@ pub fn coefficient(i: usize) -> f64
 }
 
 // The number of an order in the table in force, 0 where there is none yet. Order 1's stands at `base`, that of each
-// further order `size` numbers on.
+// further order `SIZE` numbers on.
 // A table is a number, 0 none yet, 1 Adams, 2 BDF, since it is a word of a stored session (docs/SESSION.md).
-fn number(table: usize, base: usize, size: usize, order: usize) -> f64
-    requires { (table ≤ 2) × (1 ≤ order) × (order ≤ 12) × (size * (order - 1) + base < 192) }
-    ensures { result ≡ cond (eqb table 0) zero_f (get_or cfode_of (192 * (table - 1) + size * (order - 1) + base) nan) }
+fn number<const SIZE: usize>(table: usize, base: usize, order: usize) -> f64
+    requires { (table ≤ 2) × (1 ≤ order) × (order ≤ 12) × (SIZE * (order - 1) + base < 192) }
+    ensures { result ≡ cond (eqb table 0) zero_f (get_or cfode_of (192 * (table - 1) + SIZE * (order - 1) + base) nan) }
 {
     if table == 0 {
         0.0
     } else {
-        coefficient(192 * (table - 1) + size * (order - 1) + base)
+        coefficient(192 * (table - 1) + SIZE * (order - 1) + base)
     }
 }
 
@@ -466,7 +466,7 @@ pub fn elco(table: usize, order: usize, i: usize) -> f64
     requires { (table ≤ 2) × (1 ≤ order) × (order ≤ 12) × (i ≤ 12) }
     ensures { result ≡ elco_of table order i }
 {
-    number(table, i, 13, order)
+    number::<13>(table, i, order)
 }
 
 // Error entry i of the given order in the table in force.
@@ -475,7 +475,7 @@ pub fn tesco(table: usize, order: usize, i: usize) -> f64
     requires { (table ≤ 2) × (1 ≤ order) × (order ≤ 12) × (i ≤ 2) }
     ensures { result ≡ tesco_of table order i }
 {
-    number(table, 156 + i, 3, order)
+    number::<3>(table, 156 + i, order)
 }
 
 // The error constant of a family's method of the given order; 0 before the first setup.
