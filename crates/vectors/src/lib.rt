@@ -91,15 +91,15 @@ impl Four {
     }
 
     // The sums of the rows i to i + 3 with entry j more.
-    fn with_column(self, n: usize, a: &[f64], w: &[f64], i: usize, j: usize) -> Four
-        requires { (i + 4 ≤ n) × (j * n + n ≤ length a.now) × (j < length w.now) }
-        ensures { result ≡ row_sums_at n a.now w.now i j self }
+    fn with_column(self, m: &Weighted<'_>, i: usize, j: usize) -> Four
+        requires { (i + 4 ≤ m.now.n) × (j < m.now.n) }
+        ensures { result ≡ row_sums_at m.now.n m.now.a.now m.now.w.now i j self }
     {
         Four {
-            a: add_entry(n, a, w, i, j, self.a),
-            b: add_entry(n, a, w, i + 1, j, self.b),
-            c: add_entry(n, a, w, i + 2, j, self.c),
-            d: add_entry(n, a, w, i + 3, j, self.d),
+            a: m.add_entry(i, j, self.a),
+            b: m.add_entry(i + 1, j, self.b),
+            c: m.add_entry(i + 2, j, self.c),
+            d: m.add_entry(i + 3, j, self.d),
         }
     }
 }
@@ -121,49 +121,61 @@ pub fn vmnorm(v: &[f64], w: &[f64]) -> Norm
     Norm { value }
 }
 
-// The sum of row i with entry j more, divided by its column's weight.
-fn add_entry(n: usize, a: &[f64], w: &[f64], i: usize, j: usize, sum: f64) -> f64
-    requires { (i < n) × (j * n + n ≤ length a.now) × (j < length w.now) }
-    ensures { result ≡ row_at n a.now w.now i j sum }
-{
-    sum + numbers::abs(a[i + j * n]) / w[j]
+// A matrix of n columns, the entry in row i of column j at i + j·n, and the weights of its rows.
+#[derive(Clone, Copy)]
+struct Weighted<'a> {
+    n: usize,
+    a: &'a [f64],
+    w: &'a [f64],
+    ghost square: { n * n ≤ length a.now },
+    ghost weighed: { n ≤ length w.now },
 }
 
-// The sum of row i of the matrix, each entry divided by its column's weight.
-fn row_sum(n: usize, a: &[f64], w: &[f64], i: usize) -> f64
-    requires { (i < n) × (n * n ≤ length a.now) × (n ≤ length w.now) }
-    ensures { result ≡ row_of n a.now w.now i }
-{
-    let mut sum = 0.0;
-    for j in 0..n {
-        sum = add_entry(n, a, w, i, j, sum);
+impl Weighted<'_> {
+    // The sum of row i with entry j more, divided by its column's weight.
+    fn add_entry(&self, i: usize, j: usize, sum: f64) -> f64
+        requires { (i < self.now.n) × (j < self.now.n) }
+        ensures { result ≡ row_at self.now.n self.now.a.now self.now.w.now i j sum }
+    {
+        sum + numbers::abs(self.a[i + j * self.n]) / self.w[j]
     }
-    sum
-}
 
-// The sums of the rows i to i + 3.
-fn row_sums(n: usize, a: &[f64], w: &[f64], i: usize) -> Four
-    requires { (i + 4 ≤ n) × (n * n ≤ length a.now) × (n ≤ length w.now) }
-    ensures { result ≡ row_sums_of n a.now w.now i }
-{
-    let mut s = ZEROS;
-    for j in 0..n {
-        s = s.with_column(n, a, w, i, j);
+    // The sum of row i of the matrix, each entry divided by its column's weight.
+    fn row_sum(&self, i: usize) -> f64
+        requires { i < self.now.n }
+        ensures { result ≡ row_of self.now.n self.now.a.now self.now.w.now i }
+    {
+        let mut sum = 0.0;
+        for j in 0..self.n {
+            sum = self.add_entry(i, j, sum);
+        }
+        sum
     }
-    s
-}
 
-// The matrix norm with the rows i to i + 3 more.
-fn four_rows(n: usize, a: &[f64], w: &[f64], i: usize, an: f64) -> f64
-    requires i_bound { (i + 4 ≤ n) × (n * n ≤ length a.now) × (n ≤ length w.now) }
-    requires an_value { Ieee.ne an an ≡ false }
-    ensures { result ≡ four_rows_at n a.now w.now i an }
-{
-    let s = row_sums(n, a, w, i);
-    let first = larger(an, s.a * w[i]);
-    let second = larger(first, s.b * w[i + 1]);
-    let third = larger(second, s.c * w[i + 2]);
-    larger(third, s.d * w[i + 3])
+    // The sums of the rows i to i + 3.
+    fn row_sums(&self, i: usize) -> Four
+        requires { i + 4 ≤ self.now.n }
+        ensures { result ≡ row_sums_of self.now.n self.now.a.now self.now.w.now i }
+    {
+        let mut s = ZEROS;
+        for j in 0..self.n {
+            s = s.with_column(self, i, j);
+        }
+        s
+    }
+
+    // The matrix norm with the rows i to i + 3 more.
+    fn four_rows(&self, i: usize, an: f64) -> f64
+        requires i_bound { i + 4 ≤ self.now.n }
+        requires an_value { Ieee.ne an an ≡ false }
+        ensures { result ≡ four_rows_at self.now.n self.now.a.now self.now.w.now i an }
+    {
+        let s = self.row_sums(i);
+        let first = larger(an, s.a * self.w[i]);
+        let second = larger(first, s.b * self.w[i + 1]);
+        let third = larger(second, s.c * self.w[i + 2]);
+        larger(third, s.d * self.w[i + 3])
+    }
 }
 
 // The norm of a matrix of n columns that belongs to vmnorm.
@@ -171,12 +183,13 @@ pub fn fnorm_dense(n: usize, a: &[f64], w: &[f64]) -> Norm
     requires { (n * n ≤ length a.now) × (n ≤ length w.now) }
     ensures { result ≡ fnorm_of n a.now w.now }
 {
+    let m = Weighted { n, a, w };
     let mut value = 0.0;
     for k in 0..n / 4 {
-        value = four_rows(n, a, w, 4 * k, value);
+        value = m.four_rows(4 * k, value);
     }
     for i in n / 4 * 4..n {
-        value = larger(value, row_sum(n, a, w, i) * w[i]);
+        value = larger(value, m.row_sum(i) * w[i]);
     }
     Norm { value }
 }
