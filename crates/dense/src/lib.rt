@@ -56,8 +56,8 @@ fn scale(a: &mut [f64], n: usize, k: usize)
     ensures { a.new ≡ scale_of n k a.old }
 {
     let diag = a[k + k * n];
-    for i in k + 1..n {
-        a[i + k * n] /= diag;
+    for x in &mut a[k * n + k + 1..k * n + n] {
+        *x /= diag;
     }
 }
 
