@@ -14,8 +14,8 @@ use lib.Ieee.{Float, nan}
 use borrow.Author.Tests.{eqb-false, ltb-true, ltb-false}
 use Rattle.loops.proofs.Test.{differs}
 use Rattle.numbers.specs.Float.{zero_f}
-use Rattle.vectors.specs.declared.Weights.{Weights}
-use Rattle.vectors.specs.declared.Weights.TheVariants.{Inverted, Refused}
+use Rattle.std.specs.Prelude.{Result, Ok, Err}
+use Rattle.vectors.specs.declared.NotPositive.{NotPositive}
 use Rattle.vectors.specs.Weights.{invert_of, weights_outcome}
 use Rattle.vectors.proofs.Laws.{inverted as inverts, stopped}
 use Rattle.common.specs.State.{put_w}
@@ -44,11 +44,11 @@ module _ (l : List Float) where
   Good j = Ieee.le (get_or l j nan) zero_f ≡ false
 
   -- refused at an index, or all inverted
-  data Found (o : Weights) : Type 0 where
-    bad : (i : ℕ) → FirstBad l i → o ≡ Refused i → Found o
-    good : AllGood l → o ≡ Inverted → Found o
+  data Found (o : Result Unit NotPositive) : Type 0 where
+    bad : (i : ℕ) → FirstBad l i → o ≡ Err (record { index = i }) → Found o
+    good : AllGood l → o ≡ Ok tt → Found o
 
-  found_at : (r : Bool) → (invert_of l).refused ≡ r → Found (cond r (Refused (invert_of l).index) Inverted)
+  found_at : (r : Bool) → (invert_of l).refused ≡ r → Found (cond r (Err (record { index = (invert_of l).index })) (Ok tt))
   found_at true e =
       let s = stopped l e in
       bad (invert_of l).index (record { here = (s.within, s.refused); before = s.done.passed }) refl
@@ -90,7 +90,7 @@ module _ (kind : ℕ) (numbers : List Float) (time : Float) (b : Buffers) where
   abbrev unfit : Bool
   unfit = is_refused numbers b
 
-  abbrev said : Weights → Reply
+  abbrev said : Result Unit NotPositive → Reply
   said o =
       question_reply (weighted_at (given_in b) (put_w (inverted x.settings.n (weighed numbers b)) (state_in b)) o
       ).question
@@ -101,12 +101,12 @@ module _ (kind : ℕ) (numbers : List Float) (time : Float) (b : Buffers) where
     stepped : AllGood weights → unfit ≡ true → reply ≡ plain_reply 11 0 (stored_step numbers b) zero_f → Says
     reported : AllGood weights → unfit ≡ false → reply.number ≡ 102 → Says
 
-  sized : (t : Bool) → unfit ≡ t → AllGood weights → reply ≡ said Inverted → Says
+  sized : (t : Bool) → unfit ≡ t → AllGood weights → reply ≡ said (Ok tt) → Says
   unfolding weighted_at sized_of sized_at
   sized true f g q = stepped g f (q ∙ rw f)
   sized false f g q = reported g f (ap (λ (a : Reply). a.number) q ∙ rw f)
 
-  says_at : (o : Weights) → reply ≡ said o → Found weights o → Says
+  says_at : (o : Result Unit NotPositive) → reply ≡ said o → Found weights o → Says
   unfolding weighted_at
   says_at o e (bad i p q) = weighty i p (e ∙ ap said q)
   says_at o e (good g q) = sized unfit refl g (e ∙ ap said q)

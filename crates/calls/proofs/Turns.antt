@@ -17,8 +17,8 @@ use borrow.Author.Tests.{eqb-true, leb-true}
 use Rattle.loops.proofs.Test.{differs, one_of}
 use Rattle.numbers.specs.Float.{one_f}
 use Rattle.numbers.specs.Sign.{refused}
-use Rattle.vectors.specs.declared.Weights.{Weights}
-use Rattle.vectors.specs.declared.Weights.TheVariants.{Inverted, Refused}
+use Rattle.std.specs.Prelude.{Result, Ok, Err}
+use Rattle.vectors.specs.declared.NotPositive.{NotPositive}
 use Rattle.common.specs.declared.Settings.{Settings}
 use Rattle.common.specs.declared.Common.{Common}
 use Rattle.common.specs.Limits.{mxncf_of}
@@ -115,10 +115,10 @@ module _ (g : Given) (before : Phase) (kind : Kind) where
   abbrev Fine : RunState → Type 0
   Fine l = Good g.s before kind l
 
-  closed : (x : State) (v : Weights) → Fine (closed_at g.s.n x v)
+  closed : (x : State) (v : Result Unit NotPositive) → Fine (closed_at g.s.n x v)
   unfolding closed_at reported_of
-  closed x (Refused i) = record { agrees = refl; means = refl }
-  closed x Inverted = record { agrees = (refl, refl, refl); means = (refl, refl) }
+  closed x (Err e) = record { agrees = refl; means = refl }
+  closed x (Ok u) = record { agrees = (refl, refl, refl); means = (refl, refl) }
 
   close : (order : ℕ) (x : State) → Fine (end_step_of g x order)
   unfolding end_step_of
@@ -207,10 +207,10 @@ module _ (g : Given) (x : State) (reply : List Float) (time : Float) where
   sized-at kind true z h e = record { agrees = refl; means = (refl, refl, e) }
   sized-at kind false z h e = record { agrees = (refl, refl); means = (refl, refl, refl) }
 
-  weighted-at : (kind : Kind) (v : Weights) (z : State) → Good s Phase.FirstDerivative kind (weighted_at g z v)
+  weighted-at : (kind : Kind) (v : Result Unit NotPositive) (z : State) → Good s Phase.FirstDerivative kind (weighted_at g z v)
   unfolding weighted_at sized_of
-  weighted-at kind (Refused i) z = record { agrees = refl; means = refl }
-  weighted-at kind Inverted z =
+  weighted-at kind (Err e) z = record { agrees = refl; means = refl }
+  weighted-at kind (Ok u) z =
       let h = first_step_of s z.c g.rtol g.atol z.w in sized-at kind (refused h s.direction) z h refl
 
   first-report : (a : Answer) → Taken Phase.FirstReport (Kind.Report a)

@@ -40,7 +40,7 @@ told true = refl
 told false = refl
 
 -- there is one refusal
-pub singular : {A : Type 0} (r : Result A Singular) → IsErr r → r ≡ Err (record { })
+pub singular : {A : Type 0} (r : Result A Singular) → IsErr r → r ≡ Err (record {})
 singular (Ok x) e = cc
 singular (Err x) e = refl
 

@@ -1,6 +1,8 @@
 // Factoring and solving with a dense matrix of n columns, the entry in row i of column j at i + j·n.
 // The factoring exchanges whole rows, multipliers included; the solve mixes exchanges with elimination.
 // The solve works on one slice that has the right side at b and the matrix at a.
+// Loops by index: `column` and `less` read one part of the slice that they write another of, and the others hand on the
+// row or column that they are at. A struct of a and n would hold a `&mut` whose name each contract had to keep.
 #![tactic(auto)]
 
 ghost use Rattle.std.specs.Prelude.{◌≡◌, true, ℕ, ◌+◌, ◌*◌, ◌<◌, ◌≤◌, length, get_or};
@@ -54,8 +56,8 @@ fn scale(a: &mut [f64], n: usize, k: usize)
     ensures { a.new ≡ scale_of n k a.old }
 {
     let diag = a[k + k * n];
-    for i in k + 1..n {
-        a[i + k * n] /= diag;
+    for x in &mut a[k * n + k + 1..k * n + n] {
+        *x /= diag;
     }
 }
 

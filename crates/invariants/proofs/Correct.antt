@@ -16,7 +16,7 @@ use Rattle.common.specs.declared.MethodFamily.{MethodFamily}
 use Rattle.common.specs.declared.MethodFamily.TheVariants.{Adams, Bdf}
 use Rattle.common.specs.Record.{is_bdf}
 use Rattle.jacobian.specs.Jacobian.{begin_of, finish_jacobian_of}
-use Rattle.corrector.specs.declared.Correction.{Correction}
+use Rattle.corrector.specs.Iterate.{Correction}
 use Rattle.corrector.specs.declared.Verdict.{Verdict}
 use Rattle.corrector.specs.Verdict.{rm_of, rated_of, dcon_of, pdest_of, estimated_of, judged_converged, give_up_of}
 use Rattle.corrector.specs.Verdict.{strays}

@@ -13,8 +13,8 @@ use lib.ListN.{length}
 use borrow.Author.Tests.{eqb-true, ltb-true}
 use Rattle.numbers.specs.Float.{zero_f, one_f}
 use Rattle.numbers.specs.Sign.{refused}
-use Rattle.vectors.specs.declared.Weights.{Weights}
-use Rattle.vectors.specs.declared.Weights.TheVariants.{Inverted, Refused}
+use Rattle.std.specs.Prelude.{Result, Ok, Err}
+use Rattle.vectors.specs.declared.NotPositive.{NotPositive}
 use Rattle.vectors.specs.Weights.{ewset_of, ewset_like_of}
 use Rattle.vectors.proofs.Laws.{length-ewset, length-ewset-like}
 use Rattle.common.specs.declared.Settings.{Settings}
@@ -100,10 +100,10 @@ module _ {g : Given} {time : Float} {B S O : Invariant} (k : Keeps g time B S O)
       attempted _ _
       (k.unconverged _ (k.step-work _ h _ (λ r. (Attempt.unconverged s x.c x.w).sized)) x.w)
 
-  closed_at_lem : (v : Weights) (x : State) → B x → Stays (closed_at n x v)
+  closed_at_lem : (v : Result Unit NotPositive) (x : State) → B x → Stays (closed_at n x v)
   unfolding closed_at reported_of
-  closed_at_lem (Refused i) x h = k.over _ h
-  closed_at_lem Inverted x h = k.totalled _ (k.between-work _ h _ (λ r. length-copy n (y_at n) 0 x.w)) _
+  closed_at_lem (Err e) x h = k.over _ h
+  closed_at_lem (Ok u) x h = k.totalled _ (k.between-work _ h _ (λ r. length-copy n (y_at n) 0 x.w)) _
 
   closes : (order : ℕ) (x : State) → B x → Stays (end_step_of g x order)
   unfolding end_step_of
@@ -186,10 +186,10 @@ module _ {g : Given} {time : Float} {B S O : Invariant} (k : Keeps g time B S O)
   sized-at true x h = k.over _ (k.first_step _ h x.w)
   sized-at false x h = k.first-size _ (k.between-work _ h _ (λ r. length-slope n _ x.w)) x.w
 
-  weighted-at : (v : Weights) (x : State) → B x → Stays (weighted_at g x v)
+  weighted-at : (v : Result Unit NotPositive) (x : State) → B x → Stays (weighted_at g x v)
   unfolding weighted_at sized_of
-  weighted-at (Refused i) x h = k.over _ h
-  weighted-at Inverted x h =
+  weighted-at (Err e) x h = k.over _ h
+  weighted-at (Ok u) x h =
       sized-at (refused (first_step_of s x.c g.rtol g.atol x.w) s.direction) x h
 
   jacobian : (f : List Float) (x : State) → S x → Stays (jacobian_reply_of g x f)

@@ -8,8 +8,8 @@ use Prim.Native.Nat.{ℕ, ◌≤◌}
 use lib.Dec.{leb}
 use lib.Ieee.{Float}
 use Rattle.numbers.specs.Sign.{refused}
-use Rattle.vectors.specs.declared.Weights.{Weights}
-use Rattle.vectors.specs.declared.Weights.TheVariants.{Inverted, Refused}
+use Rattle.std.specs.Prelude.{Result, Ok, Err}
+use Rattle.vectors.specs.declared.NotPositive.{NotPositive}
 use Rattle.vectors.specs.Weights.{invert_of, weights_outcome}
 use Rattle.common.specs.Layout.{ewt}
 use Rattle.common.specs.State.{Given, State, put_w}
@@ -60,12 +60,12 @@ module _ (g : Given) (some : 1 ≤ g.s.n) where
             (first-answered-stands (sized_state g h x) b f t (a b f t q)),
       )
 
-  weighted-stands : (w : Weights) (x : State) → Alive g.s.n (weighted g w x)
+  weighted-stands : (w : Result Unit NotPositive) (x : State) → Alive g.s.n (weighted g w x)
       → AtNode g (weighted g w x) (weighted_at g x w)
   unfolding weighted weighted_at sized_of shown_as
-  weighted-stands (Refused i) x a =
+  weighted-stands (Err e) x a =
       record { shows = refl; holds = record { same = refl; takes = λ r. refl } }
-  weighted-stands Inverted x a = sized-stands (refused (first_step g x) g.s.direction) (first_step g x) x a
+  weighted-stands (Ok u) x a = sized-stands (refused (first_step g x) g.s.direction) (first_step g x) x a
 
   started-stands : (f : List Float) (x : State) → Alive g.s.n (started g f x)
       → AtNode g (started g f x) (first_derivative_of g x f)

@@ -10,8 +10,8 @@ use lib.Dec.{leb}
 use lib.Ieee as Ieee
 use lib.Ieee.{Float}
 use Rattle.numbers.specs.Float.{one_f}
-use Rattle.vectors.specs.declared.Weights.{Weights}
-use Rattle.vectors.specs.declared.Weights.TheVariants.{Inverted, Refused}
+use Rattle.std.specs.Prelude.{Result, Ok, Err}
+use Rattle.vectors.specs.declared.NotPositive.{NotPositive}
 use Rattle.common.specs.Limits.{mxncf_of}
 use Rattle.common.specs.State.{Given, State, put_w}
 use Rattle.attempt.specs.declared.Next.{Next}
@@ -73,12 +73,12 @@ module _ (g : Given) where
         derivative-stands g (modified g f x) _ Phase.Modified (λ kind len n. refl)
         (λ d u h. onward (restarted g d (modified g f x)) (a d h))
 
-    closed-stands : (w : Weights) (x : State) → Alive g.s.n (closed g on w x)
+    closed-stands : (w : Result Unit NotPositive) (x : State) → Alive g.s.n (closed g on w x)
         → AtNode g (closed g on w x) (closed_at g.s.n x w)
     unfolding closed closed_at reported_of shown_as resume_at
-    closed-stands (Refused i) x a =
+    closed-stands (Err e) x a =
         record { shows = refl; holds = record { same = refl; takes = λ r. refl } }
-    closed-stands Inverted x a =
+    closed-stands (Ok u) x a =
         let l = reported_of g.s.n x in (
           record { shows = refl; holds = record { same = refl; takes = λ r. refl } },
           λ b f t h. rw (takes-answer g l f t b (λ k. refl) h) (answered-stands (reported_state g x) b f t (a b f t h)),

@@ -8,8 +8,8 @@ use Prim.Native.Nat.{ℕ, zero, suc, ◌+◌, ◌*◌, ◌≤◌}
 use native.Mathlib.Nat.{suc-mul}
 use native.Mathlib.Omega.{arith}
 use lib.Ieee.{Float}
-use Rattle.vectors.specs.declared.Weights.{Weights}
-use Rattle.vectors.specs.declared.Weights.TheVariants.{Inverted, Refused}
+use Rattle.std.specs.Prelude.{Result, Ok, Err}
+use Rattle.vectors.specs.declared.NotPositive.{NotPositive}
 use Rattle.common.specs.declared.Settings.{Settings}
 use Rattle.common.specs.State.{Given, State}
 use Rattle.corrector.specs.declared.Pass.{Pass}
@@ -131,11 +131,11 @@ module _ (g : Given) (acc : Accepted g.s) where
     answered-few x Modified y t zero h = absurd (omega arith)
     answered-few x Modified y t (suc m) h = λ f. after _ m (omega arith)
 
-    closed-few : (weights : Weights) (x : State) (m : ℕ) → 2 + M ≤ m → EndsIn (closed g on weights x) m
+    closed-few : (weights : Result Unit NotPositive) (x : State) (m : ℕ) → 2 + M ≤ m → EndsIn (closed g on weights x) m
     unfolding closed
-    closed-few (Refused i) x m h = tt
-    closed-few Inverted x zero h = absurd (omega arith)
-    closed-few Inverted x (suc m) h = λ a y t. answered-few _ a y t m (omega arith)
+    closed-few (Err e) x m h = tt
+    closed-few (Ok u) x zero h = absurd (omega arith)
+    closed-few (Ok u) x (suc m) h = λ a y t. answered-few _ a y t m (omega arith)
 
     settled-few : (order : ℕ) (gap : Bool) (x : State) (m : ℕ) → 2 + M ≤ m
         → EndsIn (after_acceptance g on order gap x) m
@@ -184,10 +184,10 @@ module _ (g : Given) (acc : Accepted g.s) where
   sized-few false size x zero h = absurd (omega arith)
   sized-few false size x (suc m) h = λ a y t. first-answered-few _ a y t m (omega arith)
 
-  weighted-few : (weights : Weights) (x : State) (m : ℕ) → 2 + s.maxsteps * whole ≤ m → EndsIn (weighted g weights x) m
+  weighted-few : (weights : Result Unit NotPositive) (x : State) (m : ℕ) → 2 + s.maxsteps * whole ≤ m → EndsIn (weighted g weights x) m
   unfolding weighted
-  weighted-few (Refused i) x m h = tt
-  weighted-few Inverted x m h = sized-few _ _ x m h
+  weighted-few (Err e) x m h = tt
+  weighted-few (Ok u) x m h = sized-few _ _ x m h
 
   start-few : (a : Start) (m : ℕ) → 3 + s.maxsteps * whole ≤ m → EndsIn (start g a) m
   unfolding start started

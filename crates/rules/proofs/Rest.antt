@@ -11,8 +11,8 @@ use Prim.Native.Nat.{ℕ, suc, ◌+◌, ◌-◌, ◌*◌, ◌≤◌, ◌<◌}
 use native.Mathlib.Nat.{suc-mul, mul-add, mul-le-mul_left, mul-one}
 use native.Mathlib.Omega.{arith}
 use lib.Ieee.{Float}
-use Rattle.vectors.specs.declared.Weights.{Weights}
-use Rattle.vectors.specs.declared.Weights.TheVariants.{Inverted, Refused}
+use Rattle.std.specs.Prelude.{Result, Ok, Err}
+use Rattle.vectors.specs.declared.NotPositive.{NotPositive}
 use Rattle.common.specs.declared.MethodFamily.{MethodFamily}
 use Rattle.common.specs.declared.MethodFamily.TheVariants.{Bdf}
 use Rattle.common.specs.declared.Settings.{Settings}
@@ -199,11 +199,11 @@ module _ (g : Given) (acc : Accepted g.s) where
         mul-suc-at : (a k : ℕ) → a * (k + 1) ≡ a * k + a
         mul-suc-at a k = mul-add a k 1 ∙ ap (λ (i : ℕ). a * k + i) (mul-one a)
 
-    closed-whole : (weights : Weights) (x : State) (y : Step) (ys : List Step) → Rest s N x.c (y ∷ ys)
+    closed-whole : (weights : Result Unit NotPositive) (x : State) (y : Step) (ys : List Step) → Rest s N x.c (y ∷ ys)
         → Ample N x.c → x.c.count ≡ y.tally.derivatives → Whole g (closed g on weights x) (y ∷ ys)
     unfolding closed
-    closed-whole (Refused i) x y ys p more e = let k = rest-place x (y ∷ ys) p in ((k.0, tt), k.1)
-    closed-whole Inverted x y ys p more e =
+    closed-whole (Err w) x y ys p more e = let k = rest-place x (y ∷ ys) p in ((k.0, tt), k.1)
+    closed-whole (Ok u) x y ys p more e =
         let q = reported-rest x (y ∷ ys) p in
         let k = rest-place (reported_state g x) (y ∷ ys) q in
         (((k.0, e), k.1), answered-whole (reported_state g x) (y ∷ ys) q more)

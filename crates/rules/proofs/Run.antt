@@ -11,8 +11,8 @@ use native.Mathlib.Omega.{arith}
 use borrow.Author.Tests.{leb-false}
 use lib.Dec.{leb}
 use lib.Ieee.{Float}
-use Rattle.vectors.specs.declared.Weights.{Weights}
-use Rattle.vectors.specs.declared.Weights.TheVariants.{Inverted, Refused}
+use Rattle.std.specs.Prelude.{Result, Ok, Err}
+use Rattle.vectors.specs.declared.NotPositive.{NotPositive}
 use Rattle.common.specs.declared.MethodFamily.{MethodFamily}
 use Rattle.common.specs.declared.MethodFamily.TheVariants.{Adams, Bdf}
 use Rattle.common.specs.declared.Settings.{Settings}
@@ -267,11 +267,11 @@ module _ (g : Given) (acc : Accepted g.s) where
       let k = rest-place g acc z [] q in
       (((k.0, refl), k.1), first-answered z q more)
 
-  weighted-whole : (weights : Weights) (x : State) → Rest s 0 x.c [] → Ample g acc 0 x.c
+  weighted-whole : (weights : Result Unit NotPositive) (x : State) → Rest s 0 x.c [] → Ample g acc 0 x.c
       → Whole g (weighted g weights x) []
   unfolding weighted
-  weighted-whole (Refused i) x p more = let k = rest-place g acc x [] p in ((k.0, tt), k.1)
-  weighted-whole Inverted x p more = sized-whole _ _ x p more
+  weighted-whole (Err e) x p more = let k = rest-place g acc x [] p in ((k.0, tt), k.1)
+  weighted-whole (Ok u) x p more = sized-whole _ _ x p more
 
   beginning-rest : (a : Start) → Rest s 0 (beginning g a).c [] × Ample g acc 0 (beginning g a).c
   unfolding beginning initial_of

@@ -25,7 +25,7 @@ use Rattle.history.specs.Columns.{retract_columns_of}
 use Rattle.history.specs.Steps.{limited_of, adjust_of, predicted_of}
 use Rattle.corrector.specs.declared.Pass.TheVariants as Pass
 use Rattle.corrector.specs.declared.Verdict.{Verdict}
-use Rattle.corrector.specs.declared.Correction.{Correction}
+use Rattle.corrector.specs.Iterate.{Correction}
 use Rattle.corrector.specs.Verdict.{rated_of, dcon_of, estimated_of, judged_converged, old_jacobian, give_up_of, strays}
 use Rattle.corrector.specs.Verdict.{judged_further, judged_tested, rated_verdict, judge_of}
 use Rattle.corrector.proofs.Judged.{Ways, converges, retries, fails, goes_on, judge-ways}

@@ -8,8 +8,8 @@ use Rattle.std.specs.Float.Ieee as Ieee
 use Rattle.loops.specs.Part.{part, put_part}
 use Rattle.numbers.specs.Float.{◌⊕◌, whole, zero_f, one_f, uround}
 use Rattle.numbers.specs.Sign.{refused}
-use Rattle.vectors.specs.declared.Weights.{Weights}
-use Rattle.vectors.specs.declared.Weights.TheVariants.{Inverted, Refused}
+use Rattle.std.specs.Prelude.{Result, Ok, Err}
+use Rattle.vectors.specs.declared.NotPositive.{NotPositive}
 use Rattle.vectors.specs.Weights.{ewset_of, ewset_like_of, invert_of, weights_outcome}
 use Rattle.common.specs.declared.Settings.{Settings}
 use Rattle.common.specs.Layout.{ewt_at, y_at, work_length, y, ewt}
@@ -129,9 +129,9 @@ after_report g on x Modified f t =
     ask (wanted g (modified g f x)) (modified g f x) (λ d. on (restarted g d (modified g f x)))
 
 -- the weights of the new state, inverted or refused (12)
-unfoldable pub closed : Given → (State → Play) → Weights → State → Play
-closed g on (Refused i) x = ret (weight_refused i x)
-closed g on Inverted x =
+unfoldable pub closed : Given → (State → Play) → Result Unit NotPositive → State → Play
+closed g on (Err e) x = ret (weight_refused e.index x)
+closed g on (Ok u) x =
     tell (report_at g (reported_state g x)) (reported_state g x) (after_report g on (reported_state g x))
 
 abbrev pub closing : Given → ℕ → State → Closed
@@ -259,9 +259,9 @@ abbrev pub first_step : Given → State → Float
 first_step g x = first_step_of g.s x.c g.rtol g.atol x.w
 
 -- 12: a weight at most 0
-unfoldable pub weighted : Given → Weights → State → Play
-weighted g (Refused i) x = ret (weight_refused i x)
-weighted g Inverted x = sized g (refused (first_step g x) g.s.direction) (first_step g x) x
+unfoldable pub weighted : Given → Result Unit NotPositive → State → Play
+weighted g (Err e) x = ret (weight_refused e.index x)
+weighted g (Ok u) x = sized g (refused (first_step g x) g.s.direction) (first_step g x) x
 
 -- the first derivative: column 0 is y, and the weights are those of y
 abbrev pub first_weights : Given → List Float → State → List Float

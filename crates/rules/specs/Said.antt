@@ -18,7 +18,7 @@ use Rattle.history.specs.Columns.{retract_columns_of}
 use Rattle.history.specs.Steps.{limited_of}
 use Rattle.corrector.specs.declared.Pass.TheVariants as Pass
 use Rattle.corrector.specs.declared.Verdict.{Verdict}
-use Rattle.corrector.specs.declared.Correction.{Correction}
+use Rattle.corrector.specs.Iterate.{Correction}
 use Rattle.corrector.specs.Verdict.{judge_of}
 use Rattle.attempt.specs.declared.Next.TheVariants.{Pass, Restep, TooSmall, Poor}
 use Rattle.attempt.specs.Attempt.{Attempt, no_convergence_of, failed_of, restep_of}

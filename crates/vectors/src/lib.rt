@@ -1,4 +1,6 @@
 // Norms and weights: vmnorm, fnorm_dense, ewset, invert_weights, initial_step_size.
+// Loops by index: `ewset` and `ewset_scalar_like` read one part of the slice that they write another of, `largest_rtol`
+// goes by a list that may be 1 long, and the norms go four entries or rows at a time (`Four`).
 #![tactic(auto)]
 
 ghost use Rattle.std.specs.Prelude.{◌≡◌, false, ◌+◌, ◌-◌, ◌*◌, ◌≤◌, ◌<◌, length};
@@ -8,7 +10,7 @@ ghost use Rattle.vectors.specs.Tolerance.{List1OrN, tolerance_of};
 ghost use Rattle.vectors.specs.Norm.{entry_of, vmnorm_of, row_at, row_of, fnorm_of};
 ghost use Rattle.vectors.specs.Maxima.{four_at, top_of, row_sums_at, row_sums_of, four_rows_at};
 ghost use Rattle.vectors.specs.Weights.{ewset_of, ewset_like_of, invert_of, weights_outcome};
-ghost use Rattle.vectors.specs.FirstStep.{largest_rtol_of, relative_at, relative_of, tolerance_used_of};
+ghost use Rattle.vectors.specs.FirstStep.{largest_rtol_of, relative_of, tolerance_used_of};
 ghost use Rattle.vectors.specs.FirstStep.{initial_step_of};
 
 // What a norm answers.
@@ -50,7 +52,8 @@ fn entry(v: &[f64], w: &[f64], i: usize) -> f64
     numbers::abs(v[i]) * w[i]
 }
 
-// Four maxima or sums at once, each of its own entries: one chain through all entries would wait for each in turn.
+// Four maxima or sums at once, each of its own entries: 13 instructions an entry of `vmnorm`. One chain through all
+// entries takes 15, and waits for each in turn.
 #[derive(Clone, Copy)]
 pub struct Four {
     pub a: f64,
@@ -91,15 +94,15 @@ impl Four {
     }
 
     // The sums of the rows i to i + 3 with entry j more.
-    fn with_column(self, n: usize, a: &[f64], w: &[f64], i: usize, j: usize) -> Four
-        requires { (i + 4 ≤ n) × (j * n + n ≤ length a.now) × (j < length w.now) }
-        ensures { result ≡ row_sums_at n a.now w.now i j self }
+    fn with_column(self, m: &Weighted<'_>, i: usize, j: usize) -> Four
+        requires { (i + 4 ≤ m.now.n) × (j < m.now.n) }
+        ensures { result ≡ row_sums_at m.now.n m.now.a.now m.now.w.now i j self }
     {
         Four {
-            a: add_entry(n, a, w, i, j, self.a),
-            b: add_entry(n, a, w, i + 1, j, self.b),
-            c: add_entry(n, a, w, i + 2, j, self.c),
-            d: add_entry(n, a, w, i + 3, j, self.d),
+            a: m.add_entry(i, j, self.a),
+            b: m.add_entry(i + 1, j, self.b),
+            c: m.add_entry(i + 2, j, self.c),
+            d: m.add_entry(i + 3, j, self.d),
         }
     }
 }
@@ -121,49 +124,61 @@ pub fn vmnorm(v: &[f64], w: &[f64]) -> Norm
     Norm { value }
 }
 
-// The sum of row i with entry j more, divided by its column's weight.
-fn add_entry(n: usize, a: &[f64], w: &[f64], i: usize, j: usize, sum: f64) -> f64
-    requires { (i < n) × (j * n + n ≤ length a.now) × (j < length w.now) }
-    ensures { result ≡ row_at n a.now w.now i j sum }
-{
-    sum + numbers::abs(a[i + j * n]) / w[j]
+// A matrix of n columns, the entry in row i of column j at i + j·n, and the weights of its rows.
+#[derive(Clone, Copy)]
+struct Weighted<'a> {
+    n: usize,
+    a: &'a [f64],
+    w: &'a [f64],
+    ghost square: { n * n ≤ length a.now },
+    ghost weighed: { n ≤ length w.now },
 }
 
-// The sum of row i of the matrix, each entry divided by its column's weight.
-fn row_sum(n: usize, a: &[f64], w: &[f64], i: usize) -> f64
-    requires { (i < n) × (n * n ≤ length a.now) × (n ≤ length w.now) }
-    ensures { result ≡ row_of n a.now w.now i }
-{
-    let mut sum = 0.0;
-    for j in 0..n {
-        sum = add_entry(n, a, w, i, j, sum);
+impl Weighted<'_> {
+    // The sum of row i with entry j more, divided by its column's weight.
+    fn add_entry(&self, i: usize, j: usize, sum: f64) -> f64
+        requires { (i < self.now.n) × (j < self.now.n) }
+        ensures { result ≡ row_at self.now.n self.now.a.now self.now.w.now i j sum }
+    {
+        sum + numbers::abs(self.a[i + j * self.n]) / self.w[j]
     }
-    sum
-}
 
-// The sums of the rows i to i + 3.
-fn row_sums(n: usize, a: &[f64], w: &[f64], i: usize) -> Four
-    requires { (i + 4 ≤ n) × (n * n ≤ length a.now) × (n ≤ length w.now) }
-    ensures { result ≡ row_sums_of n a.now w.now i }
-{
-    let mut s = ZEROS;
-    for j in 0..n {
-        s = s.with_column(n, a, w, i, j);
+    // The sum of row i of the matrix, each entry divided by its column's weight.
+    fn row_sum(&self, i: usize) -> f64
+        requires { i < self.now.n }
+        ensures { result ≡ row_of self.now.n self.now.a.now self.now.w.now i }
+    {
+        let mut sum = 0.0;
+        for j in 0..self.n {
+            sum = self.add_entry(i, j, sum);
+        }
+        sum
     }
-    s
-}
 
-// The matrix norm with the rows i to i + 3 more.
-fn four_rows(n: usize, a: &[f64], w: &[f64], i: usize, an: f64) -> f64
-    requires i_bound { (i + 4 ≤ n) × (n * n ≤ length a.now) × (n ≤ length w.now) }
-    requires an_value { Ieee.ne an an ≡ false }
-    ensures { result ≡ four_rows_at n a.now w.now i an }
-{
-    let s = row_sums(n, a, w, i);
-    let first = larger(an, s.a * w[i]);
-    let second = larger(first, s.b * w[i + 1]);
-    let third = larger(second, s.c * w[i + 2]);
-    larger(third, s.d * w[i + 3])
+    // The sums of the rows i to i + 3.
+    fn row_sums(&self, i: usize) -> Four
+        requires { i + 4 ≤ self.now.n }
+        ensures { result ≡ row_sums_of self.now.n self.now.a.now self.now.w.now i }
+    {
+        let mut s = ZEROS;
+        for j in 0..self.n {
+            s = s.with_column(self, i, j);
+        }
+        s
+    }
+
+    // The matrix norm with the rows i to i + 3 more.
+    fn four_rows(&self, i: usize, an: f64) -> f64
+        requires i_bound { i + 4 ≤ self.now.n }
+        requires an_value { Ieee.ne an an ≡ false }
+        ensures { result ≡ four_rows_at self.now.n self.now.a.now self.now.w.now i an }
+    {
+        let s = self.row_sums(i);
+        let first = larger(an, s.a * self.w[i]);
+        let second = larger(first, s.b * self.w[i + 1]);
+        let third = larger(second, s.c * self.w[i + 2]);
+        larger(third, s.d * self.w[i + 3])
+    }
 }
 
 // The norm of a matrix of n columns that belongs to vmnorm.
@@ -171,12 +186,13 @@ pub fn fnorm_dense(n: usize, a: &[f64], w: &[f64]) -> Norm
     requires { (n * n ≤ length a.now) × (n ≤ length w.now) }
     ensures { result ≡ fnorm_of n a.now w.now }
 {
+    let m = Weighted { n, a, w };
     let mut value = 0.0;
     for k in 0..n / 4 {
-        value = four_rows(n, a, w, 4 * k, value);
+        value = m.four_rows(4 * k, value);
     }
     for i in n / 4 * 4..n {
-        value = larger(value, row_sum(n, a, w, i) * w[i]);
+        value = larger(value, m.row_sum(i) * w[i]);
     }
     Norm { value }
 }
@@ -229,27 +245,16 @@ fn largest_rtol(rtol: &[f64], n: usize) -> f64
     tol
 }
 
-// tol, or the absolute tolerance of state i relative to it where that is larger; a state that is 0 has none.
-fn relative(atol: &[f64], y: &[f64], i: usize, tol: f64) -> f64
-    requires list1or_n { List1OrN atol.now i }
-    requires i_in_bounds { i < length y.now }
-    ensures { result ≡ relative_at atol.now y.now i tol }
-{
-    if y[i] != 0.0 {
-        numbers::max(tol, tolerance(atol, i) / numbers::abs(y[i]))
-    } else {
-        tol
-    }
-}
-
-// The largest of these over all states, from `start` on.
+// The largest absolute tolerance relative to its state, from `start` on; a state that is 0 has none.
 fn largest_relative(atol: &[f64], y: &[f64], start: f64) -> f64
     requires { List1OrN atol.now (length y.now - 1) }
     ensures { result ≡ relative_of atol.now y.now start }
 {
     let mut tol = start;
-    for i in 0..y.len() {
-        tol = relative(atol, y, i, tol);
+    for (i, state) in y.iter().enumerate() {
+        if *state != 0.0 {
+            tol = numbers::max(tol, tolerance(atol, i) / numbers::abs(*state));
+        }
     }
     tol
 }

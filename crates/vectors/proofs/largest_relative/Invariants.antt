@@ -8,4 +8,4 @@ use Rattle.vectors.proofs.largest_relative.Given as goal
 
 abbrev pub invariant-loop-i : goal.invariant-loop-i
 invariant-loop-i l =
-    (l.i-end ≡ length l.y) × (for l.i (length l.y) (relative_at l.atol l.y) l.tol ≡ relative_of l.atol l.y l.start)
+    for l.i (length l.y) (relative_at l.atol l.y) l.tol ≡ relative_of l.atol l.y l.start

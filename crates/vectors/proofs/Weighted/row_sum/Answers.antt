@@ -1,16 +1,12 @@
 use mathlib.Core.Path.{refl}
 use native.Mathlib.Omega.{arith}
-use Rattle.loops.proofs.For.{again, ended, within}
+use Rattle.loops.proofs.For.{again, ended}
 use Rattle.vectors.specs.Norm.{row_of}
-use Rattle.vectors.proofs.row_sum.Goals as goal
+use Rattle.vectors.proofs.Weighted.row_sum.Goals as goal
 
 pub loop-j-init : goal.loop-j-init
 unfolding row_of
 loop-j-init c = refl
-
-pub add_entry-sum-requires : goal.add_entry-sum-requires
-add_entry-sum-requires c =
-    (c.requires.0, omega (arith, within c.args.n c.args.n c.loop-j.j c.loop-j-test.true), omega arith)
 
 pub loop-j-preserved : goal.loop-j-preserved
 loop-j-preserved c = rw c.add_entry-sum.ensures (again _ _ _ _ _ (omega arith) c.loop-j.invariant)
