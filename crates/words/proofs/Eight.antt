@@ -1,5 +1,5 @@
 -- Words in bytes: what was put is what stands there, and every other word stays.
---     eight-read, eight-put      a word is the number of its eight bytes, and is put as a part of them
+--     eight-put                  a word is put as its eight bytes
 --     length-put                 the bytes keep their number
 --     word_back, word-other      word k after a word was put at k, and elsewhere
 -- Assumes nothing.
@@ -12,9 +12,8 @@ use native.Mathlib.Nat.{add-zero, mod-eq_of_lt, div-div-eq-div-mul}
 use lib.ListN.{length, length-set, get_or, set, take, drop}
 use lib.Seq.{get_or-set_other, sets, sets-eq, get_or-append-add, length-take-le, drop-drop}
 use lib.Dec.{lit<}
-use Rattle.std.specs.Int.{w64, to_le_bytes, from_le_bytes}
-use Rattle.loops.specs.Part.{part, put_part}
-use Rattle.loops.proofs.Part.{get_d_part}
+use Rattle.std.specs.Int.{w64, to_le_bytes}
+use Rattle.loops.specs.Part.{put_part}
 use Rattle.words.specs.Words.{word_at, put_word}
 
 pub length-put : (s : List ℕ) (at w : ℕ) → length (put_word s at w) ≡ length s
@@ -47,23 +46,6 @@ eight w b =
     let d2 : w / 65536 % 256 + 256 * (w / 16777216) ≡ w / 65536 = rw div-div-eq-div-mul at (digit (w / 65536)) in
     let d1 : w / 256 % 256 + 256 * (w / 65536) ≡ w / 256 = rw div-div-eq-div-mul at (digit (w / 256)) in
     rw (m7, d6, d5, d4, d3, d2, d1) (digit w)
-
-pub eight-read : (s : List ℕ) (at : ℕ) → at + 8 ≤ length s → from_le_bytes w64 (part at 8 s) ≡ word_at s at
-unfolding word_at
-eight-read s at h =
-    let b : (k : ℕ) → k < 8 → get_or (part at 8 s) k 0 ≡ get_or s (at + k) 0 = λ k l. get_d_part at 8 s h k 0 l in
-    let z : get_or (part at 8 s) 0 0 ≡ get_or s at 0 = rw add-zero at (b 0 (lit< tt)) in
-    omega (
-      arith,
-      z,
-      b 1 (lit< tt),
-      b 2 (lit< tt),
-      b 3 (lit< tt),
-      b 4 (lit< tt),
-      b 5 (lit< tt),
-      b 6 (lit< tt),
-      b 7 (lit< tt),
-    )
 
 sets-other : (l : List ℕ) (i : ℕ) (vs : List ℕ) (j : ℕ) → (j < i) ⊎ (i + length vs ≤ j)
     → get_or (sets l i vs) j 0 ≡ get_or l j 0
