@@ -1,11 +1,11 @@
 -- A stored call of a leaf, made again: what it answers and leaves, and whether that is what is stored.
 -- Where b holds several lists, they stand one behind the other. Of calls that are not stored it says nothing.
-use Rattle.std.specs.Prelude.{Bool, true, cond, ◌&&◌, List, ℕ, ◌+◌, ◌-◌, ◌*◌, ◌/◌, eqb, leb, ltb, length, get_or}
-use Rattle.std.specs.Prelude.{set, take, drop, replicate, Float}
+use Rattle.std.specs.Prelude.{Bool, not, cond, ◌&&◌, List, ℕ, ◌+◌, ◌-◌, ◌*◌, ◌/◌, eqb, leb, ltb, length, get_or}
+use Rattle.std.specs.Prelude.{nat_eq, set, take, drop, replicate, count_by, Float}
+use Rattle.std.specs.List.{list_all, enumerate_from, range_with_len}
 use Rattle.std.specs.Float.Ieee as Ieee
-use Rattle.std.specs.Float.{nan, binary64}
+use Rattle.std.specs.Float.{binary64}
 use Rattle.loops.specs.For.{for}
-use Rattle.loops.specs.Count.{differing}
 use Rattle.numbers.specs.Float.{zero_f}
 use Rattle.common.specs.Limits.{max_states}
 use Rattle.vectors.specs.Weights.{invert_of, weights_outcome}
@@ -92,30 +92,28 @@ leaf_of h a b m =
     cond (ltb h.kind 3) (leaf_after (leaf_norms h.kind h.p h.q h.x h.y a b) a b m)
     (cond (ltb h.kind 10) (leaf_lists h.kind h.p h.q h.r a b m) (leaf_records h.kind h.x a b m))
 
--- a list filled from the stored numbers, and whether its entries are the stored ones
-abbrev pub stored_float_at : List ℕ → ℕ → ℕ → List Float → List Float
-stored_float_at stored at i list = set list i (Ieee.of_bits binary64 (get_or stored (at + i) 0))
+-- a list filled from the stored numbers, and whether its entries are the stored ones: floats by their patterns
+abbrev pub stored_at : {A : Type 0} → (ℕ → A) → List ℕ → ℕ → ℕ → List A → List A
+stored_at of stored at i list = set list i (of (get_or stored (at + i) 0))
 
-unfoldable pub leaf_floats : List ℕ → ℕ → List Float → List Float
-leaf_floats stored at list = for 0 (length list) (stored_float_at stored at) list
+unfoldable pub leaf_list : {A : Type 0} → (ℕ → A) → List ℕ → ℕ → List A → List A
+leaf_list of stored at list = for 0 (length list) (stored_at of stored at) list
 
-abbrev pub stored_count_at : List ℕ → ℕ → ℕ → List ℕ → List ℕ
-stored_count_at stored at i list = set list i (get_or stored (at + i) 0)
+abbrev pub leaf_floats : List ℕ → ℕ → List Float → List Float
+leaf_floats stored at list = leaf_list (Ieee.of_bits binary64) stored at list
 
-unfoldable pub leaf_counts : List ℕ → ℕ → List ℕ → List ℕ
-leaf_counts stored at list = for 0 (length list) (stored_count_at stored at) list
+abbrev pub leaf_counts : List ℕ → ℕ → List ℕ → List ℕ
+leaf_counts stored at list = leaf_list (λ word. word) stored at list
 
-abbrev pub is_float_at : List Float → List ℕ → ℕ → ℕ → Bool → Bool
-is_float_at list stored at i ok = ok && eqb (bits (get_or list i nan)) (get_or stored (at + i) 0)
+unfoldable pub are_left : {A : Type 0} → (A → ℕ) → List A → List ℕ → ℕ → Bool
+are_left word list stored at =
+    list_all (λ p. nat_eq (word p.1) (get_or stored (at + p.0) 0)) (enumerate_from 0 list)
 
-unfoldable pub are_floats : List Float → List ℕ → ℕ → Bool
-are_floats list stored at = for 0 (length list) (is_float_at list stored at) true
+abbrev pub are_floats : List Float → List ℕ → ℕ → Bool
+are_floats list stored at = are_left (Ieee.to_bits binary64) list stored at
 
-abbrev pub is_count_at : List ℕ → List ℕ → ℕ → ℕ → Bool → Bool
-is_count_at list stored at i ok = ok && eqb (get_or list i 0) (get_or stored (at + i) 0)
-
-unfoldable pub are_counts : List ℕ → List ℕ → ℕ → Bool
-are_counts list stored at = for 0 (length list) (is_count_at list stored at) true
+abbrev pub are_counts : List ℕ → List ℕ → ℕ → Bool
+are_counts list stored at = are_left (λ count. count) list stored at
 
 -- the lists a, b and m are stored from `at` on, and what is left of them behind
 unfoldable pub called_of : Call → List ℕ → List Float → List Float → List ℕ → LeafAfter
@@ -158,4 +156,4 @@ is_same heads stored i =
     (take (length_of heads (11 * i + 10) 16 - 0) (drop 0 (replicate 16 0)))
 
 abbrev pub calls_differ : List ℕ → List ℕ → ℕ
-calls_differ heads stored = differing (is_same heads stored) (length heads / 11)
+calls_differ heads stored = count_by (λ i. not (is_same heads stored i)) (range_with_len 0 (length heads / 11))

@@ -2,10 +2,10 @@
 -- differ from ours.
 -- Of numbers that are not in the sample it says nothing.
 -- Kinds: 0 root, 1 square root, 2 elco, 3 tesco, 4 cm1, 5 cm2, and any other SM1.
-use Rattle.std.specs.Prelude.{Bool, cond, List, ℕ, ◌+◌, ◌*◌, ◌/◌, eqb, length, get_or, Float}
+use Rattle.std.specs.Prelude.{Bool, not, cond, List, ℕ, ◌+◌, ◌*◌, ◌/◌, eqb, length, get_or, count_by, Float}
+use Rattle.std.specs.List.{range_with_len}
 use Rattle.std.specs.Float.Ieee as Ieee
 use Rattle.std.specs.Float.{binary64}
-use Rattle.loops.specs.Count.{differing}
 use Rattle.root.specs.Root.{root_of}
 use Rattle.sqrt.specs.Sqrt.{sqrt_of}
 use Rattle.probe.specs.Probe.{elco_or_nan, tesco_or_nan, cm1_or_nan, cm2_or_nan, sm1_or_nan}
@@ -31,4 +31,4 @@ is_stored l i =
     (get_or l (at + 4) 0)
 
 abbrev pub cases_differ : List ℕ → ℕ
-cases_differ l = differing (is_stored l) (length l / 5)
+cases_differ l = count_by (λ i. not (is_stored l i)) (range_with_len 0 (length l / 5))

@@ -1,22 +1,51 @@
 // A stored call of a leaf, made again: one of the functions of probe on the lists a, b and m that are
 // lent to it, and whether it answers and leaves what the reference did.
-ghost use Rattle.std.specs.Prelude.{◌≡◌, ◌+◌, ◌*◌, ◌≤◌, length, get_or};
+ghost use Rattle.std.specs.Prelude.{◌≡◌, ℕ, ◌+◌, ◌*◌, ◌≤◌, length, get_or};
+ghost use Rattle.std.specs.Float.Ieee as Ieee;
+ghost use Rattle.std.specs.Float.{binary64};
 ghost use Rattle.replay.specs.Leaf.{LeafAfter, leaf_norms, leaf_first_step, leaf_lists, leaf_records, leaf_of};
-ghost use Rattle.replay.specs.Leaf.{leaf_weights, leaf_snapshot, leaf_floats, leaf_counts};
-ghost use Rattle.replay.specs.Leaf.{are_floats, are_counts, called_of, is_left, is_again, call_of, length_of};
-ghost use Rattle.replay.specs.Leaf.{is_same, calls_differ};
-ghost use Rattle.loops.specs.Count.{counted_at};
+ghost use Rattle.replay.specs.Leaf.{leaf_weights, leaf_snapshot, leaf_list, are_left};
+ghost use Rattle.replay.specs.Leaf.{called_of, is_left, is_again, call_of, length_of, is_same, calls_differ};
 ghost use Rattle.probe.specs.Leaves.{WorkLeft};
 ghost use Rattle.probe.specs.Left.{Columns};
 
+// The kinds, as oracle/ numbers them in the stored table: up to 2 on lists that are read, up to 9 on one that is
+// written, and the others on a record. Any other below 3 is initial_step_size, below 10 retract_columns, and from there
+// on interpolate.
+const VMNORM: u64 = 0;
+
+const FNORM_DENSE: u64 = 1;
+
+const EWSET: u64 = 3;
+
+const EWSET_SCALAR_LIKE: u64 = 4;
+
+const INVERT_WEIGHTS: u64 = 5;
+
+const DENSE_LU_FACTOR: u64 = 6;
+
+const DENSE_LU_SOLVE: u64 = 7;
+
+const PREDICT_COLUMNS: u64 = 8;
+
+const CORRECT_COLUMNS: u64 = 10;
+
+const STODA_ADJUST_STEP_SIZE: u64 = 11;
+
+const STODA_GET_PREDICTED_VALUES: u64 = 12;
+
+const STODA_FIRST_CALL_INIT: u64 = 13;
+
+const STODA_RESET: u64 = 14;
+
+const SNAPSHOT_STEP: u64 = 15;
+
 // The lists behind the first stand one behind the other in b: f0, the weights, rtol and atol.
+#[tactic(auto, unfolding(crate::specs::Leaf::leaf_first_step))]
 fn first_step(t: f64, tout: f64, y: &[f64], b: &[f64], n: usize, nrtol: usize) -> u64
     ensures { result ≡ leaf_first_step t tout y.now b.now n nrtol }
 {
-    if common::MAX_STATES < n {
-        return 2;
-    }
-    if common::MAX_STATES < nrtol {
+    if n > common::MAX_STATES || nrtol > common::MAX_STATES {
         return 2;
     }
     let rtol = 2 * n;
@@ -36,6 +65,7 @@ fn first_step(t: f64, tout: f64, y: &[f64], b: &[f64], n: usize, nrtol: usize) -
 }
 
 // rtol and atol stand one behind the other in b.
+#[tactic(auto, unfolding(crate::specs::Leaf::leaf_weights))]
 fn weights(b: &[f64], nrtol: usize, a: &mut [f64], n: usize, at: usize) -> usize
     ensures { ◌≡◌ {A = WorkLeft} (record { number = result; work = a.new })
         (leaf_weights b.now nrtol n at a.old) }
@@ -47,6 +77,7 @@ fn weights(b: &[f64], nrtol: usize, a: &mut [f64], n: usize, at: usize) -> usize
 }
 
 // The record's floats and the work stand one behind the other in b.
+#[tactic(auto, unfolding(crate::specs::Leaf::leaf_snapshot))]
 fn snapshot(b: &[f64], m: &[usize], a: &mut [f64]) -> usize
     ensures { ◌≡◌ {A = Columns} (record { number = result; yh = a.new })
         (leaf_snapshot b.now m.now a.old) }
@@ -57,18 +88,18 @@ fn snapshot(b: &[f64], m: &[usize], a: &mut [f64]) -> usize
     probe::steps::probe_snapshot_step(&b[0..11], m, &b[11..], a)
 }
 
+#[tactic(auto, unfolding(crate::specs::Leaf::leaf_norms))]
 fn of_norms(kind: u64, p: usize, q: usize, x: f64, y: f64, a: &[f64], b: &[f64]) -> u64
     ensures { result ≡ leaf_norms kind p q x y a.now b.now }
 {
-    if kind == 0 {
-        return numbers::to_bits(probe::probe_vmnorm(a, b));
+    match kind {
+        VMNORM => numbers::to_bits(probe::probe_vmnorm(a, b)),
+        FNORM_DENSE => numbers::to_bits(probe::probe_fnorm_dense(p, a, b)),
+        _ => first_step(x, y, a, b, p, q),
     }
-    if kind == 1 {
-        return numbers::to_bits(probe::probe_fnorm_dense(p, a, b));
-    }
-    first_step(x, y, a, b, p, q)
 }
 
+#[tactic(auto, unfolding(crate::specs::Leaf::leaf_lists))]
 fn of_lists(
     kind: u64,
     p: usize,
@@ -82,79 +113,55 @@ fn of_lists(
         (record { number = result; a = a.new; b = b.now; m = m.new })
         (leaf_lists kind p q r a.old b.now m.old) }
 {
-    if kind == 3 {
-        return weights(b, r, a, p, q);
+    match kind {
+        EWSET => weights(b, r, a, p, q),
+        EWSET_SCALAR_LIKE => probe::probe_ewset_scalar_like(a, p, q),
+        INVERT_WEIGHTS => probe::probe_invert_weights(a),
+        DENSE_LU_FACTOR => probe::probe_dense_lu_factor(a, p, m),
+        DENSE_LU_SOLVE => probe::probe_dense_lu_solve(a, p, q, m, r),
+        PREDICT_COLUMNS => probe::steps::probe_predict_columns(a, p, q, r),
+        _ => probe::steps::probe_retract_columns(a, p, q, r),
     }
-    if kind == 4 {
-        return probe::probe_ewset_scalar_like(a, p, q);
-    }
-    if kind == 5 {
-        return probe::probe_invert_weights(a);
-    }
-    if kind == 6 {
-        return probe::probe_dense_lu_factor(a, p, m);
-    }
-    if kind == 7 {
-        return probe::probe_dense_lu_solve(a, p, q, m, r);
-    }
-    if kind == 8 {
-        return probe::steps::probe_predict_columns(a, p, q, r);
-    }
-    probe::steps::probe_retract_columns(a, p, q, r)
 }
 
+#[tactic(auto, unfolding(crate::specs::Leaf::leaf_records))]
 fn of_records(kind: u64, x: f64, a: &mut [f64], b: &mut [f64], m: &mut [usize]) -> usize
     ensures { ◌≡◌ {A = LeafAfter}
         (record { number = result; a = a.new; b = b.new; m = m.new })
         (leaf_records kind x a.old b.old m.old) }
 {
-    if kind == 10 {
-        return probe::steps::probe_correct_columns(b, m, a);
+    match kind {
+        CORRECT_COLUMNS => probe::steps::probe_correct_columns(b, m, a),
+        STODA_ADJUST_STEP_SIZE => probe::steps::probe_stoda_adjust_step_size(b, m, x, a),
+        STODA_GET_PREDICTED_VALUES => probe::steps::probe_stoda_get_predicted_values(b, m, a),
+        STODA_FIRST_CALL_INIT => probe::steps::probe_stoda_first_call_init(b, m),
+        STODA_RESET => probe::steps::probe_stoda_reset(b, m),
+        SNAPSHOT_STEP => snapshot(b, m, a),
+        _ => probe::steps::probe_interpolate(x, a, b),
     }
-    if kind == 11 {
-        return probe::steps::probe_stoda_adjust_step_size(b, m, x, a);
-    }
-    if kind == 12 {
-        return probe::steps::probe_stoda_get_predicted_values(b, m, a);
-    }
-    if kind == 13 {
-        return probe::steps::probe_stoda_first_call_init(b, m);
-    }
-    if kind == 14 {
-        return probe::steps::probe_stoda_reset(b, m);
-    }
-    if kind == 15 {
-        return snapshot(b, m, a);
-    }
-    probe::steps::probe_interpolate(x, a, b)
 }
 
-// What the function of that kind answers; a float's pattern where it answers a float. Kinds: 0 vmnorm, 1 fnorm_dense,
-// 2 initial_step_size, 3 ewset, 4 ewset_scalar_like, 5 invert_weights, 6 dense_lu_factor, 7 dense_lu_solve,
-// 8 predict_columns, 9 retract_columns, 10 correct_columns, 11 stoda_adjust_step_size, 12 stoda_get_predicted_values,
-// 13 stoda_first_call_init, 14 stoda_reset, 15 snapshot_step, and any other interpolate.
+// What the function of that kind answers; a float's pattern where it answers a float.
+#[tactic(auto, unfolding(crate::specs::Leaf::leaf_of))]
 fn leaf(h: Call, a: &mut [f64], b: &mut [f64], m: &mut [usize]) -> u64
     ensures { ◌≡◌ {A = LeafAfter}
         (record { number = result; a = a.new; b = b.new; m = m.new })
         (leaf_of h a.old b.old m.old) }
 {
-    if h.kind < 3 {
-        return of_norms(h.kind, h.p, h.q, h.x, h.y, a, b);
+    if h.kind < EWSET {
+        of_norms(h.kind, h.p, h.q, h.x, h.y, a, b)
+    } else if h.kind < CORRECT_COLUMNS {
+        of_lists(h.kind, h.p, h.q, h.r, a, b, m) as u64
+    } else {
+        of_records(h.kind, h.x, a, b, m) as u64
     }
-    if h.kind < 10 {
-        return of_lists(h.kind, h.p, h.q, h.r, a, b, m) as u64;
-    }
-    of_records(h.kind, h.x, a, b, m) as u64
 }
 
 // Number i, and 0 behind the list's end.
 fn word(list: &[u64], i: usize) -> u64
     ensures { result ≡ get_or list.now i 0 }
 {
-    if i < list.len() {
-        return list[i];
-    }
-    0
+    list.get(i).copied().unwrap_or(0)
 }
 
 #[derive(Clone, Copy)]
@@ -171,6 +178,7 @@ struct Call {
 
 // A head is 11 numbers: the kind, p, q, r, the patterns of x and y, where the call's numbers begin, the answer, and the
 // lengths of a, b and m.
+#[tactic(auto, unfolding(crate::specs::Leaf::call_of))]
 fn head(heads: &[u64], i: usize) -> Call
     requires { i ≤ 1000000 }
     ensures { result ≡ call_of heads.now i }
@@ -189,60 +197,77 @@ fn head(heads: &[u64], i: usize) -> Call
 }
 
 // A length of head i, at most the limit.
+#[tactic(auto, unfolding(crate::specs::Leaf::length_of))]
 fn length_of(heads: &[u64], k: usize, limit: usize) -> usize
     ensures { (result ≡ length_of heads.now k limit) × (result ≤ limit) }
 {
-    let len = word(heads, k) as usize;
-    if limit < len {
-        return limit;
-    }
-    len
+    (word(heads, k) as usize).min(limit)
 }
 
-fn get_floats(stored: &[u64], at: usize, list: &mut [f64])
+// What stands in a list: a float by its pattern, or a count.
+trait Stored: Copy {
+    ghost of_word: { ℕ → Self };
+
+    ghost word_of: { Self → ℕ };
+
+    fn from_word(word: u64) -> Self
+        ensures { result ≡ of_word word };
+
+    fn to_word(self) -> u64
+        ensures { result ≡ word_of self };
+}
+
+impl Stored for f64 {
+    ghost of_word = { Ieee.of_bits binary64 };
+
+    ghost word_of = { Ieee.to_bits binary64 };
+
+    fn from_word(word: u64) -> f64 {
+        numbers::from_bits(word)
+    }
+
+    fn to_word(self) -> u64 {
+        numbers::to_bits(self)
+    }
+}
+
+impl Stored for usize {
+    ghost of_word = { λ word. word };
+
+    ghost word_of = { λ count. count };
+
+    fn from_word(word: u64) -> usize {
+        word as usize
+    }
+
+    fn to_word(self) -> u64 {
+        self as u64
+    }
+}
+
+// The list becomes what is stored from `at` on.
+fn get<T: Stored>(stored: &[u64], at: usize, list: &mut [T])
     requires { at + length list.old ≤ 1000000 }
-    ensures { list.new ≡ leaf_floats stored.now at list.old }
+    ensures { list.new ≡ leaf_list T.of_word stored.now at list.old }
 {
-    for i in 0..list.len() {
-        list[i] = numbers::from_bits(word(stored, at + i));
+    for (i, x) in list.iter_mut().enumerate() {
+        *x = T::from_word(word(stored, at + i));
     }
 }
 
-fn get_counts(stored: &[u64], at: usize, list: &mut [usize])
-    requires { at + length list.old ≤ 1000000 }
-    ensures { list.new ≡ leaf_counts stored.now at list.old }
-{
-    for i in 0..list.len() {
-        list[i] = word(stored, at + i) as usize;
-    }
-}
-
-// Whether the list's patterns are those that are stored from `at` on.
-fn are_floats(list: &[f64], stored: &[u64], at: usize) -> bool
+// Whether the list is what is stored from `at` on; floats by their patterns.
+#[tactic(auto, unfolding(crate::specs::Leaf::are_left))]
+fn are_left<T: Stored>(list: &[T], stored: &[u64], at: usize) -> bool
     requires { at + length list.now ≤ 1000000 }
-    ensures { result ≡ are_floats list.now stored.now at }
+    ensures { result ≡ are_left T.word_of list.now stored.now at }
 {
-    for i in 0..list.len() {
-        if numbers::to_bits(list[i]) != word(stored, at + i) {
-            return false;
-        }
-    }
-    true
-}
-
-fn are_counts(list: &[usize], stored: &[u64], at: usize) -> bool
-    requires { at + length list.now ≤ 1000000 }
-    ensures { result ≡ are_counts list.now stored.now at }
-{
-    for i in 0..list.len() {
-        if list[i] as u64 != word(stored, at + i) {
-            return false;
-        }
-    }
-    true
+    list.iter()
+        .enumerate()
+        .all(|(i, x)| x.to_word() == word(stored, at + i))
 }
 
 // The call's lists, taken from the numbers stored from `at` on, and the answer.
+#[tactic(auto, unfolding(crate::specs::Leaf::called_of))]
 fn called(h: Call, stored: &[u64], a: &mut [f64], b: &mut [f64], m: &mut [usize]) -> u64
     requires { (h.at ≤ 900000) × (length a.old ≤ 64) × (length b.old ≤ 80) × (length m.old ≤ 16) }
     ensures { ◌≡◌ {A = LeafAfter}
@@ -251,13 +276,14 @@ fn called(h: Call, stored: &[u64], a: &mut [f64], b: &mut [f64], m: &mut [usize]
 {
     let at_b = h.at + a.len();
     let at_m = at_b + b.len();
-    get_floats(stored, h.at, a);
-    get_floats(stored, at_b, b);
-    get_counts(stored, at_m, m);
+    get(stored, h.at, a);
+    get(stored, at_b, b);
+    get(stored, at_m, m);
     leaf(h, a, b, m)
 }
 
 // Whether the lists are as the reference left them: stored behind the call's own.
+#[tactic(auto, unfolding(crate::specs::Leaf::is_left))]
 fn is_left(h: Call, stored: &[u64], a: &[f64], b: &[f64], m: &[usize]) -> bool
     requires { (h.at ≤ 900000) × (length a.now ≤ 64) × (length b.now ≤ 80) × (length m.now ≤ 16) }
     ensures { result ≡ is_left h stored.now a.now b.now m.now }
@@ -265,34 +291,26 @@ fn is_left(h: Call, stored: &[u64], a: &[f64], b: &[f64], m: &[usize]) -> bool
     let at_a = h.at + a.len() + b.len() + m.len();
     let at_b = at_a + a.len();
     let at_m = at_b + b.len();
-    if !are_floats(a, stored, at_a) {
-        return false;
-    }
-    if !are_floats(b, stored, at_b) {
-        return false;
-    }
-    are_counts(m, stored, at_m)
+    are_left(a, stored, at_a) && are_left(b, stored, at_b) && are_left(m, stored, at_m)
 }
 
 // Whether the call answers and leaves what is stored, in lists of its lengths.
+#[tactic(auto, unfolding(crate::specs::Leaf::is_again))]
 fn is_again(h: Call, stored: &[u64], a: &mut [f64], b: &mut [f64], m: &mut [usize]) -> bool
     requires { (h.at ≤ 900000) × (length a.old ≤ 64) × (length b.old ≤ 80) × (length m.old ≤ 16) }
     ensures { result ≡ is_again h stored.now a.old b.old m.old }
 {
-    let number = called(h, stored, a, b, m);
-    if number != h.number {
-        return false;
-    }
-    is_left(h, stored, a, b, m)
+    called(h, stored, a, b, m) == h.number && is_left(h, stored, a, b, m)
 }
 
 // The same for call i.
+#[tactic(auto, unfolding(crate::specs::Leaf::is_same))]
 fn is_same(heads: &[u64], i: usize, stored: &[u64]) -> bool
     requires { i ≤ 1000000 }
     ensures { result ≡ is_same heads.now stored.now i }
 {
     let h = head(heads, i);
-    if 900000 < h.at {
+    if h.at > 900000 {
         return false;
     }
     let la = length_of(heads, 11 * i + 8, 64);
@@ -304,26 +322,12 @@ fn is_same(heads: &[u64], i: usize, stored: &[u64]) -> bool
     is_again(h, stored, &mut a[0..la], &mut b[0..lb], &mut m[0..lm])
 }
 
-// The count with call i added, if it is not the same.
-fn counted(heads: &[u64], i: usize, stored: &[u64], differ: usize) -> usize
-    requires { (i ≤ 1000000) × (differ ≤ i) }
-    ensures { (result ≡ counted_at (is_same heads.now stored.now) i differ) × (result ≤ i + 1) }
-{
-    if is_same(heads, i, stored) {
-        return differ;
-    }
-    differ + 1
-}
-
 // How many of the calls are not the same.
 pub fn differ(heads: &[u64], stored: &[u64]) -> usize
     requires { length heads.now ≤ 1000000 }
     ensures { result ≡ calls_differ heads.now stored.now }
 {
-    let n = heads.len() / 11;
-    let mut found = 0;
-    for i in 0..n {
-        found = counted(heads, i, stored, found);
-    }
-    found
+    (0..heads.len() / 11)
+        .filter(|i| !is_same(heads, *i, stored))
+        .count()
 }

@@ -11,16 +11,15 @@ mod table;
 
 use std::io;
 
-fn line(rt: &impl Print, name: &[u8], compared: usize, differ: usize) -> io::Result<()> {
-    rt.write_all(name)?;
-    println!(rt; "{compared} compared, {differ} differ")
+fn line(rt: &impl Print, name: &str, compared: usize, differ: usize) -> io::Result<()> {
+    println!(rt; "{name}: {compared} compared, {differ} differ")
 }
 
-fn cases(rt: &impl Print, name: &[u8], stored: &[u64]) -> io::Result<()> {
+fn cases(rt: &impl Print, name: &str, stored: &[u64]) -> io::Result<()> {
     line(rt, name, stored.len() / 5, number::differ(stored))
 }
 
-fn calls(rt: &impl Print, name: &[u8], heads: &[u64], stored: &[u64]) -> io::Result<()>
+fn calls(rt: &impl Print, name: &str, heads: &[u64], stored: &[u64]) -> io::Result<()>
     requires { length heads.now ≤ 1000000 }
 {
     line(rt, name, heads.len() / 11, leaf::differ(heads, stored))
@@ -28,30 +27,25 @@ fn calls(rt: &impl Print, name: &[u8], heads: &[u64], stored: &[u64]) -> io::Res
 
 // A function for each table: its numbers are carried through everything that follows its loan.
 fn roots(rt: &impl Print) -> io::Result<()> {
-    cases(rt, b"root: ", &table::ROOTS)
+    cases(rt, "root", &table::ROOTS)
 }
 
 fn square_roots(rt: &impl Print) -> io::Result<()> {
-    cases(rt, b"sqrt: ", &table::SQUARE_ROOTS)
+    cases(rt, "sqrt", &table::SQUARE_ROOTS)
 }
 
 fn coefficients(rt: &impl Print) -> io::Result<()> {
-    cases(rt, b"coefficients: ", &table::COEFFICIENTS)
+    cases(rt, "coefficients", &table::COEFFICIENTS)
 }
 
 fn on_lists(rt: &impl Print) -> io::Result<()> {
-    calls(
-        rt,
-        b"leaves on lists: ",
-        &leaves::LISTS_HEADS,
-        &leaves::LISTS,
-    )
+    calls(rt, "leaves on lists", &leaves::LISTS_HEADS, &leaves::LISTS)
 }
 
 fn on_a_record(rt: &impl Print) -> io::Result<()> {
     calls(
         rt,
-        b"leaves on a record: ",
+        "leaves on a record",
         &leaves::RECORDS_HEADS,
         &leaves::RECORDS,
     )
