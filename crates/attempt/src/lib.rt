@@ -44,7 +44,7 @@ fn retract(s: Settings, c: Common, work: &mut [f64]) -> Common
 }
 
 // The columns rescaled, then predicted again.
-#[tactic(auto, using(crate::proofs::InRange::ranges), unfolding(crate::specs::Attempt::repredict_of, history::specs::Steps::adjust_of))]
+#[tactic(auto, unfolding(crate::specs::Attempt::repredict_of))]
 fn repredict(s: Settings, c: Common, rh: f64, work: &mut [f64]) -> Common
     requires step_in_range { StepInRange s c }
     requires n_in_bounds { matrix_at s.n ≤ length work.old }
@@ -56,7 +56,7 @@ fn repredict(s: Settings, c: Common, rh: f64, work: &mut [f64]) -> Common
 }
 
 // `stoda_handle_corrector_failure`: poor at the mxncf-th such pass or at the smallest step, else a quarter of it.
-#[tactic(auto, using(crate::proofs::InRange::ranges), unfolding(crate::specs::Attempt::no_convergence_of, crate::specs::Attempt::no_convergence_at, crate::specs::Attempt::unconverged_of, crate::specs::Attempt::retracted_of, crate::specs::Attempt::quartered_of))]
+#[tactic(auto, unfolding(crate::specs::Attempt::no_convergence_of))]
 pub fn no_convergence(s: Settings, c: Common, work: &mut [f64]) -> Attempted
     requires step_in_range { StepInRange s c }
     requires ncf_bound { (c.ncf < 2 ^ 62) × (c.rejected < 2 ^ 63) }
@@ -119,7 +119,7 @@ fn shrunk(c: Common, dsm: f64) -> f64
 
 // An error failure, retracted: too small at the smallest step or at the tenth failure, from the third on a tenth of
 // the step and a derivative anew.
-#[tactic(auto, unfolding(crate::specs::Attempt::missed_of, crate::specs::Attempt::missed_at, crate::specs::Attempt::tenth_of))]
+#[tactic(auto, unfolding(crate::specs::Attempt::missed_of, crate::specs::Attempt::missed_at))]
 fn missed(s: Settings, c: Common, dsm: f64, work: &mut [f64]) -> Attempted
     requires step_in_range { StepInRange s c }
     requires n_in_bounds { matrix_at s.n ≤ length work.old }
@@ -150,7 +150,7 @@ fn missed(s: Settings, c: Common, dsm: f64, work: &mut [f64]) -> Attempted
 }
 
 // The error is above 1.
-#[tactic(auto, using(crate::proofs::InRange::ranges), unfolding(crate::specs::Attempt::failed_of, crate::specs::Attempt::overshot_of, crate::specs::Attempt::retracted_of))]
+#[tactic(auto, unfolding(crate::specs::Attempt::failed_of))]
 pub fn error_failure(s: Settings, c: Common, dsm: f64, work: &mut [f64]) -> Attempted
     requires step_in_range { StepInRange s c }
     requires kflag_bound { (c.kflag ≤ 9) × (c.rejected < 2 ^ 63) }
@@ -167,7 +167,7 @@ pub fn error_failure(s: Settings, c: Common, dsm: f64, work: &mut [f64]) -> Atte
 }
 
 // The derivative after the third to ninth error failure is in savf: order 1 from there, and a prediction.
-#[tactic(auto, using(crate::proofs::InRange::ranges), unfolding(crate::specs::Attempt::restep_of, common::specs::Rules::reset_of))]
+#[tactic(auto, unfolding(crate::specs::Attempt::restep_of))]
 pub fn restep(s: Settings, c: Common, work: &mut [f64]) -> Common
     requires step_in_range { StepInRange s c }
     requires n_in_bounds { matrix_at s.n ≤ length work.old }

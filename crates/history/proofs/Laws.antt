@@ -121,18 +121,23 @@ lower-range {s} {c} d q nq table nqnyh nslp one below p =
       steps = rw nslp p.steps;
     }
 
--- after a reset the places are those of the new order
-pub reset-range : {s : Settings} {c : Common} (q : ℕ) → 1 ≤ q → q ≤ 12 → StepInRange s c
-    → StepInRange s (reset_of s (with_nq q c))
-unfolding reset_of
-reset-range {s} {c} q one most p =
+-- a record with an order from 1 to 12 whose places are those of that order
+pub own-range : {s : Settings} {c : Common} (d : Common) → StepInRange s c
+    → 1 ≤ d.nq → d.nq ≤ 12 → d.table ≡ c.table → d.nqnyh ≡ d.nq * s.n → d.nslp ≡ c.nslp → StepInRange s d
+own-range {s} d p one most table nqnyh nslp =
     record {
       n = p.n;
       order = (one, most);
-      table = p.table;
-      used = (omega arith, mul-le-mul_right s.n most);
-      steps = p.steps;
+      table = rw table p.table;
+      used = rw nqnyh (omega arith, mul-le-mul_right s.n most);
+      steps = rw nslp p.steps;
     }
+
+-- as after a reset
+pub reset-range : {s : Settings} {c : Common} (q : ℕ) → 1 ≤ q → q ≤ 12 → StepInRange s c
+    → StepInRange s (reset_of s (with_nq q c))
+unfolding reset_of
+reset-range q one most p = own-range _ p one most refl refl refl
 
 pub in-range-predicted : (s : Settings) (c : Common) → StepInRange s c → StepInRange s (predicted_of s c)
 unfolding predicted_of
