@@ -124,7 +124,6 @@ fn pass_failed(s: Settings, c: Common, work: &mut [f64]) -> Turn
 }
 
 // One iteration, and what its verdict leads to.
-#[tactic(auto, unfolding(crate::specs::Pass::iterate_of, crate::specs::Pass::concluded_at))]
 fn iterate(
     g: &Problem,
     c: Common,
@@ -150,7 +149,6 @@ fn iterate(
     }
 }
 
-#[tactic(auto, unfolding(crate::specs::Pass::iterations_of))]
 fn iterations(
     g: &Problem,
     c: Common,
@@ -209,7 +207,7 @@ fn ask_column(s: Settings, c: Common, j: usize, work: &mut [f64]) -> Turn
 }
 
 // A Jacobian begins: asked of the host, or by differences from the first column.
-#[tactic(auto, unfolding(crate::specs::Pass::ask_jacobian_of, crate::specs::Pass::ask_jacobian_at))]
+#[tactic(auto, unfolding(crate::specs::Pass::ask_jacobian_of, crate::specs::Pass::ask_jacobian_at, jacobian::specs::Jacobian::begin_of))]
 fn ask_jacobian(s: Settings, c: Common, work: &mut [f64]) -> Turn
     requires inside { Inside s c }
     requires nje_bound { c.nje < 2 ^ 63 }
