@@ -3,58 +3,30 @@
 use mathlib.Core.Path.{ap, ◌∙◌}
 use native.Mathlib.Omega.{arith}
 use lib.ListN.{length}
+use Rattle.common.specs.Ranges.{Inside}
 use Rattle.corrector.specs.Iterate.{Corrected}
 use Rattle.corrector.proofs.Iterated.{length-iteration}
-use Rattle.common.specs.Ranges.{Inside}
-use Rattle.between_steps.proofs.Inside.{in-range}
 use Rattle.passes.proofs.PassInside.{inside-judged}
 use Rattle.passes.specs.Pass.{iterate_of, concluded_at}
 use Rattle.passes.proofs.iterate.Goals as goal
 
-pub correct-x-requires : goal.correct-x-requires
-correct-x-requires c =
-    let l = c.requires.lent in
-    record {
-      step_in_range = in-range c.requires.inside;
-      n_in_bounds = (omega (arith, l.sized), omega (arith, l.pivots));
-      by_index = l.below;
-    }
-
-pub error_test-requires : goal.error_test-requires
-error_test-requires c =
-    let p : Inside c.args.s c.judge-verdict.result.common =
-    rw c.judge-verdict.ensures (inside-judged c.requires.inside _ _) in
-    let l = c.requires.lent.sized in
-    let w = ap (λ (k : Corrected). length k.work) c.correct-x.ensures ∙ length-iteration c.args.s
-    c.args.c _ _ in
-    record {
-      inside = p;
-      list1or_n = c.requires.list1or_n;
-      list1or_n_2 = c.requires.list1or_n_2;
-      n_in_bounds = omega (arith, l, w);
-    }
+pub error_test-requires-clause-inside : goal.error_test-requires-clause-inside
+error_test-requires-clause-inside c = rw c.judge-verdict.ensures (inside-judged c.requires.inside _ _)
 
 pub open_pass-requires : goal.open_pass-requires
 open_pass-requires c =
-    let p : Inside c.args.s c.judge-verdict.result.common =
+    let s = c.args.g.now.settings in
+    let p : Inside s c.judge-verdict.result.common =
     rw c.judge-verdict.ensures (inside-judged c.requires.inside _ _) in
-    let l = c.requires.lent.sized in
-    let w = ap (λ (k : Corrected). length k.work) c.correct-x.ensures ∙ length-iteration c.args.s
-    c.args.c _ _ in
-    (p.counts.0, p.counts.1, omega (arith, l, w))
+    let w = ap (λ (k : Corrected). length k.work) c.correct-x.ensures ∙ length-iteration s c.args.c _ _ in
+    (p.counts.0, p.counts.1, omega (arith, c.requires.lent.sized, w))
 
-pub pass_failed-requires : goal.pass_failed-requires
-pass_failed-requires c =
-    let p : Inside c.args.s c.judge-verdict.result.common =
-    rw c.judge-verdict.ensures (inside-judged c.requires.inside _ _) in
-    let l = c.requires.lent.sized in
-    let w = ap (λ (k : Corrected). length k.work) c.correct-x.ensures ∙ length-iteration c.args.s
-    c.args.c _ _ in
-    record { inside = p; n_in_bounds = omega (arith, l, w) }
+pub pass_failed-requires-clause-inside : goal.pass_failed-requires-clause-inside
+pass_failed-requires-clause-inside c = rw c.judge-verdict.ensures (inside-judged c.requires.inside _ _)
 
 pub ask_in_step-requires : goal.ask_in_step-requires
 ask_in_step-requires c =
-    let p : Inside c.args.s c.judge-verdict.result.common =
+    let p : Inside c.args.g.now.settings c.judge-verdict.result.common =
     rw c.judge-verdict.ensures (inside-judged c.requires.inside _ _) in
     (p.counts.0, p.counts.1)
 

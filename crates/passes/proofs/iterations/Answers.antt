@@ -6,24 +6,17 @@ use Prim.Native.Nat.{◌-◌}
 use Rattle.loops.proofs.Part.{length_part}
 use Rattle.common.specs.Layout.{acor_at, y_at}
 use Rattle.history.specs.Columns.{fill_of}
-use Rattle.between_steps.proofs.Inside.{lent_length}
 use Rattle.passes.proofs.PassInside.{inside-open}
 use Rattle.passes.specs.Pass.{iterations_of}
 use Rattle.passes.proofs.iterations.Goals as goal
 
-pub iterate-requires : goal.iterate-requires
-iterate-requires c =
-    let p = c.requires in record {
-      inside = rw c.open_iterations-d.ensures.0 (inside-open p.inside);
-      list1or_n = p.list1or_n;
-      list1or_n_2 = p.list1or_n_2;
-      lent = lent_length _ (omega arith) p.lent;
-    }
+pub iterate-requires-clause-inside : goal.iterate-requires-clause-inside
+iterate-requires-clause-inside c = rw c.open_iterations-d.ensures.0 (inside-open c.requires.inside)
 
 pub returns : goal.returns
 unfolding iterations_of fill_of
 returns c =
-    let n = c.args.s.n in
+    let n = c.args.g.now.settings.n in
     let size : y_at n - acor_at n ≡ n = omega arith in
     let long = length_part (acor_at n) n c.args.work.now (omega (arith, c.requires.lent.sized)) in
     let opened = c.open_iterations-d.ensures in

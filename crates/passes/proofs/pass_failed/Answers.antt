@@ -1,7 +1,6 @@
--- `pass_failed` meets its contract: the attempt's failure, then what it leads to. Assumes nothing.
+-- `pass_failed` goes on within the counts: a failure keeps them. Assumes nothing.
 use native.Mathlib.Omega.{arith}
 use Rattle.attempt.proofs.Laws.{unconverged}
-use Rattle.passes.specs.Pass.{pass_failed_of}
 use Rattle.passes.proofs.pass_failed.Goals as goal
 
 pub attempted-requires : goal.attempted-requires
@@ -10,9 +9,3 @@ attempted-requires c =
     let x = c.args in
     let q = rw (← c.no_convergence.ensures) at (unconverged x.s x.c x.work.now) in
     (omega (arith, q.kept.nfe, p.counts), omega (arith, q.kept.count, p.counts), omega arith)
-
-pub returns : goal.returns
-unfolding pass_failed_of
-returns c p =
-    rw (← c.no_convergence.ensures)
-    (c.attempted.ensures p)
