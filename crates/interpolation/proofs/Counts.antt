@@ -1,5 +1,5 @@
 -- What the reading of a header means.
---     count-is, is-count    `whole_count_of x limit` is `Some k` exactly if k is at most the limit and x equals k's float
+--     count-is, is-count    `whole_count_of x limit` is `Some k` exactly if k is at most the limit and x is k's float
 --     count-not, not-count  it is `None` exactly if x equals no count up to the limit
 --     header-reads, reads-header    a header is read exactly if condition 15 does not hold; these are its sizes
 -- The first count found is the only one, since the float of a count has its value and x has one value.

@@ -64,7 +64,8 @@ pub fn put_tolerances(rtol: &[f64], atol: &[f64], bytes: &mut [u8])
     words::put_row(bytes, common::ATOL_AT, common::MAX_STATES, atol);
 }
 
-// The first k relative tolerances, read to the first entries of a list.
+// The first k relative tolerances, read to the first entries of a list. This and the next call one function at two
+// places, which callers need not know.
 pub fn rtol(bytes: &[u8], k: usize, list: &mut [f64])
     requires { (session_length ≤ length bytes.now) × (k ≤ max_states) × (k ≤ length list.old) }
     ensures { list.new ≡ rtol_first bytes.now k list.old }

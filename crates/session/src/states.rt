@@ -1,4 +1,5 @@
-// The numbers that stand for a family and a phase; a phase's is its place in the enum.
+// The numbers that stand for a family and a phase; a phase's is its place in the enum. They are functions, since From and
+// TryFrom stand where the types do. An unknown number, which 13 refuses, is read as the last, so that none fails.
 ghost use Rattle.std.specs.Prelude.{◌≡◌};
 ghost use Rattle.session.specs.States.{family_number, family_of, phase_of};
 
@@ -24,7 +25,6 @@ pub fn family(w: usize) -> MethodFamily
     }
 }
 
-// An unknown number, which 13 refuses, is read as the last.
 #[tactic(auto, unfolding(crate::specs::States::phase_of))]
 pub fn phase(w: usize) -> Phase
     ensures { result ≡ phase_of w }

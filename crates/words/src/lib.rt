@@ -49,7 +49,7 @@ impl Word for f64 {
 }
 
 // The word at byte `at`. Its bytes stand one by one: an array that is filled by `copy_from_slice` is tested for overlap
-// at each word, and to read and test a session then takes 1100 instructions, not 637.
+// at each word, and to read and test a session then takes 1100 instructions, not 448.
 pub fn get(bytes: &[u8], at: usize) -> u64
     requires { at + 8 ≤ length bytes.now }
     ensures { result ≡ word_at bytes.now at }
@@ -102,7 +102,8 @@ fn slot<T: Word>(list: &[T], i: usize) -> u64
     }
 }
 
-// k words from word `at` on: the list, then 0.
+// k words from word `at` on: the list, then 0. The slots go beyond the list, and of slices that chunks_exact_mut lends
+// nothing says what the bytes end as, so the loop counts.
 pub fn put_row<T: Word>(bytes: &mut [u8], at: usize, k: usize, list: &[T])
     requires { 8 * (at + k) ≤ length bytes.old }
     ensures { bytes.new ≡ put_row_of at k (map T.written list.now) bytes.old }

@@ -36,7 +36,8 @@ no_header (Ok u) o why p q = absurd p
 pub returns-in_err-z : goal.returns-in_err-z
 returns-in_err-z c =
     let a = c.args in
-    let h = no_header c.from_residual.result c.read_header.result _ c.from_residual.ensures.1 c.in_err-z.ensures.value in
+    let r = c.from_residual in
+    let h = no_header r.result c.read_header.result _ r.ensures.1 c.in_err-z.ensures.value in
     let none = unread a.cont.now (sym c.read_header.ensures ∙ h.1) in
     rw h.0 (sym (fifteen a.xi a.cont.now a.yi.now c.if-cont-yi.false none))
 

@@ -1,4 +1,5 @@
--- `in_range` meets its contract. Each test is one of the definition's, on the record and the words as they were read. Assumes nothing.
+-- `in_range` meets its contract. Each test is one of the definition's, on the record and the words as they were read.
+-- Assumes nothing.
 use Rattle.std.proofs.Common.{arith}
 use Rattle.std.proofs.lemmas.Grind.{common_steps}
 use Rattle.std.proofs.lemmas.Bool.Decides.{nat_tests}

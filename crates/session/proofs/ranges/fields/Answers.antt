@@ -1,4 +1,5 @@
--- `fields` meets its contract. The words pass before two fields are held against each other, so that n is not 0. Assumes nothing.
+-- `fields` meets its contract. The words pass before two fields are held against each other, so that n is not 0.
+-- Assumes nothing.
 use Rattle.std.proofs.Common.{arith}
 use Rattle.std.proofs.lemmas.Grind.{common_steps}
 use Rattle.std.proofs.lemmas.Bool.Decides.{nat_tests}
