@@ -1,8 +1,9 @@
 -- The stored words as counts and as floats, and whether a count, a float or a row of floats is what is stored.
 -- Behind the end every word is 0. Which word means what is not said here.
-use Rattle.std.specs.Prelude.{Bool, true, cond, ◌&&◌, List, ℕ, zero, suc, ◌+◌, ◌*◌, eqb, ltb, length, get_or, Float}
+use Rattle.std.specs.Prelude.{Bool, cond, ◌&&◌, List, ℕ, ◌+◌, ◌*◌, eqb, ltb, get_or, Float}
+use Rattle.std.specs.List.{list_all, enumerate_from}
 use Rattle.std.specs.Float.Ieee as Ieee
-use Rattle.std.specs.Float.{nan, binary64}
+use Rattle.std.specs.Float.{binary64}
 use Rattle.common.specs.Limits.{max_states}
 
 -- as many as a reply can have: those of a Jacobian
@@ -30,11 +31,6 @@ unfoldable pub are_stored_three : List ℕ → ℕ → ℕ → ℕ → ℕ → B
 are_stored_three words at a b c =
     is_stored_count words at a && (is_stored_count words (at + 1) b && is_stored_count words (at + 2) c)
 
--- the k floats of the list from i on
-unfoldable pub are_stored_from : List ℕ → ℕ → List Float → ℕ → ℕ → Bool
-are_stored_from words at list zero i = true
-are_stored_from words at list (suc k) i =
-    is_stored_float words (at + i) (get_or list i nan) && are_stored_from words at list k (i + 1)
-
+-- the floats of the list, from there on
 unfoldable pub are_stored_floats : List ℕ → ℕ → List Float → Bool
-are_stored_floats words at list = are_stored_from words at list (length list) 0
+are_stored_floats words at list = list_all (λ p. is_stored_float words (at + p.0) p.1) (enumerate_from 0 list)

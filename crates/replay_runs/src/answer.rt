@@ -9,14 +9,11 @@ use crate::stored_words;
 use raimsklo::Reply;
 
 // Whether the stored answer asks for a reply.
+#[tactic(auto, unfolding(crate::specs::Answer::asks_reply))]
 pub fn is_asked(stored: &[u64], at: usize) -> bool
     ensures { result ≡ asks_reply stored.now at }
 {
-    let number = stored_words::word(stored, at);
-    if number < 100 {
-        return false;
-    }
-    number < 110
+    (100..110).contains(&stored_words::word(stored, at))
 }
 
 // How many numbers a report has: y, and the snapshot behind it.
@@ -32,87 +29,67 @@ pub fn size(stored: &[u64], at: usize, n: usize) -> usize
     requires { (at ≤ 1010000) × (n ≤ max_states) }
     ensures { (1 ≤ result) × (result ≤ 1000) }
 {
-    let number = stored_words::word(stored, at);
-    if number < 100 {
-        return 3;
+    match stored_words::word(stored, at) {
+        0..=99 => 3,
+        100..=102 => 2 + n,
+        103 => 5 + reported(stored_words::limited(stored, at + 4, 12), n),
+        _ => 8,
     }
-    if number < 103 {
-        return 2 + n;
-    }
-    if number == 103 {
-        return 5 + reported(stored_words::limited(stored, at + 4, 12), n);
-    }
-    8
 }
 
+#[tactic(auto, unfolding(crate::specs::Answer::is_stored_refusal))]
 fn is_refusal(stored: &[u64], at: usize, r: Reply) -> bool
     requires { at ≤ 1010000 }
     ensures { result ≡ is_stored_refusal stored.now at r }
 {
-    if !stored_words::is_count(stored, at + 1, r.index) {
-        return false;
-    }
-    stored_words::is_float(stored, at + 2, r.value)
+    stored_words::is_count(stored, at + 1, r.index)
+        && stored_words::is_float(stored, at + 2, r.value)
 }
 
 // The first report's previous time is its time; what is wanted has none.
+#[tactic(auto, unfolding(crate::specs::Answer::is_timed))]
 fn is_timed(r: Reply) -> bool
     ensures { result ≡ is_timed r }
 {
-    if r.number != 102 {
-        return true;
-    }
-    numbers::to_bits(r.previous) == numbers::to_bits(r.time)
+    r.number != 102 || numbers::to_bits(r.previous) == numbers::to_bits(r.time)
 }
 
 // A derivative or a Jacobian wanted, or the first report.
+#[tactic(auto, unfolding(crate::specs::Answer::is_stored_question))]
 fn is_question(stored: &[u64], at: usize, r: Reply, y: &[f64]) -> bool
     requires { (at ≤ 1010000) × (length y.now ≤ max_states) }
     ensures { result ≡ is_stored_question stored.now at r y.now }
 {
-    if !is_timed(r) {
-        return false;
-    }
-    if !stored_words::is_float(stored, at + 1, r.time) {
-        return false;
-    }
-    stored_words::are_floats(stored, at + 2, y)
+    is_timed(r)
+        && stored_words::is_float(stored, at + 1, r.time)
+        && stored_words::are_floats(stored, at + 2, y)
 }
 
 // Previous time, time, count, order, y and snapshot.
+#[tactic(auto, unfolding(crate::specs::Answer::is_stored_report))]
 fn is_report(stored: &[u64], at: usize, r: Reply, numbers: &[f64]) -> bool
     requires { (at ≤ 1010000) × (length numbers.now ≤ 1000) }
     ensures { result ≡ is_stored_report stored.now at r numbers.now }
 {
-    if !stored_words::is_float(stored, at + 1, r.previous) {
-        return false;
-    }
-    if !stored_words::is_float(stored, at + 2, r.time) {
-        return false;
-    }
-    if !stored_words::is_count(stored, at + 3, r.count) {
-        return false;
-    }
-    if !stored_words::is_count(stored, at + 4, r.order) {
-        return false;
-    }
-    stored_words::are_floats(stored, at + 5, numbers)
+    stored_words::is_float(stored, at + 1, r.previous)
+        && stored_words::is_float(stored, at + 2, r.time)
+        && stored_words::is_count(stored, at + 3, r.count)
+        && stored_words::is_count(stored, at + 4, r.order)
+        && stored_words::are_floats(stored, at + 5, numbers)
 }
 
+#[tactic(auto, unfolding(crate::specs::Answer::is_stored_end))]
 fn is_end(stored: &[u64], at: usize, r: Reply) -> bool
     requires { at ≤ 1010000 }
     ensures { result ≡ is_stored_end stored.now at r }
 {
-    if !stored_words::is_float(stored, at + 1, r.h) {
-        return false;
-    }
-    if !stored_words::are_three(stored, at + 2, r.nfe, r.nje, r.nlu) {
-        return false;
-    }
-    stored_words::are_three(stored, at + 5, r.total, r.accepted, r.rejected)
+    stored_words::is_float(stored, at + 1, r.h)
+        && stored_words::are_three(stored, at + 2, r.nfe, r.nje, r.nlu)
+        && stored_words::are_three(stored, at + 5, r.total, r.accepted, r.rejected)
 }
 
 // Whether the call answered what is stored.
+#[tactic(auto, unfolding(crate::specs::Answer::is_stored_answer))]
 pub fn is_stored(stored: &[u64], at: usize, n: usize, r: Reply, question: &[f64]) -> bool
     requires { (at ≤ 1010000) × (n ≤ max_states) × (question_length n ≤ length question.now) }
     ensures { result ≡ is_stored_answer stored.now at n r question.now }
@@ -120,15 +97,13 @@ pub fn is_stored(stored: &[u64], at: usize, n: usize, r: Reply, question: &[f64]
     if !stored_words::is_count(stored, at, r.number) {
         return false;
     }
-    if r.number < 100 {
-        return is_refusal(stored, at, r);
+    match r.number {
+        0..=99 => is_refusal(stored, at, r),
+        100..=102 => is_question(stored, at, r, &question[..n]),
+        103 => {
+            let end = reported(stored_words::limited(stored, at + 4, 12), n);
+            is_report(stored, at, r, &question[..end])
+        }
+        _ => is_end(stored, at, r),
     }
-    if r.number < 103 {
-        return is_question(stored, at, r, &question[0..n]);
-    }
-    if r.number == 103 {
-        let end = reported(stored_words::limited(stored, at + 4, 12), n);
-        return is_report(stored, at, r, &question[0..end]);
-    }
-    is_end(stored, at, r)
 }

@@ -9,10 +9,7 @@ const MOST_NUMBERS: usize = common::MAX_STATES * common::MAX_STATES;
 pub fn word(words: &[u64], at: usize) -> u64
     ensures { result ≡ word_of words.now at }
 {
-    if at < words.len() {
-        return words[at];
-    }
-    0
+    words.get(at).copied().unwrap_or(0)
 }
 
 pub fn count(words: &[u64], at: usize) -> usize
@@ -22,14 +19,11 @@ pub fn count(words: &[u64], at: usize) -> usize
 }
 
 // A count that is at most so much.
+#[tactic(auto, unfolding(crate::specs::Words::limited_word))]
 pub fn limited(words: &[u64], at: usize, most: usize) -> usize
     ensures { (result ≡ limited_word words.now at most) × (result ≤ most) }
 {
-    let n = count(words, at);
-    if n < most {
-        return n;
-    }
-    most
+    count(words, at).min(most)
 }
 
 pub fn float(words: &[u64], at: usize) -> f64
@@ -44,18 +38,20 @@ pub fn floats(words: &[u64], at: usize) -> [f64; MOST_NUMBERS]
     ensures { length result ≡ most_numbers }
 {
     let mut out = [0.0; MOST_NUMBERS];
-    for i in 0..MOST_NUMBERS {
-        out[i] = float(words, at + i);
+    for (i, x) in out.iter_mut().enumerate() {
+        *x = float(words, at + i);
     }
     out
 }
 
+#[tactic(auto, unfolding(crate::specs::Words::is_stored_count))]
 pub fn is_count(words: &[u64], at: usize, n: usize) -> bool
     ensures { result ≡ is_stored_count words.now at n }
 {
     word(words, at) == n as u64
 }
 
+#[tactic(auto, unfolding(crate::specs::Words::is_stored_float))]
 pub fn is_float(words: &[u64], at: usize, x: f64) -> bool
     ensures { result ≡ is_stored_float words.now at x }
 {
@@ -63,27 +59,20 @@ pub fn is_float(words: &[u64], at: usize, x: f64) -> bool
 }
 
 // Three counts in a row.
+#[tactic(auto, unfolding(crate::specs::Words::are_stored_three))]
 pub fn are_three(words: &[u64], at: usize, a: usize, b: usize, c: usize) -> bool
     requires { at ≤ 2000000 }
     ensures { result ≡ are_stored_three words.now at a b c }
 {
-    if !is_count(words, at, a) {
-        return false;
-    }
-    if !is_count(words, at + 1, b) {
-        return false;
-    }
-    is_count(words, at + 2, c)
+    is_count(words, at, a) && is_count(words, at + 1, b) && is_count(words, at + 2, c)
 }
 
+#[tactic(auto, unfolding(crate::specs::Words::are_stored_floats))]
 pub fn are_floats(words: &[u64], at: usize, list: &[f64]) -> bool
     requires { (at ≤ 2000000) × (length list.now ≤ 5000) }
     ensures { result ≡ are_stored_floats words.now at list.now }
 {
-    for i in 0..list.len() {
-        if !is_float(words, at + i, list[i]) {
-            return false;
-        }
-    }
-    true
+    list.iter()
+        .enumerate()
+        .all(|(i, x)| is_float(words, at + i, *x))
 }

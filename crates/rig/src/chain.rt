@@ -97,6 +97,7 @@ pub fn jacobian(y: &[f64]) -> [f64; STATES * STATES]
     requires { max_states ≤ length y.now }
 {
     let mut j = [0.0; STATES * STATES];
+    // By number: over `y[..LINKS].iter().enumerate()` the bound of i stays unproved.
     for i in 0..LINKS {
         link(i, y[i], &mut j);
     }
