@@ -52,14 +52,12 @@ fn within_stability(rh: f64, pdh: f64, order: usize) -> f64
     requires { (1 ≤ order) × (order ≤ 12) }
     ensures { result ≡ within_stability_of rh pdh order }
 {
-    numbers::min(
-        rh,
-        if pdh * rh > 1.0e-5 {
-            coefficients::sm1(order) / pdh
-        } else {
-            2.0 * rh
-        },
-    )
+    let limit = if pdh * rh > 1.0e-5 {
+        coefficients::sm1(order) / pdh
+    } else {
+        2.0 * rh
+    };
+    numbers::min(rh, limit)
 }
 
 // The BDF method that the Adams one is compared with: its factor and order.
@@ -110,8 +108,7 @@ fn to_bdf(s: Settings, c: Common, dsm: f64, work: &[f64]) -> Change
     Change::Stay
 }
 
-// The Adams method that the BDF one is compared with: its error, and its order with the factor before the stability
-// limit.
+// The Adams method that the BDF one is compared with: its error, and its order and factor before the stability limit.
 #[derive(Clone, Copy)]
 pub struct AdamsProposal {
     pub error: f64,

@@ -9,7 +9,7 @@ use mathlib.Core.Bool.{Bool, true, false, cond, ◌||◌}
 use mathlib.Core.List.{List}
 use mathlib.Core.Logic.{◌⊎◌, inl, inr}
 use mathlib.Core.Path.{◌≡◌, refl, ◌∙◌}
-use Prim.Native.Nat.{ℕ, ◌+◌, ◌≤◌, ◌<◌}
+use Prim.Native.Nat.{◌+◌, ◌≤◌, ◌<◌}
 use native.Mathlib.Omega.{arith}
 use borrow.Author.Tests.{ltb-true, ltb-false, eqb-true, eqb-false}
 use lib.Dec.{eqb, ltb}
@@ -93,10 +93,6 @@ kept c d =
       m = refl;
     }
 
--- what stands where two constructors would have to be equal
-impossible : {A : Type 0} → ◌≡◌ {A = ℕ} 0 1 → A
-impossible e = absurd (omega arith)
-
 second-false : (t : Bool) {u : Bool} → (t || u) ≡ false → u ≡ false
 second-false true e = cc
 second-false false e = e
@@ -148,7 +144,7 @@ module _ (s : Settings) (c : Common) (work : List Float) where
         rejected-pass = λ q. cc;
         rejected-poor = λ q. refl;
         due = λ q. cc;
-        below = λ few q. impossible (cc);
+        below = λ few q. absurd (cc);
         ialth = inl refl;
         orders = λ p. p;
         in-range = λ p. same-range _ refl refl refl refl p;
@@ -208,8 +204,8 @@ module _ (s : Settings) (c : Common) (dsm : Float) (work : List Float) where
         ncf = refl;
         rejected = refl;
         next = inr (inr refl);
-        pass = λ q. impossible (cc);
-        restep = λ few q. impossible (cc);
+        pass = λ q. absurd (cc);
+        restep = λ few q. absurd (cc);
         ialth = inl refl;
         orders = λ p. p;
         in-range = λ p. same-range _ refl refl refl refl p;
@@ -230,7 +226,7 @@ module _ (s : Settings) (c : Common) (dsm : Float) (work : List Float) where
         rejected = refl;
         next = inl refl;
         pass = λ q. ltb-true (c.kflag + 1) 3 e;
-        restep = λ few q. impossible (cc);
+        restep = λ few q. absurd (cc);
         ialth = inr refl;
         orders = λ p. p;
         in-range = λ p. same-range _ refl refl refl refl p;
@@ -246,7 +242,7 @@ module _ (s : Settings) (c : Common) (dsm : Float) (work : List Float) where
         ncf = refl;
         rejected = refl;
         next = inr (inl refl);
-        pass = λ q. impossible (cc);
+        pass = λ q. absurd (cc);
         restep = λ few q.
             let third = ltb-false (c.kflag + 1) 3 e in
             let other = eqb-false (c.kflag + 1) 10 l in
