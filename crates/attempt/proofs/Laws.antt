@@ -5,13 +5,14 @@
 --     Restepped        the derivative is there: order 1
 -- Each says too that the work keeps its length, that orders and columns stay in range, and what a step's functions ask.
 -- Assumes nothing.
-use mathlib.Core.Bool.{Bool, true, false, cond, ◌||◌}
+use mathlib.Core.Bool.{Bool, true, false, cond}
 use mathlib.Core.List.{List}
 use mathlib.Core.Logic.{◌⊎◌, inl, inr}
 use mathlib.Core.Path.{◌≡◌, refl, ◌∙◌}
 use Prim.Native.Nat.{◌+◌, ◌≤◌, ◌<◌}
 use native.Mathlib.Omega.{arith}
 use borrow.Author.Tests.{ltb-true, ltb-false, eqb-true, eqb-false}
+use Rattle.std.proofs.lemmas.Bool.{or_parts}
 use lib.Dec.{eqb, ltb}
 use lib.Ieee.{Float}
 use lib.ListN.{length}
@@ -93,10 +94,6 @@ kept c d =
       m = refl;
     }
 
-second-false : (t : Bool) {u : Bool} → (t || u) ≡ false → u ≡ false
-second-false true e = cc
-second-false false e = e
-
 same-choice : {A : Type 0} (t : Bool) {x y : A} → y ≡ x → cond t x y ≡ x
 same-choice true e = refl
 same-choice false e = e
@@ -163,7 +160,7 @@ module _ (s : Settings) (c : Common) (work : List Float) where
         rejected-poor = λ q. cc;
         due = λ q. due-predicted s (adjust_of d (max_of d0_25 (least_of d))) refl;
         below = λ few q.
-            let other = eqb-false (c.ncf + 1) (mxncf_of s) (second-false (tiny_of (unconverged_of c)) e) in
+            let other = eqb-false (c.ncf + 1) (mxncf_of s) (or_parts (tiny_of (unconverged_of c)) _ e).1 in
             omega (arith, other);
         ialth = inr refl;
         orders = λ p. p;
