@@ -16,7 +16,7 @@ use Rattle.history.specs.Steps.{adjust_of}
 use Rattle.history.proofs.Laws.{length-rescale}
 use Rattle.acceptance.specs.declared.family.Change.{Change}
 use Rattle.acceptance.specs.declared.family.Change.TheVariants.{Stay, Gap, To}
-use Rattle.acceptance.specs.declared.family.Move.{Move}
+use Rattle.acceptance.specs.declared.family.Proposal.{Proposal}
 use Rattle.acceptance.specs.Family.{change_of, changed_of}
 use Rattle.acceptance.proofs.ChangeOrder.{order_within, change-within}
 use Rattle.acceptance.specs.declared.Branch.TheVariants.{Unchanged, CoefficientGap}
@@ -36,7 +36,7 @@ module _ (s : Settings) (dsm : Float) where
       let more = eqb-false (c.ialth - 1) 0 e in
       waits-moves s c c.ialth Unchanged (c.ialth - 1) work (λ h. omega (arith, more)) (omega arith))
 
-  changed-moves : (c : Common) (to : Move) (work : List Float)
+  changed-moves : (c : Common) (to : Proposal) (work : List Float)
       → ((1 ≤ s.mxordn) × (1 ≤ s.mxords) → 1 ≤ c.nq → (1 ≤ to.order) × (to.order ≤ c.nq))
       → Moves s c c.ialth work (changed_family (changed_of s c to work))
   unfolding changed_of adjust_of

@@ -1,7 +1,7 @@
 -- What the order choice keeps of the record and the work, way by way through its definitions.
 -- Assumes nothing.
 use mathlib.Core.Path.{◌≡◌, refl, ap, ◌∙◌}
-use mathlib.Core.Bool.{Bool, true, false, ◌||◌}
+use mathlib.Core.Bool.{◌||◌}
 use mathlib.Core.List.{List}
 use mathlib.Core.Logic.{◌⊎◌, inl, inr}
 use Prim.Native.Nat.{ℕ, ◌+◌, ◌≤◌, max}
@@ -11,6 +11,7 @@ use lib.ListN.{length, length-set}
 use lib.Ieee as Ieee
 use lib.Ieee.{Float}
 use borrow.Author.Tests.{eqb-false}
+use Rattle.std.proofs.lemmas.Bool.{or_parts}
 use Rattle.loops.proofs.Stores.{length-for}
 use Rattle.loops.proofs.Test.{chosen_by}
 use Rattle.numbers.specs.Float.{d1_1}
@@ -33,10 +34,6 @@ use Rattle.acceptance.specs.Order.{Settled, raised_at, raised_work_of, raised_le
 use Rattle.acceptance.specs.Order.{order_taken_of}
 use Rattle.acceptance.specs.Order.{settle_of, raise_column_at, raise_column_of, raise_of, lower_of, same_largest}
 use Rattle.acceptance.specs.Order.{choose_of, forgotten_of, choose_order_of}
-
-first-false : (t u : Bool) → (t || u) ≡ false → t ≡ false
-first-false true u e = e
-first-false false u e = refl
 
 -- c with what the tests of an accepted step may move taken from d
 abbrev pub tests_moved : Common → Common → Common
@@ -146,7 +143,7 @@ module _ (s : Settings) (k : ℕ) where
       let small = Ieee.lt up d1_1 in
       chosen_by (Moves s c k work) (last || small) (λ e. three s c k SmallGain work)
       (λ e.
-      let more = eqb-false (c.nq + 1) c.lmax (first-false last small e) in
+      let more = eqb-false (c.nq + 1) c.lmax (or_parts last small e).0 in
       moves_from s c k c work _ _ refl refl refl (λ t l o. o) (length-raise-column s.n (c.nq + 1) _ work)
       (settled-moves c _ Raised _ (λ t o. (omega arith, omega (arith, more, o.lmax)))))
 

@@ -17,7 +17,6 @@ use Rattle.common.specs.Limits.{mxordn_of, mxords_of}
 use Rattle.common.specs.Rules.{icount20}
 use Rattle.history.specs.Columns.{rescale_columns_of}
 use Rattle.history.specs.Steps.{least_of, limited_of, adjust_of}
-use Rattle.acceptance.specs.declared.family.Move.{Move}
 use Rattle.acceptance.specs.declared.family.Change.{Change}
 use Rattle.acceptance.specs.declared.family.Change.TheVariants.{Stay, Gap, To}
 use Rattle.acceptance.specs.declared.family.Proposal.{Proposal}
@@ -59,17 +58,18 @@ adams_proposal_of s c dsm work =
     let dm1 = cond (leb c.nq q) (dsm ⊗ (cm2_of c.table c.nq ⊘ cm1_of c.table c.nq))
     (column_size_of s.n (q + 1) work ⊘ cm1_of c.table q) in
     let order = cond (leb c.nq q) c.nq q in
-    record { error = dm1; order = order; rh = size_of d1_2 d1_2e_6 dm1 (order + 1) }
+    record { error = dm1; proposal = record { order = order; rh = size_of d1_2 d1_2e_6 dm1 (order + 1) } }
 
 -- rh1, the Adams method's factor within its stability limit; rh2, the BDF method's own
 abbrev pub to_adams_at : Common → Float → AdamsProposal → Change
 to_adams_at c dsm p =
-    let rh1 = within_stability_of p.rh (c.pdnorm ⊗ abs_of c.h) p.order in
+    let order = p.proposal.order in
+    let rh1 = within_stability_of p.proposal.rh (c.pdnorm ⊗ abs_of c.h) order in
     let rh2 = size_of d1_2 d1_2e_6 dsm (c.nq + 1) in
     move_if
     (Ieee.le (d5 ⊗ rh2) (rh1 ⊗ d5)
-    && Ieee.lt (d1000 ⊗ uround ⊗ c.pnorm) ((root_of (max_of rh1 d1e_3) (p.order + 1)).value ⊗ p.error))
-    c rh1 p.order
+    && Ieee.lt (d1000 ⊗ uround ⊗ c.pnorm) ((root_of (max_of rh1 d1e_3) (order + 1)).value ⊗ p.error))
+    c rh1 order
 
 unfoldable pub to_adams_of : Settings → Common → Float → List Float → Change
 to_adams_of s c dsm work = cond (ltb 5 c.nq) Gap (to_adams_at c dsm (adams_proposal_of s c dsm work))
@@ -87,11 +87,11 @@ abbrev pub other_of : MethodFamily → MethodFamily
 other_of Adams = Bdf
 other_of Bdf = Adams
 
-abbrev pub other_family_of : Common → Move → Common
+abbrev pub other_family_of : Common → Proposal → Common
 other_family_of c to = with_icount icount20 (with_pdlast zero_f (with_nq to.order (with_meth (other_of c.meth) c)))
 
 -- order and columns move with the family; coefficients, lmax and nqnyh stay
-unfoldable pub changed_of : Settings → Common → Move → List Float → Moved
+unfoldable pub changed_of : Settings → Common → Proposal → List Float → Moved
 changed_of s c to work =
     let d = other_family_of c to in
     record { common = adjust_of d to.rh; work = rescale_columns_of s.n (d.nq + 1) (limited_of d to.rh) work }

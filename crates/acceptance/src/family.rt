@@ -12,20 +12,6 @@ ghost use Rattle.acceptance.specs.Family.{changed_of};
 
 use common::{Common, MethodFamily, Settings};
 
-// What the family test says: stay, the gap in the coefficients, or move to the other family with this factor and order.
-#[derive(Clone, Copy)]
-pub struct Move {
-    pub rh: f64,
-    pub order: usize,
-}
-
-#[derive(Clone, Copy)]
-pub enum Change {
-    Stay,
-    Gap,
-    To(Move),
-}
-
 // An order with the factor that the step would have there.
 #[derive(Clone, Copy)]
 pub struct Proposal {
@@ -33,9 +19,18 @@ pub struct Proposal {
     pub rh: f64,
 }
 
+// What the family test says: stay, the gap in the coefficients, or move to the other family as proposed.
+#[derive(Clone, Copy)]
+pub enum Change {
+    Stay,
+    Gap,
+    To(Proposal),
+}
+
 // ---- sizes
 
 // 1 / (a·d^(1/k) + b): the factor that an error d allows at order k - 1.
+#[tactic(auto, unfolding(crate::specs::Size::size_of))]
 pub fn size(a: f64, b: f64, d: f64, k: usize) -> f64
     ensures { result ≡ size_of a b d k }
 {
@@ -57,88 +52,93 @@ fn within_stability(rh: f64, pdh: f64, order: usize) -> f64
     requires { (1 ≤ order) × (order ≤ 12) }
     ensures { result ≡ within_stability_of rh pdh order }
 {
-    if pdh * rh > 1.0e-5 {
-        return numbers::min(rh, coefficients::sm1(order) / pdh);
-    }
-    numbers::min(rh, 2.0 * rh)
+    let limit = if pdh * rh > 1.0e-5 {
+        coefficients::sm1(order) / pdh
+    } else {
+        2.0 * rh
+    };
+    numbers::min(rh, limit)
 }
 
 // The BDF method that the Adams one is compared with: its factor and order.
+#[tactic(auto, unfolding(crate::specs::Family::bdf_proposal_of))]
 fn bdf_proposal(s: Settings, c: Common, dsm: f64, work: &[f64]) -> Proposal
     requires step_in_range { StepInRange s c }
     requires nq_bound { (c.nq ≤ 5) × (1 ≤ s.mxords) × (matrix_at s.n ≤ length work.now) }
     ensures { result ≡ bdf_proposal_of s c dsm work.now }
 {
     let mxords = s.mxords();
-    if mxords < c.nq {
-        let dm2 = column_size(work, s.n, mxords + 1) / coefficients::cm2(c.table, mxords);
-        return Proposal {
-            order: mxords,
-            rh: size(1.2, 1.2e-6, dm2, mxords + 1),
-        };
-    }
-    let dm2 = dsm * (coefficients::cm1(c.table, c.nq) / coefficients::cm2(c.table, c.nq));
+    let (order, dm2) = if mxords < c.nq {
+        (
+            mxords,
+            column_size(work, s.n, mxords + 1) / coefficients::cm2(c.table, mxords),
+        )
+    } else {
+        (
+            c.nq,
+            dsm * (coefficients::cm1(c.table, c.nq) / coefficients::cm2(c.table, c.nq)),
+        )
+    };
     Proposal {
-        order: c.nq,
-        rh: size(1.2, 1.2e-6, dm2, c.nq + 1),
+        order,
+        rh: size(1.2, 1.2e-6, dm2, order + 1),
     }
 }
 
+#[tactic(auto, unfolding(crate::specs::Family::to_bdf_of, crate::specs::Family::move_if))]
 fn to_bdf(s: Settings, c: Common, dsm: f64, work: &[f64]) -> Change
     requires step_in_range { StepInRange s c }
     requires le_mxords { (1 ≤ s.mxords) × (matrix_at s.n ≤ length work.now) }
     ensures { result ≡ to_bdf_of s c dsm work.now }
 {
-    if c.nq > 5 {
-        return Change::Stay;
-    }
-    if dsm > 100.0 * c.pnorm * 2.220446049250313e-16 {
-        if c.pdest != 0.0 {
-            let rh1 = within_stability(
-                size(1.2, 1.2e-6, dsm, c.nq + 1),
-                c.pdlast * numbers::abs(c.h),
-                c.nq,
-            );
-            let p = bdf_proposal(s, c, dsm, work);
-            if p.rh >= 5.0 * rh1 {
-                let rh = numbers::max(p.rh, history::least(c));
-                return Change::To(Move {
-                    rh: rh,
-                    order: p.order,
-                });
-            }
+    if c.nq <= 5 && dsm > 100.0 * c.pnorm * 2.220446049250313e-16 && c.pdest != 0.0 {
+        let rh1 = within_stability(
+            size(1.2, 1.2e-6, dsm, c.nq + 1),
+            c.pdlast * numbers::abs(c.h),
+            c.nq,
+        );
+        let p = bdf_proposal(s, c, dsm, work);
+        if p.rh >= 5.0 * rh1 {
+            return Change::To(Proposal {
+                rh: numbers::max(p.rh, history::least(c)),
+                ..p
+            });
         }
     }
     Change::Stay
 }
 
-// The Adams method that the BDF one is compared with: its error, order, and factor before the stability limit.
+// The Adams method that the BDF one is compared with: its error, and its order and factor before the stability limit.
 #[derive(Clone, Copy)]
 pub struct AdamsProposal {
     pub error: f64,
-    pub order: usize,
-    pub rh: f64,
+    pub proposal: Proposal,
 }
 
+#[tactic(auto, unfolding(crate::specs::Family::adams_proposal_of))]
 fn adams_proposal(s: Settings, c: Common, dsm: f64, work: &[f64]) -> AdamsProposal
     requires step_in_range { StepInRange s c }
     requires nq_bound { (c.nq ≤ 5) × (1 ≤ s.mxordn) × (matrix_at s.n ≤ length work.now) }
     ensures { result ≡ adams_proposal_of s c dsm work.now }
 {
     let mxordn = s.mxordn();
-    if c.nq <= mxordn {
-        let dm1 = dsm * (coefficients::cm2(c.table, c.nq) / coefficients::cm1(c.table, c.nq));
-        return AdamsProposal {
-            error: dm1,
-            order: c.nq,
-            rh: size(1.2, 1.2e-6, dm1, c.nq + 1),
-        };
-    }
-    let dm1 = column_size(work, s.n, mxordn + 1) / coefficients::cm1(c.table, mxordn);
+    let (order, error) = if c.nq <= mxordn {
+        (
+            c.nq,
+            dsm * (coefficients::cm2(c.table, c.nq) / coefficients::cm1(c.table, c.nq)),
+        )
+    } else {
+        (
+            mxordn,
+            column_size(work, s.n, mxordn + 1) / coefficients::cm1(c.table, mxordn),
+        )
+    };
     AdamsProposal {
-        error: dm1,
-        order: mxordn,
-        rh: size(1.2, 1.2e-6, dm1, mxordn + 1),
+        error,
+        proposal: Proposal {
+            order,
+            rh: size(1.2, 1.2e-6, error, order + 1),
+        },
     }
 }
 
@@ -151,16 +151,15 @@ fn to_adams(s: Settings, c: Common, dsm: f64, work: &[f64]) -> Change
     if 5 < c.nq {
         return Change::Gap;
     }
-    let p = adams_proposal(s, c, dsm, work);
-    let order = p.order;
-    let rh1 = within_stability(p.rh, c.pdnorm * numbers::abs(c.h), order);
+    let AdamsProposal { error, proposal: p } = adams_proposal(s, c, dsm, work);
+    let rh1 = within_stability(p.rh, c.pdnorm * numbers::abs(c.h), p.order);
     let rh2 = size(1.2, 1.2e-6, dsm, c.nq + 1);
     if rh1 * 5.0 >= 5.0 * rh2 {
-        let dm1 = root::root(numbers::max(rh1, 0.001), order + 1).value * p.error;
+        let dm1 = root::root(numbers::max(rh1, 0.001), p.order + 1).value * error;
         if dm1 > 1000.0 * 2.220446049250313e-16 * c.pnorm {
-            return Change::To(Move {
+            return Change::To(Proposal {
                 rh: numbers::max(rh1, history::least(c)),
-                order: order,
+                ..p
             });
         }
     }
@@ -168,6 +167,7 @@ fn to_adams(s: Settings, c: Common, dsm: f64, work: &[f64]) -> Change
 }
 
 // The family test of an accepted step.
+#[tactic(auto, unfolding(crate::specs::Family::change_of))]
 pub fn compare_families(s: Settings, c: Common, dsm: f64, work: &[f64]) -> Change
     requires step_in_range { StepInRange s c }
     requires le_mxordn { (1 ≤ s.mxordn) × (1 ≤ s.mxords) × (matrix_at s.n ≤ length work.now) }
@@ -190,7 +190,8 @@ fn other(meth: MethodFamily) -> MethodFamily
 }
 
 // The family changes: order and columns move with it; coefficients, lmax and nqnyh stay.
-pub fn change_family(s: Settings, c: Common, to: Move, work: &mut [f64]) -> Common
+#[tactic(auto, unfolding(crate::specs::Family::changed_of))]
+pub fn change_family(s: Settings, c: Common, to: Proposal, work: &mut [f64]) -> Common
     requires step_in_range { StepInRange s c }
     requires le_order { (1 ≤ to.order) × (to.order ≤ c.nq) × (matrix_at s.n ≤ length work.old) }
     ensures { ◌≡◌ {A = Moved} (record { common = result; work = work.new })

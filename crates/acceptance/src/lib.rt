@@ -38,22 +38,25 @@ pub struct Chosen {
 // ---- acceptance
 
 // The step counts, and its correction goes into the columns.
+#[tactic(auto, unfolding(crate::specs::Accept::corrected_of))]
 fn correct(s: Settings, c: Common, work: &mut [f64]) -> Common
     requires step_in_range { StepInRange s c }
     requires nst_bound { (c.nst < 2 ^ 63) × (1 ≤ c.icount) × (matrix_at s.n ≤ length work.old) }
     ensures { (result ≡ corrected_of c) × (work.new ≡ correct_columns_of s c work.old) }
 {
     history::correct_columns(s, c, work);
-    let mut d = c;
-    d.kflag = 0;
-    d.m = 0;
-    d.nst = c.nst + 1;
-    d.hu = c.h;
-    d.icount = c.icount - 1;
-    d
+    Common {
+        kflag: 0,
+        m: 0,
+        nst: c.nst + 1,
+        hu: c.h,
+        icount: c.icount - 1,
+        ..c
+    }
 }
 
 // No change of family: the order choice, if it is due.
+#[tactic(auto, unfolding(crate::specs::Accept::keep_family_of))]
 fn keep_family(s: Settings, c: Common, dsm: f64, work: &mut [f64]) -> Chosen
     requires step_in_range { StepInRange s c }
     requires le_lmax { (2 ≤ c.lmax) × (c.lmax ≤ 13) × (c.nq + 1 ≤ c.lmax) × (1 ≤ c.ialth)
@@ -61,14 +64,17 @@ fn keep_family(s: Settings, c: Common, dsm: f64, work: &mut [f64]) -> Chosen
     ensures { ◌≡◌ {A = Settled} (record { branch = result.branch; common = result.common; work = work.new })
         (keep_family_of s c dsm work.old) }
 {
-    let mut d = c;
-    d.ialth = c.ialth - 1;
+    let d = Common {
+        ialth: c.ialth - 1,
+        ..c
+    };
     if d.ialth == 0 {
-        return order::choose_order(s, d, dsm, work);
-    }
-    Chosen {
-        branch: Branch::Unchanged,
-        common: d,
+        order::choose_order(s, d, dsm, work)
+    } else {
+        Chosen {
+            branch: Branch::Unchanged,
+            common: d,
+        }
     }
 }
 
@@ -82,10 +88,11 @@ fn test_family(s: Settings, c: Common, dsm: f64, work: &mut [f64]) -> Chosen
     ensures { ◌≡◌ {A = Settled} (record { branch = result.branch; common = result.common; work = work.new })
         (test_family_of s c dsm work.old) }
 {
-    let mut change = Change::Stay;
-    if c.icount < 1000000 {
-        change = family::compare_families(s, c, dsm, work);
-    }
+    let change = if c.icount < 1000000 {
+        family::compare_families(s, c, dsm, work)
+    } else {
+        Change::Stay
+    };
     match change {
         Change::Stay => keep_family(s, c, dsm, work),
         Change::Gap => Chosen {
@@ -100,6 +107,7 @@ fn test_family(s: Settings, c: Common, dsm: f64, work: &mut [f64]) -> Chosen
 }
 
 // The step is accepted with the error dsm.
+#[tactic(auto, unfolding(crate::specs::Accept::accept_of, crate::specs::Accept::corrected_of))]
 pub fn accept(s: Settings, c: Common, dsm: f64, work: &mut [f64]) -> Chosen
     requires step_in_range { StepInRange s c }
     requires le_mxordn { (1 ≤ s.mxordn) × (1 ≤ s.mxords) × (c.nst < 2 ^ 63) × (1 ≤ c.icount) }
@@ -126,11 +134,7 @@ pub fn close(g: &Problem, c: Common, order: usize, work: &mut [f64]) -> Result<(
 {
     let n = g.settings.n;
     let r = 1.0 / coefficients::tesco(c.table, order, 1);
-    let a = common::ACOR * n;
-    let e = common::Y * n;
-    history::scale(&mut work[a..e], r);
-    let w = common::EWT * n;
-    let we = common::SAVF * n;
-    vectors::ewset(g.rtol, g.atol, work, n, w);
-    vectors::invert_weights(&mut work[w..we])
+    history::scale(&mut work[common::ACOR * n..common::Y * n], r);
+    vectors::ewset(g.rtol, g.atol, work, n, common::EWT * n);
+    vectors::invert_weights(&mut work[common::EWT * n..common::SAVF * n])
 }

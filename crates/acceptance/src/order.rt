@@ -1,8 +1,10 @@
 // The order choice of an accepted step, as in `stoda`: the factors that three orders allow, and the one that is taken.
+// set_raised and set_column count an index: they read one part of the work and write another, to be split first else.
 ghost use Rattle.std.specs.Prelude.{◌≡◌, ◌+◌, ◌≤◌, length};
 ghost use Rattle.common.specs.Limits.{max_states};
 ghost use Rattle.common.specs.Layout.{matrix_at};
 ghost use Rattle.common.specs.Ranges.{StepInRange};
+ghost use Rattle.common.specs.Record.{with_ialth};
 ghost use Rattle.acceptance.specs.Order.{Settled, raised_work_of, raised_left_of, raised_size_of, lowered_size_of};
 ghost use Rattle.acceptance.specs.Order.{limited_factors_of, held_of, settle_of, raise_column_of, raise_of, lower_of};
 ghost use Rattle.acceptance.specs.Order.{choose_of, forgotten_of, choose_order_of};
@@ -12,6 +14,7 @@ use crate::{Branch, Chosen, family};
 use common::{Common, Settings};
 
 // savf becomes the difference of the correction from column lmax - 1.
+#[tactic(auto, using(history::proofs::Turns::turns), unfolding(crate::specs::Order::raised_work_of))]
 fn set_raised(work: &mut [f64], n: usize, lmax: usize)
     requires { (1 ≤ lmax) × (lmax ≤ 13) × (n ≤ max_states) × (matrix_at n ≤ length work.old) }
     ensures { work.new ≡ raised_work_of n lmax work.old }
@@ -21,7 +24,9 @@ fn set_raised(work: &mut [f64], n: usize, lmax: usize)
     }
 }
 
-// The factor at the next higher order, 0 if there is none.
+// The factor at the next higher order; where there is none 0, which is the published Rust's own and takes part in the
+// choice.
+#[tactic(auto, unfolding(crate::specs::Order::raised_size_of, crate::specs::Order::raised_left_of))]
 fn raised_size(s: Settings, c: Common, work: &mut [f64]) -> f64
     requires step_in_range { StepInRange s c }
     requires le_lmax { (2 ≤ c.lmax) × (c.lmax ≤ 13) × (c.nq + 1 ≤ c.lmax) × (matrix_at s.n ≤ length work.old) }
@@ -40,6 +45,7 @@ fn raised_size(s: Settings, c: Common, work: &mut [f64]) -> f64
 }
 
 // The factor at the next lower order, 0 if there is none.
+#[tactic(auto, unfolding(crate::specs::Order::lowered_size_of))]
 fn lowered_size(s: Settings, c: Common, work: &[f64]) -> f64
     requires step_in_range { StepInRange s c }
     requires n_in_bounds { matrix_at s.n ≤ length work.now }
@@ -70,18 +76,23 @@ fn limited_factors(c: Common, f: Factors) -> Factors
         return f;
     }
     let d = history::pdh(c);
-    let mut r = f;
-    if c.nq + 1 < c.lmax {
-        r.up = numbers::min(f.up, coefficients::sm1(c.nq + 1) / d);
+    Factors {
+        up: if c.nq + 1 < c.lmax {
+            numbers::min(f.up, coefficients::sm1(c.nq + 1) / d)
+        } else {
+            f.up
+        },
+        same: numbers::min(f.same, coefficients::sm1(c.nq) / d),
+        down: if 1 < c.nq {
+            numbers::min(f.down, coefficients::sm1(c.nq - 1) / d)
+        } else {
+            f.down
+        },
     }
-    r.same = numbers::min(f.same, coefficients::sm1(c.nq) / d);
-    if 1 < c.nq {
-        r.down = numbers::min(f.down, coefficients::sm1(c.nq - 1) / d);
-    }
-    r
 }
 
 // The column of the order that is raised to: the correction times el[nq] / l.
+#[tactic(auto, using(history::proofs::Turns::turns), unfolding(crate::specs::Order::raise_column_of))]
 fn set_column(work: &mut [f64], n: usize, j: usize, r: f64)
     requires { (j ≤ 12) × (n ≤ max_states) × (matrix_at n ≤ length work.old) }
     ensures { work.new ≡ raise_column_of n j r work.old }
@@ -96,50 +107,47 @@ fn is_held(c: Common, p: Proposal) -> bool
     requires { (1 ≤ p.order) × (p.order ≤ 12) }
     ensures { result ≡ held_of c p }
 {
-    if c.meth.is_bdf() {
-        return false;
+    !c.meth.is_bdf() && p.rh * history::pdh(c) * 1.00001 >= coefficients::sm1(p.order)
+}
+
+// Three steps more as now.
+fn wait(branch: Branch, c: Common) -> Chosen
+    ensures { result ≡ record { branch = branch; common = with_ialth 3 c } }
+{
+    Chosen {
+        branch,
+        common: Common { ialth: 3, ..c },
     }
-    p.rh * history::pdh(c) * 1.00001 >= coefficients::sm1(p.order)
 }
 
 // A proposal is taken, unless it is held or gains less than a tenth.
+#[tactic(auto, unfolding(crate::specs::Order::settle_of))]
 fn settle(s: Settings, c: Common, p: Proposal, branch: Branch, work: &mut [f64]) -> Chosen
     requires step_in_range { StepInRange s c }
     requires le_order { (1 ≤ p.order) × (p.order ≤ 12) × (matrix_at s.n ≤ length work.old) }
     ensures { ◌≡◌ {A = Settled} (record { branch = result.branch; common = result.common; work = work.new })
         (settle_of s c p branch work.old) }
 {
-    let mut d = c;
-    d.ialth = 3;
     if is_held(c, p) {
-        return Chosen {
-            branch: Branch::HeldBySm1,
-            common: d,
-        };
+        return wait(Branch::HeldBySm1, c);
     }
     if p.rh < 1.1 {
-        return Chosen {
-            branch: Branch::SmallGain,
-            common: d,
-        };
+        return wait(Branch::SmallGain, c);
     }
     let rh = numbers::max(p.rh, history::least(c));
-    if p.order == c.nq {
-        return Chosen {
-            branch: branch,
-            common: history::stoda_adjust_step_size(s, c, rh, work),
-        };
-    }
-    let mut e = c;
-    e.nq = p.order;
-    let f = e.stoda_reset(s);
+    let d = if p.order == c.nq {
+        c
+    } else {
+        Common { nq: p.order, ..c }.stoda_reset(s)
+    };
     Chosen {
-        branch: branch,
-        common: history::stoda_adjust_step_size(s, f, rh, work),
+        branch,
+        common: history::stoda_adjust_step_size(s, d, rh, work),
     }
 }
 
 // The order is raised: its column is written before the proposal is weighed.
+#[tactic(auto, unfolding(crate::specs::Order::raise_of))]
 fn raise(s: Settings, c: Common, up: f64, work: &mut [f64]) -> Chosen
     requires step_in_range { StepInRange s c }
     requires nq_bound { (c.nq + 1 ≤ c.lmax) × (c.lmax ≤ 13) × (matrix_at s.n ≤ length work.old) }
@@ -147,27 +155,16 @@ fn raise(s: Settings, c: Common, up: f64, work: &mut [f64]) -> Chosen
         (raise_of s c up work.old) }
 {
     let l = c.nq + 1;
-    let mut d = c;
-    d.ialth = 3;
-    if l == c.lmax {
-        return Chosen {
-            branch: Branch::SmallGain,
-            common: d,
-        };
+    if l == c.lmax || up < 1.1 {
+        return wait(Branch::SmallGain, c);
     }
-    if up < 1.1 {
-        return Chosen {
-            branch: Branch::SmallGain,
-            common: d,
-        };
-    }
-    let count = l as u32;
-    let r = c.el(s, c.nq) / count as f64;
+    let r = c.el(s, c.nq) / l as u32 as f64;
     set_column(work, s.n, l, r);
     settle(s, c, Proposal { order: l, rh: up }, Branch::Raised, work)
 }
 
 // The order is lowered; order 1 has none below it, and stays.
+#[tactic(auto, unfolding(crate::specs::Order::lower_of))]
 fn lower(s: Settings, c: Common, down: f64, work: &mut [f64]) -> Chosen
     requires step_in_range { StepInRange s c }
     requires n_in_bounds { matrix_at s.n ≤ length work.old }
@@ -175,23 +172,13 @@ fn lower(s: Settings, c: Common, down: f64, work: &mut [f64]) -> Chosen
         (lower_of s c down work.old) }
 {
     if c.nq == 1 {
-        let mut d = c;
-        d.ialth = 3;
-        return Chosen {
-            branch: Branch::SmallGain,
-            common: d,
-        };
+        return wait(Branch::SmallGain, c);
     }
-    settle(
-        s,
-        c,
-        Proposal {
-            order: c.nq - 1,
-            rh: down,
-        },
-        Branch::Lowered,
-        work,
-    )
+    let p = Proposal {
+        order: c.nq - 1,
+        rh: down,
+    };
+    settle(s, c, p, Branch::Lowered, work)
 }
 
 // The largest of the three factors decides.
@@ -202,24 +189,17 @@ fn choose(s: Settings, c: Common, f: Factors, work: &mut [f64]) -> Chosen
     ensures { ◌≡◌ {A = Settled} (record { branch = result.branch; common = result.common; work = work.new })
         (choose_of s c f work.old) }
 {
-    if f.same >= f.up {
-        if f.same >= f.down {
-            return settle(
-                s,
-                c,
-                Proposal {
-                    order: c.nq,
-                    rh: f.same,
-                },
-                Branch::Kept,
-                work,
-            );
-        }
+    if f.same >= f.up && f.same >= f.down {
+        let p = Proposal {
+            order: c.nq,
+            rh: f.same,
+        };
+        settle(s, c, p, Branch::Kept, work)
+    } else if f.up > f.down {
+        raise(s, c, f.up, work)
+    } else {
+        lower(s, c, f.down, work)
     }
-    if f.up > f.down {
-        return raise(s, c, f.up, work);
-    }
-    lower(s, c, f.down, work)
 }
 
 // In the Adams family the estimate of the Jacobian's norm begins anew.
@@ -227,14 +207,14 @@ fn forget_estimate(c: Common) -> Common
     ensures { result ≡ forgotten_of c }
 {
     if c.meth.is_bdf() {
-        return c;
+        c
+    } else {
+        Common { pdest: 0.0, ..c }
     }
-    let mut d = c;
-    d.pdest = 0.0;
-    d
 }
 
 // The order choice, due where ialth has come to 0.
+#[tactic(auto, unfolding(crate::specs::Order::choose_order_of))]
 pub fn choose_order(s: Settings, c: Common, dsm: f64, work: &mut [f64]) -> Chosen
     requires step_in_range { StepInRange s c }
     requires le_lmax { (2 ≤ c.lmax) × (c.lmax ≤ 13) × (c.nq + 1 ≤ c.lmax) × (matrix_at s.n ≤ length work.old) }
@@ -244,13 +224,6 @@ pub fn choose_order(s: Settings, c: Common, dsm: f64, work: &mut [f64]) -> Chose
     let up = raised_size(s, c, work);
     let same = family::size(1.2, 1.2e-6, dsm, c.nq + 1);
     let down = lowered_size(s, c, work);
-    let f = limited_factors(
-        c,
-        Factors {
-            up: up,
-            same: same,
-            down: down,
-        },
-    );
+    let f = limited_factors(c, Factors { up, same, down });
     choose(s, forget_estimate(c), f, work)
 }

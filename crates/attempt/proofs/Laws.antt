@@ -5,13 +5,14 @@
 --     Restepped        the derivative is there: order 1
 -- Each says too that the work keeps its length, that orders and columns stay in range, and what a step's functions ask.
 -- Assumes nothing.
-use mathlib.Core.Bool.{Bool, true, false, cond, ◌||◌}
+use mathlib.Core.Bool.{Bool, true, false, cond}
 use mathlib.Core.List.{List}
 use mathlib.Core.Logic.{◌⊎◌, inl, inr}
 use mathlib.Core.Path.{◌≡◌, refl, ◌∙◌}
-use Prim.Native.Nat.{ℕ, ◌+◌, ◌≤◌, ◌<◌}
+use Prim.Native.Nat.{◌+◌, ◌≤◌, ◌<◌}
 use native.Mathlib.Omega.{arith}
 use borrow.Author.Tests.{ltb-true, ltb-false, eqb-true, eqb-false}
+use Rattle.std.proofs.lemmas.Bool.{or_parts}
 use lib.Dec.{eqb, ltb}
 use lib.Ieee.{Float}
 use lib.ListN.{length}
@@ -93,14 +94,6 @@ kept c d =
       m = refl;
     }
 
--- what stands where two constructors would have to be equal
-impossible : {A : Type 0} → ◌≡◌ {A = ℕ} 0 1 → A
-impossible e = absurd (omega arith)
-
-second-false : (t : Bool) {u : Bool} → (t || u) ≡ false → u ≡ false
-second-false true e = cc
-second-false false e = e
-
 same-choice : {A : Type 0} (t : Bool) {x y : A} → y ≡ x → cond t x y ≡ x
 same-choice true e = refl
 same-choice false e = e
@@ -148,7 +141,7 @@ module _ (s : Settings) (c : Common) (work : List Float) where
         rejected-pass = λ q. cc;
         rejected-poor = λ q. refl;
         due = λ q. cc;
-        below = λ few q. impossible (cc);
+        below = λ few q. absurd (cc);
         ialth = inl refl;
         orders = λ p. p;
         in-range = λ p. same-range _ refl refl refl refl p;
@@ -167,7 +160,7 @@ module _ (s : Settings) (c : Common) (work : List Float) where
         rejected-poor = λ q. cc;
         due = λ q. due-predicted s (adjust_of d (max_of d0_25 (least_of d))) refl;
         below = λ few q.
-            let other = eqb-false (c.ncf + 1) (mxncf_of s) (second-false (tiny_of (unconverged_of c)) e) in
+            let other = eqb-false (c.ncf + 1) (mxncf_of s) (or_parts (tiny_of (unconverged_of c)) _ e).1 in
             omega (arith, other);
         ialth = inr refl;
         orders = λ p. p;
@@ -208,8 +201,8 @@ module _ (s : Settings) (c : Common) (dsm : Float) (work : List Float) where
         ncf = refl;
         rejected = refl;
         next = inr (inr refl);
-        pass = λ q. impossible (cc);
-        restep = λ few q. impossible (cc);
+        pass = λ q. absurd (cc);
+        restep = λ few q. absurd (cc);
         ialth = inl refl;
         orders = λ p. p;
         in-range = λ p. same-range _ refl refl refl refl p;
@@ -230,7 +223,7 @@ module _ (s : Settings) (c : Common) (dsm : Float) (work : List Float) where
         rejected = refl;
         next = inl refl;
         pass = λ q. ltb-true (c.kflag + 1) 3 e;
-        restep = λ few q. impossible (cc);
+        restep = λ few q. absurd (cc);
         ialth = inr refl;
         orders = λ p. p;
         in-range = λ p. same-range _ refl refl refl refl p;
@@ -246,7 +239,7 @@ module _ (s : Settings) (c : Common) (dsm : Float) (work : List Float) where
         ncf = refl;
         rejected = refl;
         next = inr (inl refl);
-        pass = λ q. impossible (cc);
+        pass = λ q. absurd (cc);
         restep = λ few q.
             let third = ltb-false (c.kflag + 1) 3 e in
             let other = eqb-false (c.kflag + 1) 10 l in

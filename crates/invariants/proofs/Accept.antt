@@ -14,7 +14,6 @@ use Rattle.common.specs.Rules.{reset_of}
 use Rattle.history.specs.Columns.{correct_columns_of}
 use Rattle.acceptance.specs.declared.family.Change.{Change}
 use Rattle.acceptance.specs.declared.family.Change.TheVariants.{Stay, Gap, To}
-use Rattle.acceptance.specs.declared.family.Move.{Move}
 use Rattle.acceptance.specs.declared.family.Proposal.{Proposal}
 use Rattle.acceptance.specs.Family.{change_of, changed_of}
 use Rattle.acceptance.specs.declared.Branch.{Branch}
@@ -69,7 +68,7 @@ module _ (s : Settings) where
   keep-family c dsm work f =
       either SettledFits (eqb (c.ialth - 1) 0) _ _ (choose-order (counted_down c) dsm work f) f
 
-  changed-fits : (c : Common) (to : Move) (work : List Float) → CommonFits c
+  changed-fits : (c : Common) (to : Proposal) (work : List Float) → CommonFits c
       → CommonFits (changed_of s c to work).common
   unfolding changed_of
   changed-fits c to work f = adjust-fits s _ to.rh (put-pdlast (literal _) f)
