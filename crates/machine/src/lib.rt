@@ -22,6 +22,7 @@ fn is_asked(phase: Phase, kind: Kind, len: usize, n: usize) -> bool
         Phase::Finished => false,
         Phase::JacobianAsked => kind == Kind::Jacobian && len == n * n,
         Phase::FirstReport | Phase::Report => matches!(kind, Kind::Report(_)) && len == n,
+        // all others wait for a derivative
         _ => kind == Kind::Derivative && len == n,
     }
 }
@@ -65,6 +66,7 @@ pub fn resume(
         rtol,
         atol,
     };
+    // The phase is a stored session's, read from its bytes: data to switch on, which can hold no closure.
     match (x.phase, kind) {
         (Phase::FirstDerivative, _) => reports::first_derivative(&g, c, reply, work),
         (Phase::FirstReport, Kind::Report(answer)) => {
@@ -76,7 +78,9 @@ pub fn resume(
         (Phase::DifferenceColumn, _) => passes::column_reply(&g, c, reply, work, ipiv),
         (Phase::FurtherDerivative, _) => passes::further_reply(&g, c, reply, work, ipiv),
         (Phase::Restep, _) => passes::restep_reply(s, c, reply, work),
-        (Phase::Report, Kind::Report(answer)) => reports::after_report(s, c, answer, reply, time, work),
+        (Phase::Report, Kind::Report(answer)) => reports::after_report(
+            s, c, answer, reply, time, work,
+        ),
         (Phase::Modified, _) => reports::modified(s, c, reply, work),
         _ => unasked(x),
     }
