@@ -1,10 +1,8 @@
 -- What the functions inside a reply ask of the record (`Inside`) holds at each of their calls: it is `Within` with one
 -- step under way, and bounds on the counts.
---     inside-ranges                                a session in range
---     in-range, prepared-range                     what a step's functions ask
---     inside-tn, inside-restart, inside-column     what each change keeps
---     within_of, inside-by                         of any other change: to `Within`, and back from what it keeps
---     lent_length                                  the work and the pivots after a change of the work
+--     prepared-range          what a step's first prediction asks
+--     within_of, inside-by    of a change: to `Within`, and back from what it keeps
+--     lent_length             the work and the pivots after a change of the work
 -- Assumes nothing.
 use mathlib.Core.Path.{◌≡◌, ◌∙◌}
 use mathlib.Core.List.{List}
@@ -14,24 +12,11 @@ use lib.Ieee.{Float}
 use lib.ListN.{length}
 use Rattle.common.specs.declared.Settings.{Settings}
 use Rattle.common.specs.declared.Common.{Common}
-use Rattle.common.specs.Record.{with_tn, with_column}
-use Rattle.common.specs.Ranges.{Ranges, Inside, StepInRange, Lent}
+use Rattle.common.specs.Ranges.{Inside, StepInRange, Lent}
 use Rattle.common.proofs.Ranges.{wider}
 use Rattle.between_steps.specs.Begin.{prepared_of}
-use Rattle.between_steps.specs.Start.{restart_of}
-use Rattle.between_steps.proofs.Within.{core_of, Within, counters-of, range-of, within-column, within-restart}
+use Rattle.between_steps.proofs.Within.{core_of, Within, counters-of, range-of}
 use Rattle.between_steps.proofs.Within.{within-prepared}
-
-pub inside-ranges : {s : Settings} {c : Common} → Ranges s c → Inside s c
-inside-ranges p =
-    let k = p.counts in
-    record {
-      settings = p.settings;
-      orders = p.orders;
-      counters = p.counters;
-      steps = (omega (arith, k.nslp), omega (arith, k.nst));
-      counts = (omega (arith, k.nfe), omega (arith, k.count), omega (arith, k.rejected));
-    }
 
 -- nst stays inside a reply until a step is accepted, so icount stays at least 20
 module _ {s : Settings} {c : Common} (p : Inside s c) where
@@ -57,20 +42,8 @@ module _ {s : Settings} {c : Common} (p : Inside s c) where
     counts = k;
   }
 
-  pub in-range : StepInRange s c
-  in-range = range-of p.settings c within_of
-
   pub prepared-range : (work : List Float) → StepInRange s (prepared_of s c work).common
   prepared-range work = range-of p.settings _ (within-prepared p.settings c within_of work)
-
-  pub inside-tn : (t : Float) → Inside s (with_tn t c)
-  inside-tn t = inside-by (with_tn t c) within_of p.counts
-
-  pub inside-restart : Inside s (restart_of c)
-  inside-restart = inside-by (restart_of c) (within-restart p.settings c within_of) p.counts
-
-  pub inside-column : (j : ℕ) → j < s.n → Inside s (with_column j c)
-  inside-column j h = inside-by (with_column j c) (within-column p.settings c within_of j h) p.counts
 
 -- ---- the work and the pivots
 

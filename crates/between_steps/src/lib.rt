@@ -118,8 +118,16 @@ pub fn first_size(s: Settings, c: Common, h: f64) -> f64
     } else {
         h
     };
-    let h2 = if numbers::abs(h1) > numbers::abs(left) { left } else { h1 };
-    if numbers::abs(h2) < c.hmin { c.hmin * s.direction } else { h2 }
+    let h2 = if numbers::abs(h1) > numbers::abs(left) {
+        left
+    } else {
+        h1
+    };
+    if numbers::abs(h2) < c.hmin {
+        c.hmin * s.direction
+    } else {
+        h2
+    }
 }
 
 // The derivative at the start in savf, and y in column 0.

@@ -2,14 +2,15 @@
 // `resume` hands each reply to the function of its phase.
 #![tactic(auto)]
 
-ghost use Rattle.std.specs.Prelude.{◌≡◌, ◌≤◌};
+ghost use Rattle.std.specs.Prelude.{List, ◌≡◌, ℕ, ◌≤◌, Float};
 ghost use Rattle.common.specs.Limits.{max_states};
 ghost use Rattle.common.specs.State.{given, state};
 ghost use Rattle.questions.specs.Requires.{Resumes, UnlessFinished};
 ghost use Rattle.questions.specs.Turns.{run_state};
-ghost use Rattle.machine.specs.Resume.{is_asked, resume_of};
+ghost use Rattle.machine.specs.Resume.{is_asked, unasked, resume_of};
 
 use between_steps::Kind;
+use common::Problem;
 use questions::{Phase, Question, Session, Turn};
 
 // Whether a reply of this kind and length is what the phase waits for.
@@ -19,28 +20,26 @@ fn is_asked(phase: Phase, kind: Kind, len: usize, n: usize) -> bool
 {
     match phase {
         Phase::Finished => false,
-        Phase::JacobianAsked => match kind {
-            Kind::Jacobian => len == n * n,
-            Kind::Derivative | Kind::Report(_) => false,
-        },
-        Phase::FirstReport | Phase::Report => match kind {
-            Kind::Report(_) => len == n,
-            Kind::Derivative | Kind::Jacobian => false,
-        },
-        Phase::FirstDerivative
-        | Phase::FirstModified
-        | Phase::Opened
-        | Phase::DifferenceColumn
-        | Phase::FurtherDerivative
-        | Phase::Restep
-        | Phase::Modified => match kind {
-            Kind::Derivative => len == n,
-            Kind::Jacobian | Kind::Report(_) => false,
-        },
+        Phase::JacobianAsked => kind == Kind::Jacobian && len == n * n,
+        Phase::FirstReport | Phase::Report => matches!(kind, Kind::Report(_)) && len == n,
+        // all others wait for a derivative
+        _ => kind == Kind::Derivative && len == n,
+    }
+}
+
+// Nothing has changed.
+fn unasked(x: Session) -> Turn
+    ensures { (w : List Float) (p : List ℕ) → run_state result w p ≡ unasked x.phase (state x.common w p) }
+{
+    Turn {
+        question: Question::Unasked,
+        phase: x.phase,
+        common: x.common,
     }
 }
 
 // The next question after a reply; nothing has changed where the reply is not what was asked.
+#[tactic(auto, unfolding(crate::specs::Resume::resume_of, crate::specs::Resume::resume_at))]
 pub fn resume(
     x: Session,
     kind: Kind,
@@ -59,43 +58,30 @@ pub fn resume(
 {
     let s = x.settings;
     let c = x.common;
-    let phase = x.phase;
-    if !is_asked(phase, kind, reply.len(), s.n) {
-        return Turn {
-            question: Question::Unasked,
-            phase: phase,
-            common: c,
-        };
+    if !is_asked(x.phase, kind, reply.len(), s.n) {
+        return unasked(x);
     }
-    match phase {
-        Phase::FirstDerivative => reports::first_derivative(s, c, rtol, atol, reply, work),
-        Phase::FirstReport => match kind {
-            Kind::Report(answer) => reports::after_first_report(s, c, answer, reply, time, work),
-            Kind::Derivative | Kind::Jacobian => Turn {
-                question: Question::Unasked,
-                phase: phase,
-                common: c,
-            },
-        },
-        Phase::FirstModified => reports::first_modified(s, c, reply, work),
-        Phase::Opened => passes::opened_reply(s, c, rtol, atol, reply, work, ipiv),
-        Phase::JacobianAsked => passes::jacobian_reply(s, c, rtol, atol, reply, work, ipiv),
-        Phase::DifferenceColumn => passes::column_reply(s, c, rtol, atol, reply, work, ipiv),
-        Phase::FurtherDerivative => passes::further_reply(s, c, rtol, atol, reply, work, ipiv),
-        Phase::Restep => passes::restep_reply(s, c, reply, work),
-        Phase::Report => match kind {
-            Kind::Report(answer) => reports::after_report(s, c, answer, reply, time, work),
-            Kind::Derivative | Kind::Jacobian => Turn {
-                question: Question::Unasked,
-                phase: phase,
-                common: c,
-            },
-        },
-        Phase::Modified => reports::modified(s, c, reply, work),
-        Phase::Finished => Turn {
-            question: Question::Unasked,
-            phase: phase,
-            common: c,
-        },
+    let g = Problem {
+        settings: s,
+        rtol,
+        atol,
+    };
+    // The phase is a stored session's, read from its bytes: data to switch on, which can hold no closure.
+    match (x.phase, kind) {
+        (Phase::FirstDerivative, _) => reports::first_derivative(&g, c, reply, work),
+        (Phase::FirstReport, Kind::Report(answer)) => {
+            reports::after_first_report(s, c, answer, reply, time, work)
+        }
+        (Phase::FirstModified, _) => reports::first_modified(s, c, reply, work),
+        (Phase::Opened, _) => passes::opened_reply(&g, c, reply, work, ipiv),
+        (Phase::JacobianAsked, _) => passes::jacobian_reply(&g, c, reply, work, ipiv),
+        (Phase::DifferenceColumn, _) => passes::column_reply(&g, c, reply, work, ipiv),
+        (Phase::FurtherDerivative, _) => passes::further_reply(&g, c, reply, work, ipiv),
+        (Phase::Restep, _) => passes::restep_reply(s, c, reply, work),
+        (Phase::Report, Kind::Report(answer)) => reports::after_report(
+            s, c, answer, reply, time, work,
+        ),
+        (Phase::Modified, _) => reports::modified(s, c, reply, work),
+        _ => unasked(x),
     }
 }

@@ -108,7 +108,11 @@ fn error_test(g: &Problem, c: Common, del: f64, work: &mut [f64]) -> Turn
 {
     let dsm = attempt::error(g.settings, c, del, work);
     if dsm > 1.0 {
-        attempted(attempt::error_failure(g.settings, c, dsm, work), g.settings.n, work)
+        attempted(
+            attempt::error_failure(g.settings, c, dsm, work),
+            g.settings.n,
+            work,
+        )
     } else {
         accepted(g, c, dsm, work)
     }
@@ -125,12 +129,7 @@ fn pass_failed(s: Settings, c: Common, work: &mut [f64]) -> Turn
 }
 
 // One iteration, and what its verdict leads to.
-fn iterate(
-    g: &Problem,
-    c: Common,
-    work: &mut [f64],
-    ipiv: &[usize],
-) -> Turn
+fn iterate(g: &Problem, c: Common, work: &mut [f64], ipiv: &[usize]) -> Turn
     requires inside { Inside g.now.settings c }
     requires lent { Lent g.now.settings.n work.old ipiv.now }
     ensures { run_state result work.new ipiv.now
@@ -151,12 +150,7 @@ fn iterate(
     }
 }
 
-fn iterations(
-    g: &Problem,
-    c: Common,
-    work: &mut [f64],
-    ipiv: &[usize],
-) -> Turn
+fn iterations(g: &Problem, c: Common, work: &mut [f64], ipiv: &[usize]) -> Turn
     requires inside { Inside g.now.settings c }
     requires lent { Lent g.now.settings.n work.old ipiv.now }
     ensures { run_state result work.new ipiv.now
@@ -172,12 +166,7 @@ fn iterations(
 
 // The matrix is complete: factored, then the iterations; a singular one gives no convergence.
 #[tactic(auto, unfolding(crate::specs::Pass::matrix_done_of, crate::specs::Pass::matrix_done_at))]
-fn matrix_done(
-    g: &Problem,
-    c: Common,
-    work: &mut [f64],
-    ipiv: &mut [usize],
-) -> Turn
+fn matrix_done(g: &Problem, c: Common, work: &mut [f64], ipiv: &mut [usize]) -> Turn
     requires inside { Inside g.now.settings c }
     requires nlu_bound { c.nlu < 2 ^ 63 }
     requires lent { Lent g.now.settings.n work.old ipiv.old }
@@ -232,13 +221,7 @@ fn ask_jacobian(s: Settings, c: Common, work: &mut [f64]) -> Turn
 
 // The derivative at the prediction.
 #[tactic(auto, unfolding(crate::specs::Pass::opened_reply_of, crate::specs::Pass::opened_reply_at))]
-pub fn opened_reply(
-    g: &Problem,
-    c: Common,
-    f: &[f64],
-    work: &mut [f64],
-    ipiv: &[usize],
-) -> Turn
+pub fn opened_reply(g: &Problem, c: Common, f: &[f64], work: &mut [f64], ipiv: &[usize]) -> Turn
     requires inside { Inside g.now.settings c }
     requires nje_bound { c.nje < 2 ^ 63 }
     requires f_len { length f.now ≡ g.now.settings.n }
@@ -248,7 +231,11 @@ pub fn opened_reply(
         (state c work.old ipiv.now) f.now }
 {
     history::store(work, common::SAVF * g.settings.n, f);
-    if c.due { ask_jacobian(g.settings, c, work) } else { iterations(g, c, work, ipiv) }
+    if c.due {
+        ask_jacobian(g.settings, c, work)
+    } else {
+        iterations(g, c, work, ipiv)
+    }
 }
 
 // The host's Jacobian.
@@ -276,13 +263,7 @@ pub fn jacobian_reply(
 
 // The derivative of a difference column.
 #[tactic(auto, unfolding(crate::specs::Pass::column_reply_of, crate::specs::Pass::column_reply_at))]
-pub fn column_reply(
-    g: &Problem,
-    c: Common,
-    f: &[f64],
-    work: &mut [f64],
-    ipiv: &mut [usize],
-) -> Turn
+pub fn column_reply(g: &Problem, c: Common, f: &[f64], work: &mut [f64], ipiv: &mut [usize]) -> Turn
     requires inside { Inside g.now.settings c }
     requires nlu_bound { c.nlu < 2 ^ 63 }
     requires f_len { length f.now ≡ g.now.settings.n }
@@ -304,13 +285,7 @@ pub fn column_reply(
 
 // A further derivative.
 #[tactic(auto, unfolding(crate::specs::Pass::further_reply_of))]
-pub fn further_reply(
-    g: &Problem,
-    c: Common,
-    f: &[f64],
-    work: &mut [f64],
-    ipiv: &[usize],
-) -> Turn
+pub fn further_reply(g: &Problem, c: Common, f: &[f64], work: &mut [f64], ipiv: &[usize]) -> Turn
     requires inside { Inside g.now.settings c }
     requires f_len { length f.now ≡ g.now.settings.n }
     requires lent { Lent g.now.settings.n work.old ipiv.now }
