@@ -21,12 +21,13 @@ use dense::Singular;
 pub fn open_iterations(c: Common, acor: &mut [f64]) -> Common
     ensures { (result ≡ open_of c) × (acor.new ≡ replicate (length acor.old) zero_f) }
 {
-    history::fill(acor, 0.0);
-    let mut d = c;
-    d.m = 0;
-    d.rate = 0.0;
-    d.delp = 0.0;
-    d
+    acor.fill(0.0);
+    Common {
+        m: 0,
+        rate: 0.0,
+        delp: 0.0,
+        ..c
+    }
 }
 
 // Adams: savf = h·savf - column 1, and in y its difference from the last correction.
@@ -114,9 +115,10 @@ pub fn correct(s: Settings, c: Common, work: &mut [f64], ipiv: &[usize]) -> Resu
         (correct_of s c ipiv.now work.old) }
 {
     if c.meth.is_bdf() {
-        return correct_bdf(s, c, work, ipiv);
+        correct_bdf(s, c, work, ipiv)
+    } else {
+        Ok(correct_adams(s, c, work))
     }
-    Ok(correct_adams(s, c, work))
 }
 
 // ---- the verdict
@@ -140,24 +142,23 @@ pub struct Verdict {
 fn rated(c: Common, del: f64) -> Common
     ensures { result ≡ rated_of c del }
 {
-    let mut rm = 1024.0;
-    if del <= 1024.0 * c.delp {
-        rm = del / c.delp;
+    let rm = if del <= 1024.0 * c.delp {
+        del / c.delp
+    } else {
+        1024.0
+    };
+    Common {
+        rate: numbers::max(c.rate, rm),
+        convrate: numbers::max(0.2 * c.convrate, rm),
+        ..c
     }
-    let mut d = c;
-    d.rate = numbers::max(c.rate, rm);
-    d.convrate = numbers::max(0.2 * c.convrate, rm);
-    d
 }
 
 // The record with what is known of the rate: in the first iteration nothing new.
 fn known_rate(c: Common, del: f64) -> Common
     ensures { result ≡ known_rate_of c del }
 {
-    if c.m == 0 {
-        return c;
-    }
-    rated(c, del)
+    if c.m == 0 { c } else { rated(c, del) }
 }
 
 // The size of the correction against what the error test allows.
@@ -174,23 +175,20 @@ fn estimated(s: Settings, c: Common) -> Common
     ensures { result ≡ estimated_of s c }
 {
     let pdest = numbers::max(c.pdest, c.rate / numbers::abs(c.h * c.el(s, 0)));
-    let mut d = c;
-    d.pdest = pdest;
-    if pdest != 0.0 {
-        d.pdlast = pdest;
+    Common {
+        pdest,
+        pdlast: if pdest != 0.0 { pdest } else { c.pdlast },
+        ..c
     }
-    d
 }
 
 // The pass has converged.
 fn converged(c: Common) -> Verdict
     ensures { result ≡ judged_converged c }
 {
-    let mut d = c;
-    d.jcur = false;
     Verdict {
         pass: Pass::Converged,
-        common: d,
+        common: Common { jcur: false, ..c },
     }
 }
 
@@ -198,24 +196,16 @@ fn converged(c: Common) -> Verdict
 fn give_up(c: Common) -> Verdict
     ensures { result ≡ give_up_of c }
 {
-    let current = c.jcur;
-    if c.meth.is_bdf() {
-        if current {
-            return Verdict {
-                pass: Pass::NoConvergence,
-                common: c,
-            };
-        }
-        let mut d = c;
-        d.due = true;
-        return Verdict {
+    if c.meth.is_bdf() && !c.jcur {
+        Verdict {
             pass: Pass::Retry,
-            common: d,
-        };
-    }
-    Verdict {
-        pass: Pass::NoConvergence,
-        common: c,
+            common: Common { due: true, ..c },
+        }
+    } else {
+        Verdict {
+            pass: Pass::NoConvergence,
+            common: c,
+        }
     }
 }
 
@@ -225,20 +215,12 @@ fn further(s: Settings, c: Common, del: f64) -> Verdict
     ensures { result ≡ judged_further s c del }
 {
     let m = c.m + 1;
-    if m == s.maxcor {
+    if m == s.maxcor || (2 <= m && del > 2.0 * c.delp) {
         return give_up(c);
     }
-    if 2 <= m {
-        if del > 2.0 * c.delp {
-            return give_up(c);
-        }
-    }
-    let mut d = c;
-    d.m = m;
-    d.delp = del;
     Verdict {
         pass: Pass::Further,
-        common: d,
+        common: Common { m, delp: del, ..c },
     }
 }
 
@@ -249,9 +231,10 @@ fn tested(s: Settings, c: Common, del: f64) -> Verdict
     ensures { result ≡ judged_tested s c del }
 {
     if dcon(c, del) <= 1.0 {
-        return converged(estimated(s, c));
+        converged(estimated(s, c))
+    } else {
+        further(s, c, del)
     }
-    further(s, c, del)
 }
 
 // How the pass stands after the iteration x with the norm pnorm of the prediction.
@@ -264,12 +247,10 @@ pub fn judge(s: Settings, c: Common, x: Result<f64, Singular>, pnorm: f64) -> Ve
         return give_up(c);
     };
     if del <= 100.0 * pnorm * 2.220446049250313e-16 {
-        return converged(c);
+        converged(c)
+    } else if c.m == 0 && !c.meth.is_bdf() {
+        further(s, c, del)
+    } else {
+        tested(s, known_rate(c, del), del)
     }
-    if c.m == 0 {
-        if !c.meth.is_bdf() {
-            return further(s, c, del);
-        }
-    }
-    tested(s, known_rate(c, del), del)
 }
