@@ -18,6 +18,7 @@ use dense::Singular;
 // ---- an iteration
 
 // A pass's iterations begin: no correction yet.
+#[tactic(auto, unfolding(crate::specs::Iterate::open_of))]
 pub fn open_iterations(c: Common, acor: &mut [f64]) -> Common
     ensures { (result ≡ open_of c) × (acor.new ≡ replicate (length acor.old) zero_f) }
 {
@@ -31,6 +32,7 @@ pub fn open_iterations(c: Common, acor: &mut [f64]) -> Common
 }
 
 // Adams: savf = h·savf - column 1, and in y its difference from the last correction.
+#[tactic(auto, using(history::proofs::Turns::turns), unfolding(crate::specs::Iterate::adams_residual_of))]
 fn adams_residual(work: &mut [f64], n: usize, h: f64)
     requires { matrix_at n ≤ length work.old }
     ensures { work.new ≡ adams_residual_of n h work.old }
@@ -42,6 +44,7 @@ fn adams_residual(work: &mut [f64], n: usize, h: f64)
 }
 
 // Adams: y = column 0 + el0·savf, and savf is the correction.
+#[tactic(auto, using(history::proofs::Turns::turns), unfolding(crate::specs::Iterate::adams_update_of))]
 fn adams_update(work: &mut [f64], n: usize, e: f64)
     requires { matrix_at n ≤ length work.old }
     ensures { work.new ≡ adams_update_of n e work.old }
@@ -53,6 +56,7 @@ fn adams_update(work: &mut [f64], n: usize, e: f64)
 }
 
 // The size of the correction.
+#[tactic(auto, unfolding(crate::specs::Iterate::adams_of))]
 fn correct_adams(s: Settings, c: Common, work: &mut [f64]) -> f64
     requires step_in_range { StepInRange s c }
     requires n_in_bounds { matrix_at s.n ≤ length work.old }
@@ -67,6 +71,7 @@ fn correct_adams(s: Settings, c: Common, work: &mut [f64]) -> f64
 }
 
 // BDF: y = h·savf - (column 1 + acor).
+#[tactic(auto, using(history::proofs::Turns::turns), unfolding(crate::specs::Iterate::bdf_residual_of))]
 fn bdf_residual(work: &mut [f64], n: usize, h: f64)
     requires { matrix_at n ≤ length work.old }
     ensures { work.new ≡ bdf_residual_of n h work.old }
@@ -78,6 +83,7 @@ fn bdf_residual(work: &mut [f64], n: usize, h: f64)
 }
 
 // BDF: acor += y, and y = column 0 + el0·acor.
+#[tactic(auto, using(history::proofs::Turns::turns), unfolding(crate::specs::Iterate::bdf_update_of))]
 fn bdf_update(work: &mut [f64], n: usize, e: f64)
     requires { matrix_at n ≤ length work.old }
     ensures { work.new ≡ bdf_update_of n e work.old }
@@ -89,6 +95,7 @@ fn bdf_update(work: &mut [f64], n: usize, e: f64)
 }
 
 // The size of the correction.
+#[tactic(auto, unfolding(crate::specs::Iterate::bdf_of))]
 fn correct_bdf(s: Settings, c: Common, work: &mut [f64], ipiv: &[usize]) -> Result<f64, Singular>
     requires step_in_range { StepInRange s c }
     requires n_in_bounds { (work_length s.n ≤ length work.old) × (s.n ≤ length ipiv.now) }
@@ -106,6 +113,7 @@ fn correct_bdf(s: Settings, c: Common, work: &mut [f64], ipiv: &[usize]) -> Resu
 }
 
 // One iteration in the family in force: the size of the correction.
+#[tactic(auto, unfolding(crate::specs::Iterate::correct_of))]
 pub fn correct(s: Settings, c: Common, work: &mut [f64], ipiv: &[usize]) -> Result<f64, Singular>
     requires step_in_range { StepInRange s c }
     requires n_in_bounds { (work_length s.n ≤ length work.old) × (s.n ≤ length ipiv.now) }
@@ -139,6 +147,7 @@ pub struct Verdict {
 }
 
 // The rate of convergence after a further iteration.
+#[tactic(auto, unfolding(crate::specs::Verdict::rated_of))]
 fn rated(c: Common, del: f64) -> Common
     ensures { result ≡ rated_of c del }
 {
@@ -155,6 +164,7 @@ fn rated(c: Common, del: f64) -> Common
 }
 
 // The record with what is known of the rate: in the first iteration nothing new.
+#[tactic(auto, unfolding(crate::specs::Verdict::known_rate_of))]
 fn known_rate(c: Common, del: f64) -> Common
     ensures { result ≡ known_rate_of c del }
 {
@@ -162,6 +172,7 @@ fn known_rate(c: Common, del: f64) -> Common
 }
 
 // The size of the correction against what the error test allows.
+#[tactic(auto, unfolding(crate::specs::Verdict::dcon_of))]
 fn dcon(c: Common, del: f64) -> f64
     requires { (c.table ≤ 2) × (1 ≤ c.nq) × (c.nq ≤ 12) }
     ensures { result ≡ dcon_of c del }
@@ -170,6 +181,7 @@ fn dcon(c: Common, del: f64) -> f64
 }
 
 // The estimate of the Jacobian's norm from the rate.
+#[tactic(auto, unfolding(crate::specs::Verdict::estimated_of))]
 fn estimated(s: Settings, c: Common) -> Common
     requires { StepInRange s c }
     ensures { result ≡ estimated_of s c }
@@ -183,6 +195,7 @@ fn estimated(s: Settings, c: Common) -> Common
 }
 
 // The pass has converged.
+#[tactic(auto, unfolding(crate::specs::Verdict::judged_converged))]
 fn converged(c: Common) -> Verdict
     ensures { result ≡ judged_converged c }
 {
@@ -193,6 +206,7 @@ fn converged(c: Common) -> Verdict
 }
 
 // The pass cannot go on: a retry where the Jacobian is old, which makes one due.
+#[tactic(auto, unfolding(crate::specs::Verdict::give_up_of))]
 fn give_up(c: Common) -> Verdict
     ensures { result ≡ give_up_of c }
 {
@@ -210,6 +224,7 @@ fn give_up(c: Common) -> Verdict
 }
 
 // A further derivative, unless maxcor iterations are done or the corrections grow.
+#[tactic(auto, unfolding(crate::specs::Verdict::judged_further))]
 fn further(s: Settings, c: Common, del: f64) -> Verdict
     requires { (s.maxcor ≤ 1000000) × (c.m < s.maxcor) }
     ensures { result ≡ judged_further s c del }
@@ -225,6 +240,7 @@ fn further(s: Settings, c: Common, del: f64) -> Verdict
 }
 
 // The convergence test proper, after the rate is known.
+#[tactic(auto, unfolding(crate::specs::Verdict::judged_tested))]
 fn tested(s: Settings, c: Common, del: f64) -> Verdict
     requires step_in_range { StepInRange s c }
     requires maxcor_bound { (s.maxcor ≤ 1000000) × (c.m < s.maxcor) }
@@ -238,6 +254,7 @@ fn tested(s: Settings, c: Common, del: f64) -> Verdict
 }
 
 // How the pass stands after the iteration x with the norm pnorm of the prediction.
+#[tactic(auto, unfolding(crate::specs::Verdict::judge_of))]
 pub fn judge(s: Settings, c: Common, x: Result<f64, Singular>, pnorm: f64) -> Verdict
     requires step_in_range { StepInRange s c }
     requires maxcor_bound { (s.maxcor ≤ 1000000) × (c.m < s.maxcor) }
