@@ -18,18 +18,21 @@ use dense::Singular;
 // ---- an iteration
 
 // A pass's iterations begin: no correction yet.
+#[tactic(auto, unfolding(crate::specs::Iterate::open_of))]
 pub fn open_iterations(c: Common, acor: &mut [f64]) -> Common
     ensures { (result ≡ open_of c) × (acor.new ≡ replicate (length acor.old) zero_f) }
 {
-    history::fill(acor, 0.0);
-    let mut d = c;
-    d.m = 0;
-    d.rate = 0.0;
-    d.delp = 0.0;
-    d
+    acor.fill(0.0);
+    Common {
+        m: 0,
+        rate: 0.0,
+        delp: 0.0,
+        ..c
+    }
 }
 
 // Adams: savf = h·savf - column 1, and in y its difference from the last correction.
+#[tactic(auto, using(history::proofs::Turns::turns), unfolding(crate::specs::Iterate::adams_residual_of))]
 fn adams_residual(work: &mut [f64], n: usize, h: f64)
     requires { matrix_at n ≤ length work.old }
     ensures { work.new ≡ adams_residual_of n h work.old }
@@ -41,6 +44,7 @@ fn adams_residual(work: &mut [f64], n: usize, h: f64)
 }
 
 // Adams: y = column 0 + el0·savf, and savf is the correction.
+#[tactic(auto, using(history::proofs::Turns::turns), unfolding(crate::specs::Iterate::adams_update_of))]
 fn adams_update(work: &mut [f64], n: usize, e: f64)
     requires { matrix_at n ≤ length work.old }
     ensures { work.new ≡ adams_update_of n e work.old }
@@ -52,6 +56,7 @@ fn adams_update(work: &mut [f64], n: usize, e: f64)
 }
 
 // The size of the correction.
+#[tactic(auto, unfolding(crate::specs::Iterate::adams_of))]
 fn correct_adams(s: Settings, c: Common, work: &mut [f64]) -> f64
     requires step_in_range { StepInRange s c }
     requires n_in_bounds { matrix_at s.n ≤ length work.old }
@@ -66,6 +71,7 @@ fn correct_adams(s: Settings, c: Common, work: &mut [f64]) -> f64
 }
 
 // BDF: y = h·savf - (column 1 + acor).
+#[tactic(auto, using(history::proofs::Turns::turns), unfolding(crate::specs::Iterate::bdf_residual_of))]
 fn bdf_residual(work: &mut [f64], n: usize, h: f64)
     requires { matrix_at n ≤ length work.old }
     ensures { work.new ≡ bdf_residual_of n h work.old }
@@ -77,6 +83,7 @@ fn bdf_residual(work: &mut [f64], n: usize, h: f64)
 }
 
 // BDF: acor += y, and y = column 0 + el0·acor.
+#[tactic(auto, using(history::proofs::Turns::turns), unfolding(crate::specs::Iterate::bdf_update_of))]
 fn bdf_update(work: &mut [f64], n: usize, e: f64)
     requires { matrix_at n ≤ length work.old }
     ensures { work.new ≡ bdf_update_of n e work.old }
@@ -88,6 +95,7 @@ fn bdf_update(work: &mut [f64], n: usize, e: f64)
 }
 
 // The size of the correction.
+#[tactic(auto, unfolding(crate::specs::Iterate::bdf_of))]
 fn correct_bdf(s: Settings, c: Common, work: &mut [f64], ipiv: &[usize]) -> Result<f64, Singular>
     requires step_in_range { StepInRange s c }
     requires n_in_bounds { (work_length s.n ≤ length work.old) × (s.n ≤ length ipiv.now) }
@@ -105,6 +113,7 @@ fn correct_bdf(s: Settings, c: Common, work: &mut [f64], ipiv: &[usize]) -> Resu
 }
 
 // One iteration in the family in force: the size of the correction.
+#[tactic(auto, unfolding(crate::specs::Iterate::correct_of))]
 pub fn correct(s: Settings, c: Common, work: &mut [f64], ipiv: &[usize]) -> Result<f64, Singular>
     requires step_in_range { StepInRange s c }
     requires n_in_bounds { (work_length s.n ≤ length work.old) × (s.n ≤ length ipiv.now) }
@@ -114,9 +123,10 @@ pub fn correct(s: Settings, c: Common, work: &mut [f64], ipiv: &[usize]) -> Resu
         (correct_of s c ipiv.now work.old) }
 {
     if c.meth.is_bdf() {
-        return correct_bdf(s, c, work, ipiv);
+        correct_bdf(s, c, work, ipiv)
+    } else {
+        Ok(correct_adams(s, c, work))
     }
-    Ok(correct_adams(s, c, work))
 }
 
 // ---- the verdict
@@ -137,30 +147,32 @@ pub struct Verdict {
 }
 
 // The rate of convergence after a further iteration.
+#[tactic(auto, unfolding(crate::specs::Verdict::rated_of))]
 fn rated(c: Common, del: f64) -> Common
     ensures { result ≡ rated_of c del }
 {
-    let mut rm = 1024.0;
-    if del <= 1024.0 * c.delp {
-        rm = del / c.delp;
+    let rm = if del <= 1024.0 * c.delp {
+        del / c.delp
+    } else {
+        1024.0
+    };
+    Common {
+        rate: numbers::max(c.rate, rm),
+        convrate: numbers::max(0.2 * c.convrate, rm),
+        ..c
     }
-    let mut d = c;
-    d.rate = numbers::max(c.rate, rm);
-    d.convrate = numbers::max(0.2 * c.convrate, rm);
-    d
 }
 
 // The record with what is known of the rate: in the first iteration nothing new.
+#[tactic(auto, unfolding(crate::specs::Verdict::known_rate_of))]
 fn known_rate(c: Common, del: f64) -> Common
     ensures { result ≡ known_rate_of c del }
 {
-    if c.m == 0 {
-        return c;
-    }
-    rated(c, del)
+    if c.m == 0 { c } else { rated(c, del) }
 }
 
 // The size of the correction against what the error test allows.
+#[tactic(auto, unfolding(crate::specs::Verdict::dcon_of))]
 fn dcon(c: Common, del: f64) -> f64
     requires { (c.table ≤ 2) × (1 ≤ c.nq) × (c.nq ≤ 12) }
     ensures { result ≡ dcon_of c del }
@@ -169,92 +181,80 @@ fn dcon(c: Common, del: f64) -> f64
 }
 
 // The estimate of the Jacobian's norm from the rate.
+#[tactic(auto, unfolding(crate::specs::Verdict::estimated_of))]
 fn estimated(s: Settings, c: Common) -> Common
     requires { StepInRange s c }
     ensures { result ≡ estimated_of s c }
 {
     let pdest = numbers::max(c.pdest, c.rate / numbers::abs(c.h * c.el(s, 0)));
-    let mut d = c;
-    d.pdest = pdest;
-    if pdest != 0.0 {
-        d.pdlast = pdest;
+    Common {
+        pdest,
+        pdlast: if pdest != 0.0 { pdest } else { c.pdlast },
+        ..c
     }
-    d
 }
 
 // The pass has converged.
+#[tactic(auto, unfolding(crate::specs::Verdict::judged_converged))]
 fn converged(c: Common) -> Verdict
     ensures { result ≡ judged_converged c }
 {
-    let mut d = c;
-    d.jcur = false;
     Verdict {
         pass: Pass::Converged,
-        common: d,
+        common: Common { jcur: false, ..c },
     }
 }
 
 // The pass cannot go on: a retry where the Jacobian is old, which makes one due.
+#[tactic(auto, unfolding(crate::specs::Verdict::give_up_of))]
 fn give_up(c: Common) -> Verdict
     ensures { result ≡ give_up_of c }
 {
-    let current = c.jcur;
-    if c.meth.is_bdf() {
-        if current {
-            return Verdict {
-                pass: Pass::NoConvergence,
-                common: c,
-            };
-        }
-        let mut d = c;
-        d.due = true;
-        return Verdict {
+    if c.meth.is_bdf() && !c.jcur {
+        Verdict {
             pass: Pass::Retry,
-            common: d,
-        };
-    }
-    Verdict {
-        pass: Pass::NoConvergence,
-        common: c,
+            common: Common { due: true, ..c },
+        }
+    } else {
+        Verdict {
+            pass: Pass::NoConvergence,
+            common: c,
+        }
     }
 }
 
 // A further derivative, unless maxcor iterations are done or the corrections grow.
+#[tactic(auto, unfolding(crate::specs::Verdict::judged_further))]
 fn further(s: Settings, c: Common, del: f64) -> Verdict
     requires { (s.maxcor ≤ 1000000) × (c.m < s.maxcor) }
     ensures { result ≡ judged_further s c del }
 {
     let m = c.m + 1;
-    if m == s.maxcor {
+    if m == s.maxcor || (2 <= m && del > 2.0 * c.delp) {
         return give_up(c);
     }
-    if 2 <= m {
-        if del > 2.0 * c.delp {
-            return give_up(c);
-        }
-    }
-    let mut d = c;
-    d.m = m;
-    d.delp = del;
     Verdict {
         pass: Pass::Further,
-        common: d,
+        common: Common { m, delp: del, ..c },
     }
 }
 
 // The convergence test proper, after the rate is known.
+#[tactic(auto, unfolding(crate::specs::Verdict::judged_tested))]
 fn tested(s: Settings, c: Common, del: f64) -> Verdict
     requires step_in_range { StepInRange s c }
     requires maxcor_bound { (s.maxcor ≤ 1000000) × (c.m < s.maxcor) }
     ensures { result ≡ judged_tested s c del }
 {
     if dcon(c, del) <= 1.0 {
-        return converged(estimated(s, c));
+        converged(estimated(s, c))
+    } else {
+        further(s, c, del)
     }
-    further(s, c, del)
 }
 
 // How the pass stands after the iteration x with the norm pnorm of the prediction.
+#[tactic(auto, unfolding(crate::specs::Verdict::judge_of))]
 pub fn judge(s: Settings, c: Common, x: Result<f64, Singular>, pnorm: f64) -> Verdict
     requires step_in_range { StepInRange s c }
     requires maxcor_bound { (s.maxcor ≤ 1000000) × (c.m < s.maxcor) }
@@ -264,12 +264,10 @@ pub fn judge(s: Settings, c: Common, x: Result<f64, Singular>, pnorm: f64) -> Ve
         return give_up(c);
     };
     if del <= 100.0 * pnorm * 2.220446049250313e-16 {
-        return converged(c);
+        converged(c)
+    } else if c.m == 0 && !c.meth.is_bdf() {
+        further(s, c, del)
+    } else {
+        tested(s, known_rate(c, del), del)
     }
-    if c.m == 0 {
-        if !c.meth.is_bdf() {
-            return further(s, c, del);
-        }
-    }
-    tested(s, known_rate(c, del), del)
 }

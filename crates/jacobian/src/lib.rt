@@ -19,33 +19,33 @@ pub struct Factoring {
 }
 
 // A Jacobian begins: it is counted, and made in this pass.
+#[tactic(auto, unfolding(crate::specs::Jacobian::begin_of))]
 pub fn begin_jacobian(c: Common) -> Common
     requires { c.nje < 2 ^ 63 }
     ensures { result ≡ begin_of c }
 {
-    let mut d = c;
-    d.nje = c.nje + 1;
-    d.jcur = true;
-    d.due = false;
-    d
+    Common {
+        nje: c.nje + 1,
+        jcur: true,
+        due: false,
+        ..c
+    }
 }
 
 // The least increment of a difference column, before its weight.
+#[tactic(auto, unfolding(crate::specs::Jacobian::r0_of))]
 fn r0(s: Settings, c: Common, work: &[f64]) -> f64
     requires { (s.n ≤ max_states) × (matrix_at s.n ≤ length work.now) }
     ensures { result ≡ r0_of s c work.now }
 {
     let n = s.n;
     let fac = history::norm_at(work, n, common::SAVF * n).value;
-    let count = n as u32;
-    let r = 1000.0 * numbers::abs(c.h) * 2.220446049250313e-16 * count as f64 * fac;
-    if r == 0.0 {
-        return 1.0;
-    }
-    r
+    let r = 1000.0 * numbers::abs(c.h) * 2.220446049250313e-16 * n as u32 as f64 * fac;
+    if r == 0.0 { 1.0 } else { r }
 }
 
 // The increment of state j in its difference column.
+#[tactic(auto, unfolding(crate::specs::Jacobian::increment_of))]
 fn increment(s: Settings, c: Common, work: &[f64], j: usize) -> f64
     requires { (s.n ≤ max_states) × (matrix_at s.n ≤ length work.now) × (j < s.n) }
     ensures { result ≡ increment_of s c work.now j }
@@ -59,6 +59,7 @@ fn increment(s: Settings, c: Common, work: &[f64], j: usize) -> f64
 }
 
 // State j of y_fd is moved by its increment.
+#[tactic(auto, unfolding(crate::specs::Jacobian::perturb_of))]
 pub fn perturb(s: Settings, c: Common, work: &mut [f64], j: usize)
     requires { (s.n ≤ max_states) × (matrix_at s.n ≤ length work.old) × (j < s.n) }
     ensures { work.new ≡ perturb_of s c j work.old }
@@ -81,6 +82,7 @@ fn difference_column(work: &mut [f64], n: usize, j: usize, fac: f64)
 }
 
 // The derivative at the moved state is taken: its column is stored, and state j of y_fd is put back.
+#[tactic(auto, unfolding(crate::specs::Jacobian::restore_of))]
 pub fn store_column(s: Settings, c: Common, work: &mut [f64], j: usize)
     requires { (s.n ≤ max_states) × (work_length s.n ≤ length work.old) × (j < s.n) }
     ensures { work.new ≡ restore_of s c j work.old }
@@ -92,13 +94,14 @@ pub fn store_column(s: Settings, c: Common, work: &mut [f64], j: usize)
 }
 
 // The host's Jacobian, column by column, scaled into the matrix.
+#[tactic(auto, using(history::proofs::Turns::turns), unfolding(crate::specs::Jacobian::scaled_of))]
 pub fn store_jacobian(c: Common, a: &mut [f64], jac: &[f64])
     requires { length jac.now ≤ length a.old }
     ensures { a.new ≡ scaled_of (minus_hl0 c) jac.now a.old }
 {
     let scale = -(c.h * c.el0);
-    for i in 0..jac.len() {
-        a[i] = scale * jac[i];
+    for (i, x) in jac.iter().enumerate() {
+        a[i] = scale * *x;
     }
 }
 
@@ -128,18 +131,18 @@ fn in_force(c: Common, norm: f64, done: bool) -> Common
     requires { c.nlu < 2 ^ 63 }
     ensures { result ≡ in_force c norm done }
 {
-    let mut d = c;
-    d.pdnorm = norm / numbers::abs(c.h * c.el0);
-    d.rc = 1.0;
-    d.nslp = c.nst;
-    d.convrate = 0.7;
-    if done {
-        d.nlu = c.nlu + 1;
+    Common {
+        pdnorm: norm / numbers::abs(c.h * c.el0),
+        rc: 1.0,
+        nslp: c.nst,
+        convrate: 0.7,
+        nlu: if done { c.nlu + 1 } else { c.nlu },
+        ..c
     }
-    d
 }
 
 // The matrix's norm, the identity and the factors; a Jacobian is in force from here.
+#[tactic(auto, unfolding(crate::specs::Jacobian::finish_jacobian_of))]
 pub fn finish_jacobian(s: Settings, c: Common, work: &mut [f64], ipiv: &mut [usize]) -> Factoring
     requires n_le_max_states { (s.n ≤ max_states) × (work_length s.n ≤ length work.old) × (s.n ≤ length ipiv.old) }
     requires nlu_bound { c.nlu < 2 ^ 63 }
@@ -150,9 +153,8 @@ pub fn finish_jacobian(s: Settings, c: Common, work: &mut [f64], ipiv: &mut [usi
     let n = s.n;
     let a = common::MATRIX * n;
     let e = a + n * n;
-    let w = common::EWT * n;
-    let we = common::SAVF * n;
-    let norm = vectors::fnorm_dense(n, &work[a..e], &work[w..we]).value;
+    let weights = &work[common::EWT * n..common::SAVF * n];
+    let norm = vectors::fnorm_dense(n, &work[a..e], weights).value;
     let outcome = factor(&mut work[a..e], n, ipiv);
     Factoring {
         outcome,
