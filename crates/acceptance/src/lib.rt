@@ -124,8 +124,7 @@ pub fn accept(s: Settings, c: Common, dsm: f64, work: &mut [f64]) -> Chosen
 
 // acor is scaled by the order that the step used, and the weights are those of the new state, inverted up to the first
 // that is at most 0 (12).
-#[tactic(auto, using(common::proofs::Lists::one_or_n),
-    unfolding(crate::specs::Accept::closed_of, history::specs::Columns::scale_part_of))]
+#[tactic(auto, unfolding(crate::specs::Accept::closed_of, history::specs::Columns::scale_part_of))]
 pub fn close(g: &Problem, c: Common, order: usize, work: &mut [f64]) -> Result<(), NotPositive>
     requires step_in_range { StepInRange g.now.settings c }
     requires le_order { (1 ≤ order) × (order ≤ 12) × (matrix_at g.now.settings.n ≤ length work.old) }

@@ -1,5 +1,5 @@
 -- What the functions inside a reply ask of the record (`Inside`) holds after each change that a pass makes.
---     inside-open, inside-judged, inside-factored     what each change keeps
+--     inside-open, inside_judged, inside-factored     what each change keeps
 --     lent-factored                                   the work and the pivots after the factors
 -- Assumes nothing.
 use mathlib.Core.Path.{◌∙◌}
@@ -23,8 +23,8 @@ module _ {s : Settings} {c : Common} (p : Inside s c) where
   unfolding open_of
   inside-open = inside-by p (open_of c) (within-open p.settings c (within_of p)) p.counts
 
-  pub inside-judged : (x : Correction) (pnorm : Float) → Inside s (judge_of s c x pnorm).common
-  inside-judged x pnorm =
+  pub inside_judged : (x : Correction) (pnorm : Float) → Inside s (judge_of s c x pnorm).common
+  inside_judged x pnorm =
       let q = same-judge s c x pnorm in
       inside-by p _ (within-judged p.settings c (within_of p) x pnorm)
       (rw (q.nfe, q.count, q.rejected) p.counts)

@@ -129,6 +129,7 @@ fn pass_failed(s: Settings, c: Common, work: &mut [f64]) -> Turn
 }
 
 // One iteration, and what its verdict leads to.
+#[tactic(auto, using(crate::proofs::PassInside::inside_judged))]
 fn iterate(g: &Problem, c: Common, work: &mut [f64], ipiv: &[usize]) -> Turn
     requires inside { Inside g.now.settings c }
     requires lent { Lent g.now.settings.n work.old ipiv.now }
@@ -150,6 +151,7 @@ fn iterate(g: &Problem, c: Common, work: &mut [f64], ipiv: &[usize]) -> Turn
     }
 }
 
+#[tactic(auto, unfolding(crate::specs::Pass::iterations_of, history::specs::Columns::fill_of))]
 fn iterations(g: &Problem, c: Common, work: &mut [f64], ipiv: &[usize]) -> Turn
     requires inside { Inside g.now.settings c }
     requires lent { Lent g.now.settings.n work.old ipiv.now }
@@ -197,7 +199,7 @@ fn ask_column(s: Settings, c: Common, j: usize, work: &mut [f64]) -> Turn
 }
 
 // A Jacobian begins: asked of the host, or by differences from the first column.
-#[tactic(auto, unfolding(crate::specs::Pass::ask_jacobian_of, crate::specs::Pass::ask_jacobian_at, jacobian::specs::Jacobian::begin_of))]
+#[tactic(auto, unfolding(crate::specs::Pass::ask_jacobian_of, crate::specs::Pass::ask_jacobian_at))]
 fn ask_jacobian(s: Settings, c: Common, work: &mut [f64]) -> Turn
     requires inside { Inside s c }
     requires nje_bound { c.nje < 2 ^ 63 }

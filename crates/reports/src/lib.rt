@@ -65,7 +65,7 @@ fn first_step(g: &Problem, c: Common, work: &[f64]) -> f64
 }
 
 // The derivative at the start.
-#[tactic(auto, using(common::proofs::Lists::one_or_n), unfolding(crate::specs::Reports::first_derivative_of, crate::specs::Reports::weighted_at))]
+#[tactic(auto, unfolding(crate::specs::Reports::first_derivative_of, crate::specs::Reports::weighted_at))]
 pub fn first_derivative(g: &Problem, c: Common, f: &[f64], work: &mut [f64]) -> Turn
     requires le_n { 1 ≤ g.now.settings.n }
     requires f_len { length f.now ≡ g.now.settings.n }

@@ -1,34 +1,7 @@
 -- `iterate` meets its contract: one iteration, the verdict on it, and one way for each verdict.
 -- Assumes nothing.
-use mathlib.Core.Path.{ap, ◌∙◌}
-use native.Mathlib.Omega.{arith}
-use lib.ListN.{length}
-use Rattle.common.specs.Ranges.{Inside}
-use Rattle.corrector.specs.Iterate.{Corrected}
-use Rattle.corrector.proofs.Iterated.{length-iteration}
-use Rattle.passes.proofs.PassInside.{inside-judged}
 use Rattle.passes.specs.Pass.{iterate_of, concluded_at}
 use Rattle.passes.proofs.iterate.Goals as goal
-
-pub error_test-requires-clause-inside : goal.error_test-requires-clause-inside
-error_test-requires-clause-inside c = rw c.judge-verdict.ensures (inside-judged c.requires.inside _ _)
-
-pub open_pass-requires : goal.open_pass-requires
-open_pass-requires c =
-    let s = c.args.g.now.settings in
-    let p : Inside s c.judge-verdict.result.common =
-    rw c.judge-verdict.ensures (inside-judged c.requires.inside _ _) in
-    let w = ap (λ (k : Corrected). length k.work) c.correct-x.ensures ∙ length-iteration s c.args.c _ _ in
-    (p.counts.0, p.counts.1, omega (arith, c.requires.lent.sized, w))
-
-pub pass_failed-requires-clause-inside : goal.pass_failed-requires-clause-inside
-pass_failed-requires-clause-inside c = rw c.judge-verdict.ensures (inside-judged c.requires.inside _ _)
-
-pub ask_in_step-requires : goal.ask_in_step-requires
-ask_in_step-requires c =
-    let p : Inside c.args.g.now.settings c.judge-verdict.result.common =
-    rw c.judge-verdict.ensures (inside-judged c.requires.inside _ _) in
-    (p.counts.0, p.counts.1)
 
 pub returns-in-Converged : goal.returns-in-Converged
 unfolding iterate_of concluded_at
