@@ -48,7 +48,8 @@ module _ (l : List Float) where
     bad : (i : ℕ) → FirstBad l i → o ≡ Err (record { index = i }) → Found o
     good : AllGood l → o ≡ Ok tt → Found o
 
-  found_at : (r : Bool) → (invert_of l).refused ≡ r → Found (cond r (Err (record { index = (invert_of l).index })) (Ok tt))
+  found_at : (r : Bool) → (invert_of l).refused ≡ r
+      → Found (cond r (Err (record { index = (invert_of l).index })) (Ok tt))
   found_at true e =
       let s = stopped l e in
       bad (invert_of l).index (record { here = (s.within, s.refused); before = s.done.passed }) refl

@@ -207,7 +207,8 @@ module _ (g : Given) (x : State) (reply : List Float) (time : Float) where
   sized-at kind true z h e = record { agrees = refl; means = (refl, refl, e) }
   sized-at kind false z h e = record { agrees = (refl, refl); means = (refl, refl, refl) }
 
-  weighted-at : (kind : Kind) (v : Result Unit NotPositive) (z : State) → Good s Phase.FirstDerivative kind (weighted_at g z v)
+  weighted-at : (kind : Kind) (v : Result Unit NotPositive) (z : State)
+      → Good s Phase.FirstDerivative kind (weighted_at g z v)
   unfolding weighted_at sized_of
   weighted-at kind (Err e) z = record { agrees = refl; means = refl }
   weighted-at kind (Ok u) z =

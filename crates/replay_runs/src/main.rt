@@ -99,8 +99,8 @@ fn reply_size(kind: usize, n: usize) -> usize
     if kind == 2 { square(n) } else { n }
 }
 
-// What a run lends to each call is four slices side by side, and no struct of arrays with methods: the calls ask for the
-// exact lengths of n states, and a part of a field behind `&mut self` cannot be lent beside another field.
+// What a run lends to each call is four slices side by side, and no struct of arrays with methods: the calls ask for
+// the exact lengths of n states, and a part of a field behind `&mut self` cannot be lent beside another field.
 
 // Behind the options stand x0, xend, y0, rtol and atol.
 fn start(

@@ -184,7 +184,8 @@ module _ (g : Given) (acc : Accepted g.s) where
   sized-few false size x zero h = absurd (omega arith)
   sized-few false size x (suc m) h = λ a y t. first-answered-few _ a y t m (omega arith)
 
-  weighted-few : (weights : Result Unit NotPositive) (x : State) (m : ℕ) → 2 + s.maxsteps * whole ≤ m → EndsIn (weighted g weights x) m
+  weighted-few : (weights : Result Unit NotPositive) (x : State) (m : ℕ)
+      → 2 + s.maxsteps * whole ≤ m → EndsIn (weighted g weights x) m
   unfolding weighted
   weighted-few (Err e) x m h = tt
   weighted-few (Ok u) x m h = sized-few _ _ x m h

@@ -1,5 +1,5 @@
-// The numbers that stand for a family and a phase; a phase's is its place in the enum. They are functions, since From and
-// TryFrom stand where the types do. An unknown number, which 13 refuses, is read as the last, so that none fails.
+// The numbers that stand for a family and a phase; a phase's is its place in the enum. They are functions, since From
+// and TryFrom stand where the types do. An unknown number, which 13 refuses, is read as the last, so that none fails.
 ghost use Rattle.std.specs.Prelude.{◌≡◌};
 ghost use Rattle.session.specs.States.{family_number, family_of, phase_of};
 

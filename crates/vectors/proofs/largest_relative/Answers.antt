@@ -17,8 +17,8 @@ pub loop-i-preserved : goal.loop-i-preserved
 loop-i-preserved c =
     elim c.if-state.branch [
       | then-state w ↦
-        onward _ _ _ _ _ _ (omega arith)
-        (rw (w.if-state.true, w.tol-is, w.max-tol.ensures, w.abs.ensures, w.tolerance.ensures)) c.loop-i.invariant
+          onward _ _ _ _ _ _ (omega arith)
+          (rw (w.if-state.true, w.tol-is, w.max-tol.ensures, w.abs.ensures, w.tolerance.ensures)) c.loop-i.invariant
       | else-state w ↦ onward _ _ _ _ _ _ (omega arith) (rw (w.if-state.false, w.tol-is)) c.loop-i.invariant
     ]
 

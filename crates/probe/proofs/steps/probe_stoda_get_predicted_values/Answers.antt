@@ -1,4 +1,5 @@
--- `probe_stoda_get_predicted_values` meets its contract: what its test tells is what the callees require. Assumes nothing.
+-- `probe_stoda_get_predicted_values` meets its contract: what its test tells is what the callees require.
+-- Assumes nothing.
 use Rattle.probe.proofs.Usable.{usable-by}
 use Rattle.probe.proofs.steps.probe_stoda_get_predicted_values.Goals as goal
 

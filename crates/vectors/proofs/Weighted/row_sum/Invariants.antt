@@ -5,4 +5,6 @@ use Rattle.vectors.specs.Norm.{row_at, row_of}
 use Rattle.vectors.proofs.Weighted.row_sum.Given as goal
 
 abbrev pub invariant-loop-j : goal.invariant-loop-j
-invariant-loop-j l = for l.j l.self.n (row_at l.self.n l.self.a.now l.self.w.now l.i) l.sum ≡ row_of l.self.n l.self.a.now l.self.w.now l.i
+invariant-loop-j l =
+    let m = l.self in
+    for l.j m.n (row_at m.n m.a.now m.w.now l.i) l.sum ≡ row_of m.n m.a.now m.w.now l.i

@@ -8,7 +8,8 @@ use Rattle.vectors.proofs.Weighted.row_sums.Given as goal
 
 abbrev pub invariant-loop-j : goal.invariant-loop-j
 invariant-loop-j l =
-    (for l.j l.self.n (row_at l.self.n l.self.a.now l.self.w.now l.i) l.s.a ≡ row_of l.self.n l.self.a.now l.self.w.now l.i)
-    × (for l.j l.self.n (row_at l.self.n l.self.a.now l.self.w.now (l.i + 1)) l.s.b ≡ row_of l.self.n l.self.a.now l.self.w.now (l.i + 1))
-    × (for l.j l.self.n (row_at l.self.n l.self.a.now l.self.w.now (l.i + 2)) l.s.c ≡ row_of l.self.n l.self.a.now l.self.w.now (l.i + 2))
-    × (for l.j l.self.n (row_at l.self.n l.self.a.now l.self.w.now (l.i + 3)) l.s.d ≡ row_of l.self.n l.self.a.now l.self.w.now (l.i + 3))
+    let m = l.self in
+    (for l.j m.n (row_at m.n m.a.now m.w.now l.i) l.s.a ≡ row_of m.n m.a.now m.w.now l.i)
+    × (for l.j m.n (row_at m.n m.a.now m.w.now (l.i + 1)) l.s.b ≡ row_of m.n m.a.now m.w.now (l.i + 1))
+    × (for l.j m.n (row_at m.n m.a.now m.w.now (l.i + 2)) l.s.c ≡ row_of m.n m.a.now m.w.now (l.i + 2))
+    × (for l.j m.n (row_at m.n m.a.now m.w.now (l.i + 3)) l.s.d ≡ row_of m.n m.a.now m.w.now (l.i + 3))
