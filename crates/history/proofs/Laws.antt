@@ -108,19 +108,6 @@ same-range d nq table nqnyh nslp p =
       steps = rw nslp p.steps;
     }
 
--- a record with a lower order, and otherwise the same places
-pub lower-range : {s : Settings} {c : Common} (d : Common) (q : ℕ)
-    → d.nq ≡ q → d.table ≡ c.table → d.nqnyh ≡ c.nqnyh → d.nslp ≡ c.nslp
-    → 1 ≤ q → q ≤ c.nq → StepInRange s c → StepInRange s d
-lower-range {s} {c} d q nq table nqnyh nslp one below p =
-    record {
-      n = p.n;
-      order = rw nq (one, omega (arith, p.order));
-      table = rw table p.table;
-      used = rw (nq, nqnyh) (omega (arith, mul-le-mul_right s.n below, p.used), p.used.1);
-      steps = rw nslp p.steps;
-    }
-
 -- a record with an order from 1 to 12 whose places are those of that order
 pub own-range : {s : Settings} {c : Common} (d : Common) → StepInRange s c
     → 1 ≤ d.nq → d.nq ≤ 12 → d.table ≡ c.table → d.nqnyh ≡ d.nq * s.n → d.nslp ≡ c.nslp → StepInRange s d
