@@ -91,8 +91,12 @@ initial_of s x0 h hmin hmxi = {record_of((f.name, f.initial[1]) for f in COMMON_
 """
 
 
+def field(name, value):
+    return f"{name}," if name == value else f"{name}: {value},"
+
+
 def functions():
-    start = lines((f"{f.name}: {f.initial[0]}," for f in COMMON_FIELDS), " " * 12)
+    start = lines((field(f.name, f.initial[0]) for f in COMMON_FIELDS), " " * 12)
     return f"""\
 impl Common {{
     // The record at the start, with the first step where it is given; the first derivative is asked for.

@@ -237,10 +237,10 @@ impl Common {
         ensures { result ≡ initial_of s x0 h hmin hmxi }
     {
         Common {
-            hmin: hmin,
-            hmxi: hmxi,
+            hmin,
+            hmxi,
             tn: x0,
-            h: h,
+            h,
             hu: 0.0,
             told: x0,
             rc: 0.0,

@@ -4,7 +4,7 @@ ghost use Rattle.loops.specs.For.{for};
 ghost use Rattle.common.specs.Limits.{max_states};
 ghost use Rattle.common.specs.SessionWords.{count_words, session_length};
 ghost use Rattle.session.specs.Fields.{lowest, highest, settings_of, common_of};
-ghost use Rattle.session.specs.Session.{every, and_at, word_in_range, one_or_n, lists_in_range, orders_in_range};
+ghost use Rattle.session.specs.Session.{every, and_at, word_in_range, lists_in_range, orders_in_range};
 ghost use Rattle.session.specs.Session.{counters_in_range, fields_in_range};
 ghost use Rattle.session.specs.Session.{not_negative, tolerances_in_range, pivot_below, pivots_below};
 
@@ -35,18 +35,11 @@ fn words(u: &[usize; common::COUNT_WORDS]) -> bool
     run(u, &low, &high, 0, HALF) && run(u, &low, &high, HALF, common::COUNT_WORDS)
 }
 
-// Whether a list of k entries is 1 or n long.
-fn one_or_n(n: usize, k: usize) -> bool
-    ensures { result ≡ one_or_n n k }
-{
-    k == 1 || k == n
-}
-
 // The lengths of the tolerance lists.
 fn lists(s: Settings) -> bool
     ensures { result ≡ lists_in_range s }
 {
-    one_or_n(s.n, s.nrtol) && one_or_n(s.n, s.natol)
+    refusals::is_list(s.nrtol, s.n) && refusals::is_list(s.natol, s.n)
 }
 
 // The order against the columns in use and against the order at the last reset.

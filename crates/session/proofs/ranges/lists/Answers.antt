@@ -5,10 +5,10 @@ use Rattle.std.proofs.lemmas.Bool.Decides.{nat_tests}
 use Rattle.session.specs.Session.{lists_in_range}
 use Rattle.session.proofs.ranges.lists.Goals as goal
 
-pub returns-then-one_or_n : goal.returns-then-one_or_n
+pub returns-then-is_list : goal.returns-then-is_list
 unfolding lists_in_range
-returns-then-one_or_n c = grind (arith, common_steps, nat_tests)
+returns-then-is_list c = grind (arith, common_steps, nat_tests)
 
-pub returns-else-one_or_n : goal.returns-else-one_or_n
+pub returns-else-is_list : goal.returns-else-is_list
 unfolding lists_in_range
-returns-else-one_or_n c = grind (arith, common_steps, nat_tests)
+returns-else-is_list c = grind (arith, common_steps, nat_tests)
