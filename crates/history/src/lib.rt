@@ -148,19 +148,11 @@ pub fn set_slope(work: &mut [f64], n: usize, h: f64)
     }
 }
 
-// Each number becomes x.
+// Each number becomes x: std's own, kept for the two wrong answers in must-fail-more that speak of it.
 pub fn fill(v: &mut [f64], x: f64)
     ensures { v.new ≡ replicate (length v.old) x }
 {
     v.fill(x);
-}
-
-// A vector becomes another of its length.
-pub fn copy_from(to: &mut [f64], from: &[f64])
-    requires { length to.old ≡ length from.now }
-    ensures { to.new ≡ from.now }
-{
-    to.copy_from_slice(from);
 }
 
 // The least factor that keeps a step at hmin or above.

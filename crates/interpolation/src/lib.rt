@@ -108,7 +108,7 @@ fn horner(yi: &mut [f64], column: &[f64], s: f64)
     }
 }
 
-// The polynomial of the columns at s = (xi - tn) / h, by Horner's rule from the last column.
+// The polynomial of the columns at s = (xi - tn) / h, by Horner's rule from the last column down: jb counts columns.
 fn evaluate(xi: f64, yi: &mut [f64], cont: &[f64], z: Sizes)
     requires { (z.n ≤ max_states) × (z.nq ≤ 12) × (length yi.old ≡ z.n)
         × (6 + (z.nq + 1) * z.n ≤ length cont.now) }

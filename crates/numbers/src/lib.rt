@@ -20,6 +20,7 @@ pub fn abs(x: f64) -> f64
 }
 
 // The larger of the two; a NaN is ignored. Of +0 and -0 the first is taken, here and in `min`: std's leave that open.
+// The two stay two: one with the comparison as its parameter is no plainer.
 #[tactic(auto, unfolding(crate::specs::Order::max_of), using(crate::proofs::Bits::nan_test))]
 pub fn max(a: f64, b: f64) -> f64
     ensures { result ≡ max_of a b }

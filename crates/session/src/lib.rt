@@ -1,6 +1,7 @@
 // A session's bytes: its record and its tolerances written and read, and the ranges of 13. docs/SESSION.md has the
 // layout; fields.rt, which names every field, is made by tools/record.py.
 // What a reply needs of a stored session stands here in the order in which it is tested.
+// The bytes stay a slice with a clause on its length: an array, or a struct of it, would ask more of callers.
 #![tactic(auto)]
 
 ghost use Rattle.std.specs.Prelude.{◌≡◌, Bool, ◌≤◌, length};
