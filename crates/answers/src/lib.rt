@@ -52,6 +52,7 @@ fn numbered(number: usize) -> Reply
     }
 }
 
+// A function, since From stands where one of its types does.
 fn status(s: Status) -> usize
     ensures { result ≡ status_number s }
 {

@@ -1,4 +1,6 @@
 // The Jacobian of the corrector, `prja` in its parts: the matrix by differences or from the host, its norm and factors.
+// difference_column counts an index, since it reads parts of the work that it writes another of, and add_identity one,
+// since the diagonal's entries stand n + 1 apart: a `step_by` asks for a measure.
 #![tactic(auto)]
 
 ghost use Rattle.std.specs.Prelude.{◌≡◌, ◌+◌, ◌*◌, ◌^◌, ◌≤◌, ◌<◌, length, is_ok};

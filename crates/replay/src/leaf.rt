@@ -157,7 +157,7 @@ fn leaf(h: Call, a: &mut [f64], b: &mut [f64], m: &mut [usize]) -> u64
     }
 }
 
-// Number i, and 0 behind the list's end.
+// Number i, and 0 behind the list's end; replay_runs has its own, since two programs share no library.
 fn word(list: &[u64], i: usize) -> u64
     ensures { result ≡ get_or list.now i 0 }
 {

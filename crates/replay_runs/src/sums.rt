@@ -14,7 +14,7 @@ struct Sum {
     options: Options,
 }
 
-// What an answer asks of the host. No sum supplies a Jacobian.
+// What an answer asks of the host. No sum supplies a Jacobian. (rig has its own: two programs share no library.)
 #[derive(Clone, Copy)]
 enum Wanted {
     Derivative,
