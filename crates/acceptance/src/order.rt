@@ -14,7 +14,7 @@ use crate::{Branch, Chosen, family};
 use common::{Common, Settings};
 
 // savf becomes the difference of the correction from column lmax - 1.
-#[tactic(auto, using(history::proofs::Turns::turns), unfolding(crate::specs::Order::raised_work_of))]
+#[tactic(auto, using(loops::proofs::For::turns), unfolding(crate::specs::Order::raised_work_of))]
 fn set_raised(work: &mut [f64], n: usize, lmax: usize)
     requires { (1 ≤ lmax) × (lmax ≤ 13) × (n ≤ max_states) × (matrix_at n ≤ length work.old) }
     ensures { work.new ≡ raised_work_of n lmax work.old }
@@ -92,7 +92,7 @@ fn limited_factors(c: Common, f: Factors) -> Factors
 }
 
 // The column of the order that is raised to: the correction times el[nq] / l.
-#[tactic(auto, using(history::proofs::Turns::turns), unfolding(crate::specs::Order::raise_column_of))]
+#[tactic(auto, using(loops::proofs::For::turns), unfolding(crate::specs::Order::raise_column_of))]
 fn set_column(work: &mut [f64], n: usize, j: usize, r: f64)
     requires { (j ≤ 12) × (n ≤ max_states) × (matrix_at n ≤ length work.old) }
     ensures { work.new ≡ raise_column_of n j r work.old }

@@ -33,7 +33,7 @@ pub fn open_iterations(c: Common, acor: &mut [f64]) -> Common
 }
 
 // Adams: savf = h·savf - column 1, and in y its difference from the last correction.
-#[tactic(auto, using(history::proofs::Turns::turns), unfolding(crate::specs::Iterate::adams_residual_of))]
+#[tactic(auto, using(loops::proofs::For::turns), unfolding(crate::specs::Iterate::adams_residual_of))]
 fn adams_residual(work: &mut [f64], n: usize, h: f64)
     requires { matrix_at n ≤ length work.old }
     ensures { work.new ≡ adams_residual_of n h work.old }
@@ -45,7 +45,7 @@ fn adams_residual(work: &mut [f64], n: usize, h: f64)
 }
 
 // Adams: y = column 0 + el0·savf, and savf is the correction.
-#[tactic(auto, using(history::proofs::Turns::turns), unfolding(crate::specs::Iterate::adams_update_of))]
+#[tactic(auto, using(loops::proofs::For::turns), unfolding(crate::specs::Iterate::adams_update_of))]
 fn adams_update(work: &mut [f64], n: usize, e: f64)
     requires { matrix_at n ≤ length work.old }
     ensures { work.new ≡ adams_update_of n e work.old }
@@ -72,7 +72,7 @@ fn correct_adams(s: Settings, c: Common, work: &mut [f64]) -> f64
 }
 
 // BDF: y = h·savf - (column 1 + acor).
-#[tactic(auto, using(history::proofs::Turns::turns), unfolding(crate::specs::Iterate::bdf_residual_of))]
+#[tactic(auto, using(loops::proofs::For::turns), unfolding(crate::specs::Iterate::bdf_residual_of))]
 fn bdf_residual(work: &mut [f64], n: usize, h: f64)
     requires { matrix_at n ≤ length work.old }
     ensures { work.new ≡ bdf_residual_of n h work.old }
@@ -84,7 +84,7 @@ fn bdf_residual(work: &mut [f64], n: usize, h: f64)
 }
 
 // BDF: acor += y, and y = column 0 + el0·acor.
-#[tactic(auto, using(history::proofs::Turns::turns), unfolding(crate::specs::Iterate::bdf_update_of))]
+#[tactic(auto, using(loops::proofs::For::turns), unfolding(crate::specs::Iterate::bdf_update_of))]
 fn bdf_update(work: &mut [f64], n: usize, e: f64)
     requires { matrix_at n ≤ length work.old }
     ensures { work.new ≡ bdf_update_of n e work.old }

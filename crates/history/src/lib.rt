@@ -34,7 +34,7 @@ pub fn store(work: &mut [f64], at: usize, f: &[f64])
 }
 
 // Each number from a to e becomes what f makes of it and the one that stands n further on.
-#[tactic(auto, using(crate::proofs::Turns::turns))]
+#[tactic(auto, using(loops::proofs::For::turns))]
 fn sweep<F: Fn(f64, f64) -> f64>(yh: &mut [f64], n: usize, a: usize, e: usize, f: &F)
     requires callable { F.IsAlwaysCallable f.now }
     requires room { e + n ≤ length yh.old }
@@ -47,7 +47,7 @@ fn sweep<F: Fn(f64, f64) -> f64>(yh: &mut [f64], n: usize, a: usize, e: usize, f
 }
 
 // nq passes: each begins one column further to the left and runs to nqnyh.
-#[tactic(auto, using(crate::proofs::Turns::turns))]
+#[tactic(auto, using(loops::proofs::For::turns))]
 fn passes<F: Fn(f64, f64) -> f64>(yh: &mut [f64], n: usize, nq: usize, nqnyh: usize, f: F)
     requires callable { F.IsAlwaysCallable f }
     requires room { (nq * n ≤ nqnyh) × (nqnyh + n ≤ length yh.old) }
@@ -78,7 +78,7 @@ pub fn retract_columns(yh: &mut [f64], n: usize, nq: usize, nqnyh: usize)
 }
 
 // Each number times r.
-#[tactic(auto, using(crate::proofs::Turns::turns))]
+#[tactic(auto, using(loops::proofs::For::turns))]
 pub fn scale(v: &mut [f64], r: f64)
     ensures { v.new ≡ times_of r v.old }
 {
@@ -88,13 +88,13 @@ pub fn scale(v: &mut [f64], r: f64)
 }
 
 // Column j times rh to the j-th, for the columns 1 to l - 1. (n may be 0, where chunks_exact_mut would panic.)
-#[tactic(auto, using(crate::proofs::Turns::turns), unfolding(crate::specs::Columns::rescale_columns_of))]
+#[tactic(auto, using(loops::proofs::For::turns), unfolding(crate::specs::Columns::rescale_columns_of))]
 pub fn rescale_columns(yh: &mut [f64], n: usize, l: usize, rh: f64)
     requires { l * n ≤ length yh.old }
     ensures { yh.new ≡ rescale_columns_of n l rh yh.old }
 {
     let mut r = 1.0;
-    #[tactic(auto, using(crate::proofs::Turns::turns), unfolding(crate::specs::Columns::scale_part_of))]
+    #[tactic(auto, using(loops::proofs::For::turns), unfolding(crate::specs::Columns::scale_part_of))]
     for j in 1..l {
         r *= rh;
         let a = j * n;
@@ -103,7 +103,7 @@ pub fn rescale_columns(yh: &mut [f64], n: usize, l: usize, rh: f64)
 }
 
 // Column j plus e times the vector at `at`.
-#[tactic(auto, using(crate::proofs::Turns::turns), unfolding(crate::specs::Columns::add_scaled_of))]
+#[tactic(auto, using(loops::proofs::For::turns), unfolding(crate::specs::Columns::add_scaled_of))]
 fn add_scaled(work: &mut [f64], n: usize, j: usize, e: f64, at: usize)
     requires { (j * n + n ≤ length work.old) × (at + n ≤ length work.old) }
     ensures { work.new ≡ add_scaled_of n j e at work.old }
@@ -114,7 +114,7 @@ fn add_scaled(work: &mut [f64], n: usize, j: usize, e: f64, at: usize)
 }
 
 // The correction acor added to the columns 0 to nq, each with its coefficient.
-#[tactic(auto, using(crate::proofs::Turns::turns), unfolding(crate::specs::Columns::correct_columns_of))]
+#[tactic(auto, using(loops::proofs::For::turns), unfolding(crate::specs::Columns::correct_columns_of))]
 pub fn correct_columns(s: Settings, c: Common, work: &mut [f64])
     requires step_in_range { StepInRange s c }
     requires n_in_bounds { matrix_at s.n ≤ length work.old }
@@ -127,7 +127,7 @@ pub fn correct_columns(s: Settings, c: Common, work: &mut [f64])
 }
 
 // The n numbers at `to` become those at `from`, in turn: where the parts overlap, copy_within would do otherwise.
-#[tactic(auto, using(crate::proofs::Turns::turns), unfolding(crate::specs::Columns::copy_of))]
+#[tactic(auto, using(loops::proofs::For::turns), unfolding(crate::specs::Columns::copy_of))]
 pub fn copy_part(work: &mut [f64], n: usize, to: usize, from: usize)
     requires { (to + n ≤ length work.old) × (from + n ≤ length work.old) }
     ensures { work.new ≡ copy_of n to from work.old }
@@ -138,7 +138,7 @@ pub fn copy_part(work: &mut [f64], n: usize, to: usize, from: usize)
 }
 
 // Column 1 becomes h times the derivative savf.
-#[tactic(auto, using(crate::proofs::Turns::turns), unfolding(crate::specs::Columns::slope_of))]
+#[tactic(auto, using(loops::proofs::For::turns), unfolding(crate::specs::Columns::slope_of))]
 pub fn set_slope(work: &mut [f64], n: usize, h: f64)
     requires { matrix_at n ≤ length work.old }
     ensures { work.new ≡ slope_of n h work.old }

@@ -96,7 +96,7 @@ pub fn store_column(s: Settings, c: Common, work: &mut [f64], j: usize)
 }
 
 // The host's Jacobian, column by column, scaled into the matrix.
-#[tactic(auto, using(history::proofs::Turns::turns), unfolding(crate::specs::Jacobian::scaled_of))]
+#[tactic(auto, using(loops::proofs::For::turns), unfolding(crate::specs::Jacobian::scaled_of))]
 pub fn store_jacobian(c: Common, a: &mut [f64], jac: &[f64])
     requires { length jac.now ≤ length a.old }
     ensures { a.new ≡ scaled_of (minus_hl0 c) jac.now a.old }

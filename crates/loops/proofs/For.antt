@@ -85,3 +85,6 @@ module _ {S : Type 0} (P : S → Type 0) (f : ℕ → S → S) where
 -- column j of m columns of n lies within them
 pub within : (n m j : ℕ) → j < m → j * n + n ≤ m * n
 within n m j h = omega (arith, suc-mul j n, mul-le-mul_right n h)
+
+-- a turn, where what is stored is the turn's own value, and the end: both, for a function's attribute
+pub ruleset turns = (onward, ended)
