@@ -1,6 +1,7 @@
 // The history's columns: predict, retract, rescale, the correction added, and copies between parts of the work slice.
 // Column j is the n numbers at j·n. Snapshot and interpolation are in crate interpolation.
-// work and n stay two parameters: a struct of both asks of each function that takes it a clause on its ghost name.
+// work and n stay two: n is the settings' in most callers, these ask less than the whole layout, and of a struct with
+// the `&mut` no contract is an equation for what work becomes: it is a relation that keeps the reference's name too.
 // Settings and Common stay two values: a rule makes the record anew, so a struct of both would be taken apart in each.
 // sweep, add_scaled, copy_part, set_slope count an index: they read one part of a slice and write another part of it.
 #![tactic(auto)]
