@@ -20,6 +20,7 @@ pub struct Pivot {
 }
 
 // The first largest entry of column k, from row k down.
+#[tactic(auto, using(loops::proofs::For::turns), unfolding(crate::specs::Factor::pivot_of))]
 fn find_pivot(a: &[f64], n: usize, k: usize) -> Pivot
     requires { (k < n) × (k * n + n ≤ length a.now) }
     ensures { (result ≡ pivot_of n k a.now) × (result.row < n) }
@@ -39,12 +40,14 @@ fn find_pivot(a: &[f64], n: usize, k: usize) -> Pivot
 }
 
 // Rows k and p change places, if they are two.
+#[tactic(auto, using(loops::proofs::For::turns), unfolding(crate::specs::Factor::swap_of))]
 fn exchange(a: &mut [f64], n: usize, k: usize, p: usize)
     requires { (k < n) × (p < n) × (n * n ≤ length a.old) }
     ensures { a.new ≡ exchange_of n k p a.old }
 {
     if p != k {
         for j in 0..n {
+            #[tactic(auto, using(loops::proofs::For::within))]
             a.swap(k + j * n, p + j * n);
         }
     }
@@ -62,6 +65,7 @@ fn scale(a: &mut [f64], n: usize, k: usize)
 }
 
 // Column j below row k, less the multiples of column k.
+#[tactic(auto, using(loops::proofs::For::turns), unfolding(crate::specs::Factor::column_of))]
 fn column(a: &mut [f64], n: usize, k: usize, j: usize)
     requires { (k < n) × (k * n + n ≤ length a.old) × (j * n + n ≤ length a.old) }
     ensures { a.new ≡ column_of n k j a.old }
@@ -73,16 +77,19 @@ fn column(a: &mut [f64], n: usize, k: usize, j: usize)
 }
 
 // Every column to the right of k.
+#[tactic(auto, using(loops::proofs::For::turns), unfolding(crate::specs::Factor::eliminate_of))]
 fn eliminate(a: &mut [f64], n: usize, k: usize)
     requires { (k < n) × (n * n ≤ length a.old) }
     ensures { a.new ≡ eliminate_of n k a.old }
 {
     for j in k + 1..n {
+        #[tactic(auto, using(loops::proofs::For::within))]
         column(a, n, k, j);
     }
 }
 
 // Step k of the factoring. Where the pivot is zero nothing has changed.
+#[tactic(auto, using(loops::proofs::For::within), unfolding(crate::specs::Factor::step_of))]
 fn step(a: &mut [f64], n: usize, ipiv: &mut [usize], k: usize) -> Result<(), Singular>
     requires { (k < n) × (n * n ≤ length a.old) × (n ≤ length ipiv.old) }
     ensures { let next = step_of n k (record { a = a.old; ipiv = ipiv.old; ok = true }) in
@@ -114,6 +121,7 @@ pub fn dense_lu_factor(a: &mut [f64], n: usize, ipiv: &mut [usize]) -> Result<()
 
 // Rows lo..hi of the right side, less their multiples of row k, whose entry bk is read once: the published code reads
 // it in every turn of the loop, where it does not change.
+#[tactic(auto, using(loops::proofs::For::turns), unfolding(crate::specs::Solve::less_of))]
 fn less(work: &mut [f64], n: usize, a: usize, b: usize, k: usize, bk: f64, lo: usize, hi: usize)
     requires { (hi ≤ n) × (b + n ≤ a) × (a + (k * n + n) ≤ length work.old) }
     ensures { work.new ≡ less_of n a b k bk lo hi work.old }
@@ -138,6 +146,7 @@ fn forward_all(work: &mut [f64], n: usize, a: usize, ipiv: &[usize], b: usize)
 
 // Row k divided by its diagonal entry, and the rows above it less their multiples. Where the diagonal is zero nothing
 // has changed.
+#[tactic(auto, unfolding(crate::specs::Solve::backward_of))]
 fn backward_step(work: &mut [f64], n: usize, a: usize, b: usize, k: usize) -> Result<(), Singular>
     requires { (k < n) × (b + n ≤ a) × (a + n * n ≤ length work.old) }
     ensures { let next = backward_at n a b k (record { work = work.old; ok = true }) in
