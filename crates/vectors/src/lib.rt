@@ -36,6 +36,7 @@ pub fn tolerance(list: &[f64], i: usize) -> f64
 
 // The maximum of a number and x, which is ignored if it is a NaN: one test in the norms' chain, where `numbers::max`
 // has two.
+#[tactic(auto, unfolding(numbers::specs::Order::max_of), using(crate::proofs::Largest::compared))]
 fn larger(m: f64, x: f64) -> f64
     requires { Ieee.ne m m ≡ false }
     ensures largest { result ≡ max_of m x }
@@ -108,6 +109,7 @@ impl Four {
 }
 
 // The largest |v|·w; NaN entries are skipped.
+#[tactic(auto, using(loops::proofs::For::turns), unfolding(crate::specs::Norm::vmnorm_of))]
 pub fn vmnorm(v: &[f64], w: &[f64]) -> Norm
     requires { length v.now ≤ length w.now }
     ensures { result ≡ vmnorm_of v.now w.now }
@@ -144,6 +146,7 @@ impl Weighted<'_> {
     }
 
     // The sum of row i of the matrix, each entry divided by its column's weight.
+    #[tactic(auto, using(loops::proofs::For::turns), unfolding(crate::specs::Norm::row_of))]
     fn row_sum(&self, i: usize) -> f64
         requires { i < self.now.n }
         ensures { result ≡ row_of self.now.n self.now.a.now self.now.w.now i }
@@ -156,6 +159,7 @@ impl Weighted<'_> {
     }
 
     // The sums of the rows i to i + 3.
+    #[tactic(auto, unfolding(crate::specs::Norm::row_of))]
     fn row_sums(&self, i: usize) -> Four
         requires { i + 4 ≤ self.now.n }
         ensures { result ≡ row_sums_of self.now.n self.now.a.now self.now.w.now i }
@@ -182,6 +186,7 @@ impl Weighted<'_> {
 }
 
 // The norm of a matrix of n columns that belongs to vmnorm.
+#[tactic(auto, using(loops::proofs::For::turns), unfolding(crate::specs::Norm::fnorm_of))]
 pub fn fnorm_dense(n: usize, a: &[f64], w: &[f64]) -> Norm
     requires { (n * n ≤ length a.now) × (n ≤ length w.now) }
     ensures { result ≡ fnorm_of n a.now w.now }
@@ -198,6 +203,7 @@ pub fn fnorm_dense(n: usize, a: &[f64], w: &[f64]) -> Norm
 }
 
 // The weights rtol·|y| + atol of the n numbers at the start of work, written at `at`.
+#[tactic(auto, using(loops::proofs::For::turns), unfolding(crate::specs::Weights::ewset_of))]
 pub fn ewset(rtol: &[f64], atol: &[f64], work: &mut [f64], n: usize, at: usize)
     requires list1or_n { List1OrN rtol.now (n - 1) }
     requires list1or_n_2 { List1OrN atol.now (n - 1) }
@@ -205,11 +211,13 @@ pub fn ewset(rtol: &[f64], atol: &[f64], work: &mut [f64], n: usize, at: usize)
     ensures { work.new ≡ ewset_of rtol.now atol.now n at work.old }
 {
     for i in 0..n {
+        #[tactic(auto, using(crate::proofs::Laws::serves))]
         work[at + i] = tolerance(rtol, i) * numbers::abs(work[i]) + tolerance(atol, i);
     }
 }
 
 // The weights after a modified reply, max(|y|, 2^-52), written at `at`.
+#[tactic(auto, using(loops::proofs::For::turns), unfolding(crate::specs::Weights::ewset_like_of))]
 pub fn ewset_scalar_like(work: &mut [f64], n: usize, at: usize)
     requires { (n ≤ at) × (at + n ≤ length work.old) }
     ensures { work.new ≡ ewset_like_of n at work.old }
@@ -220,6 +228,7 @@ pub fn ewset_scalar_like(work: &mut [f64], n: usize, at: usize)
 }
 
 // Each weight inverted, up to the first that is at most 0, -0.0 included; a NaN passes.
+#[tactic(auto, using(loops::proofs::For::turns), unfolding(crate::specs::Weights::invert_of))]
 pub fn invert_weights(ewt: &mut [f64]) -> Result<(), NotPositive>
     ensures { (ewt.new ≡ (invert_of ewt.old).ewt)
         × (result ≡ weights_outcome (invert_of ewt.old)) }
@@ -234,18 +243,21 @@ pub fn invert_weights(ewt: &mut [f64]) -> Result<(), NotPositive>
 }
 
 // The largest relative tolerance of n states.
+#[tactic(auto, using(loops::proofs::For::turns), unfolding(crate::specs::FirstStep::largest_rtol_of))]
 fn largest_rtol(rtol: &[f64], n: usize) -> f64
     requires { List1OrN rtol.now (n - 1) }
     ensures { result ≡ largest_rtol_of rtol.now n }
 {
     let mut tol = 0.0;
     for i in 0..n {
+        #[tactic(auto, using(crate::proofs::Laws::serves))]
         tol = numbers::max(tol, tolerance(rtol, i));
     }
     tol
 }
 
 // The largest absolute tolerance relative to its state, from `start` on; a state that is 0 has none.
+#[tactic(auto, using(loops::proofs::For::turns), unfolding(crate::specs::FirstStep::relative_of))]
 fn largest_relative(atol: &[f64], y: &[f64], start: f64) -> f64
     requires { List1OrN atol.now (length y.now - 1) }
     ensures { result ≡ relative_of atol.now y.now start }
@@ -253,6 +265,7 @@ fn largest_relative(atol: &[f64], y: &[f64], start: f64) -> f64
     let mut tol = start;
     for (i, state) in y.iter().enumerate() {
         if *state != 0.0 {
+            #[tactic(auto, using(crate::proofs::Laws::serves))]
             tol = numbers::max(tol, tolerance(atol, i) / numbers::abs(*state));
         }
     }
@@ -260,6 +273,7 @@ fn largest_relative(atol: &[f64], y: &[f64], start: f64) -> f64
 }
 
 // The tolerance that the first step goes by, within 100·2^-52 and 0.001.
+#[tactic(auto, unfolding(crate::specs::FirstStep::tolerance_used_of))]
 fn tolerance_used(rtol: &[f64], atol: &[f64], y: &[f64]) -> f64
     requires list1or_n { List1OrN rtol.now (length y.now - 1) }
     requires list1or_n_2 { List1OrN atol.now (length y.now - 1) }

@@ -9,8 +9,7 @@ use Rattle.vectors.proofs.fnorm_dense.Given as goal
 
 abbrev pub invariant-loop-k : goal.invariant-loop-k
 invariant-loop-k l =
-    (l.k-end ≡ l.n / 4)
-    × (l.k ≤ l.n / 4)
+    (l.k ≤ l.n / 4)
     × Number l.value
     × (for (4 * l.k) l.n (fnorm_turn l.n l.a l.w) l.value ≡ (fnorm_of l.n l.a l.w).value)
 

@@ -14,5 +14,4 @@ going ewt = record { ewt = ewt; refused = false; index = 0 }
 
 abbrev pub invariant-loop-index : goal.invariant-loop-index
 invariant-loop-index l =
-    (length l.ewt ≡ length l.initial.ewt) ×
-    (for l.index (length l.initial.ewt) invert_at (going l.ewt) ≡ invert_of l.initial.ewt)
+    for l.index (length l.initial.ewt) invert_at (going l.ewt) ≡ invert_of l.initial.ewt

@@ -12,9 +12,9 @@ use Rattle.vectors.proofs.vmnorm.Given as goal
 
 abbrev pub invariant-loop-k : goal.invariant-loop-k
 invariant-loop-k l =
-    (l.n ≡ length l.v) × (l.k-end ≡ length l.v / 4) × (l.k ≤ length l.v / 4) × AllClean l.m
+    (l.k ≤ length l.v / 4) × AllClean l.m
     × (for (4 * l.k) (length l.v) (norm_turn l.v l.w) (top_of l.m) ≡ (vmnorm_of l.v l.w).value)
 
 abbrev pub invariant-loop-i : goal.invariant-loop-i
 invariant-loop-i l =
-    (l.n ≡ length l.v) × Number l.value × (for l.i (length l.v) (norm_turn l.v l.w) l.value ≡ (vmnorm_of l.v l.w).value)
+    Number l.value × (for l.i (length l.v) (norm_turn l.v l.w) l.value ≡ (vmnorm_of l.v l.w).value)

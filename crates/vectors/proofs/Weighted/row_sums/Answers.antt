@@ -1,12 +1,6 @@
-use mathlib.Core.Path.{refl}
 use native.Mathlib.Omega.{arith}
 use Rattle.loops.proofs.For.{again, ended}
-use Rattle.vectors.specs.Norm.{row_of}
 use Rattle.vectors.proofs.Weighted.row_sums.Goals as goal
-
-pub loop-j-init : goal.loop-j-init
-unfolding row_of
-loop-j-init c = (refl, refl, refl, refl)
 
 pub loop-j-preserved : goal.loop-j-preserved
 loop-j-preserved c =
