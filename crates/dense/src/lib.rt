@@ -107,6 +107,7 @@ fn step(a: &mut [f64], n: usize, ipiv: &mut [usize], k: usize) -> Result<(), Sin
 }
 
 // The factors in place of the matrix, and the row that each step exchanged.
+#[tactic(auto, using(loops::proofs::For::turns), unfolding(crate::specs::Factor::factor_of))]
 pub fn dense_lu_factor(a: &mut [f64], n: usize, ipiv: &mut [usize]) -> Result<(), Singular>
     requires { (n * n ≤ length a.old) × (n ≤ length ipiv.old) }
     ensures { (a.new ≡ (factor_of n a.old ipiv.old).a)
@@ -132,6 +133,7 @@ fn less(work: &mut [f64], n: usize, a: usize, b: usize, k: usize, bk: f64, lo: u
 }
 
 // Each row's exchange, then its elimination.
+#[tactic(auto, using(loops::proofs::For::turns), unfolding(crate::specs::Solve::forward_all_of))]
 fn forward_all(work: &mut [f64], n: usize, a: usize, ipiv: &[usize], b: usize)
     requires n_bound { (b + n ≤ a) × (a + n * n ≤ length work.old) × (n ≤ length ipiv.now) }
     requires by_index { (k : ℕ) → k < n → get_or ipiv.now k 0 < n }

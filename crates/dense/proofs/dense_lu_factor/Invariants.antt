@@ -1,7 +1,6 @@
 -- `dense_lu_factor` meets its contract. The invariant: the steps that are left give the whole factoring; after a step
 -- that was refused, no later one changes anything. Assumes nothing.
 use mathlib.Core.Path.{◌≡◌}
-use lib.ListN.{length}
 use mathlib.Core.Bool.{true}
 use Rattle.loops.specs.For.{for}
 use Rattle.dense.specs.Factor.{step_of, factor_of}
@@ -9,9 +8,5 @@ use Rattle.dense.proofs.dense_lu_factor.Given as goal
 
 abbrev pub invariant-loop-k : goal.invariant-loop-k
 invariant-loop-k l =
-    (length l.a ≡ length l.initial.a) × (length l.ipiv ≡ length l.initial.ipiv) ×
-    (for l.k l.n (step_of l.n) (record {
-      a = l.a;
-      ipiv = l.ipiv;
-      ok = true;
-    }) ≡ factor_of l.n l.initial.a l.initial.ipiv)
+    for l.k l.n (step_of l.n) (record { a = l.a; ipiv = l.ipiv; ok = true })
+    ≡ factor_of l.n l.initial.a l.initial.ipiv

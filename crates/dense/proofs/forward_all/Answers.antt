@@ -1,4 +1,4 @@
-use mathlib.Core.Path.{◌≡◌, refl, sym, ◌∙◌}
+use mathlib.Core.Path.{◌≡◌, sym, ◌∙◌}
 use native.Mathlib.Omega.{arith}
 use mathlib.Core.List.{List}
 use mathlib.Core.Logic.{⊎_elim}
@@ -9,8 +9,8 @@ use Rattle.std.specs.List.{swap}
 use Rattle.std.proofs.lemmas.List.{set-get_or}
 use Rattle.std.proofs.lemmas.List.Edits.{swap_is}
 use Rattle.std.proofs.lemmas.Bool.Decides.{eqb_tells}
-use Rattle.loops.proofs.For.{again, ended, within}
-use Rattle.dense.specs.Solve.{swap_entries_of, forward_step_of, forward_all_of}
+use Rattle.loops.proofs.For.{again}
+use Rattle.dense.specs.Solve.{swap_entries_of, forward_step_of}
 use Rattle.dense.proofs.forward_all.Goals as goal
 
 -- an entry that changes places with itself stays
@@ -24,35 +24,12 @@ swapped k p work low high =
     (λ e. rw e.0 two)
     (eqb_tells p k)
 
-pub loop-k-init : goal.loop-k-init
-unfolding forward_all_of
-loop-k-init c = (refl, refl)
-
-pub overflow_add-b-in-loop-k : goal.overflow_add-b-in-loop-k
-overflow_add-b-in-loop-k c =
-    omega (arith, c.requires.by_index c.loop-k.k (omega arith))
-
-pub swap-requires : goal.swap-requires
-swap-requires c =
-    omega (arith, c.requires.by_index c.loop-k.k (omega arith))
-
-pub less-requires : goal.less-requires
-less-requires c =
-    let n = c.args.n in
-    omega (arith, within n n c.loop-k.k (omega arith))
-
 pub loop-k-preserved : goal.loop-k-preserved
 unfolding forward_step_of
 loop-k-preserved c =
-    let last = c.less in
     let b = c.args.b in
     let k = c.loop-k.k in
     let p = get_or c.args.ipiv.now k 0 in
     let low = c.requires.by_index k (omega arith) in
-    let exchanged = swapped (b + k) (b + p) c.loop-k.work (omega arith) (omega arith) in (
-      last.auto.work ∙ (c.swap.auto.self ∙ c.loop-k.invariant.0),
-      rw (last.ensures, c.swap.ensures.after, ← exchanged) (again _ _ _ _ _ (omega arith) c.loop-k.invariant.1),
-    )
-
-pub returns : goal.returns
-returns c = ended _ _ _ _ _ (omega arith) c.loop-k.invariant.1
+    let exchanged = swapped (b + k) (b + p) c.loop-k.work (omega arith) (omega arith) in
+    rw (c.less.ensures, c.swap.ensures.after, ← exchanged) (again _ _ _ _ _ (omega arith) c.loop-k.invariant)
