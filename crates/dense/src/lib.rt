@@ -54,6 +54,7 @@ fn exchange(a: &mut [f64], n: usize, k: usize, p: usize)
 }
 
 // Column k below the diagonal, divided by the diagonal's entry.
+#[tactic(auto, using(loops::proofs::For::turns), unfolding(crate::specs::Factor::scale_of))]
 fn scale(a: &mut [f64], n: usize, k: usize)
     requires { (k < n) × (k * n + n ≤ length a.old) }
     ensures { a.new ≡ scale_of n k a.old }
@@ -166,6 +167,7 @@ fn backward_step(work: &mut [f64], n: usize, a: usize, b: usize, k: usize) -> Re
 
 // The right side replaced by the solution, from the last row up, or as far as it went at a zero diagonal. Both lie in
 // work: the right side is the n numbers at b, and the factors begin at a, behind it.
+#[tactic(auto, using(loops::proofs::For::turns), unfolding(crate::specs::Solve::solve_of))]
 pub fn dense_lu_solve(
     work: &mut [f64],
     n: usize,

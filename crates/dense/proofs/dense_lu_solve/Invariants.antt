@@ -2,7 +2,6 @@
 -- elimination; after a row that was refused, no later one changes anything. Assumes nothing.
 use Prim.Native.Nat.{◌-◌}
 use mathlib.Core.Path.{◌≡◌}
-use lib.ListN.{length}
 use mathlib.Core.Bool.{true}
 use Rattle.loops.specs.For.{for}
 use Rattle.dense.specs.Solve.{backward_step_of}
@@ -10,6 +9,5 @@ use Rattle.dense.proofs.dense_lu_solve.Given as goal
 
 abbrev pub invariant-loop-k : goal.invariant-loop-k
 invariant-loop-k l =
-    (length l.work ≡ length l.initial.work) ×
-    (for (l.n - l.k) l.n (backward_step_of l.n l.a l.b) (record { work = l.work; ok = true })
-    ≡ for 0 l.n (backward_step_of l.n l.a l.b) (record { work = l.initial.work; ok = true }))
+    for (l.n - l.k) l.n (backward_step_of l.n l.a l.b) (record { work = l.work; ok = true })
+    ≡ for 0 l.n (backward_step_of l.n l.a l.b) (record { work = l.initial.work; ok = true })

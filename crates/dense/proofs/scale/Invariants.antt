@@ -2,7 +2,6 @@
 -- column. Assumes nothing.
 use mathlib.Core.Path.{◌≡◌}
 use Prim.Native.Nat.{◌+◌, ◌*◌, ◌-◌}
-use lib.ListN.{length}
 use Rattle.loops.specs.For.{for}
 use Rattle.loops.specs.Part.{put_part}
 use Rattle.dense.specs.Factor.{scale_at, scale_of}
@@ -12,6 +11,5 @@ abbrev pub invariant-loop-x : goal.invariant-loop-x
 invariant-loop-x l =
     let first = l.k * l.n + l.k + 1 in
     let m = l.k * l.n + l.n - first in
-    (length l.x-items ≡ m)
-    × (for (l.k + 1 + l.x-index) l.n (scale_at l.n l.k l.diag) (put_part first m l.fn.a l.x-items)
-    ≡ scale_of l.n l.k l.fn.a)
+    for (l.k + 1 + l.x-index) l.n (scale_at l.n l.k l.diag) (put_part first m l.fn.a l.x-items)
+    ≡ scale_of l.n l.k l.fn.a
