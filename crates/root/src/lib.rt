@@ -12,7 +12,7 @@ pub struct Answer {
 }
 
 // k factors y, multiplied from the left, each product rounded.
-#[tactic(auto, unfolding(crate::specs::Root::power_of), using(loops::proofs::For::ended))]
+#[tactic(auto, using(loops::proofs::For::turns), unfolding(crate::specs::Root::power_of))]
 fn power(y: f64, k: usize) -> f64
     ensures { result ≡ power_of k y }
 {
@@ -44,7 +44,9 @@ fn root_bits(x: f64, k: usize) -> u64
 {
     let mut bits = 0;
     let mut bit = 0x4000_0000_0000_0000;
+    #[tactic(auto, using(loops::proofs::For::turns, crate::proofs::Room::next))]
     for _ in 0..63usize {
+        #[tactic(auto, using(crate::proofs::Room::candidate))]
         bits = keep(x, k, bits, bit);
         bit /= 2;
     }
