@@ -1,4 +1,3 @@
-mod Order
 mod Pivots
 mod Sizes
 pub mod Usable

@@ -11,10 +11,12 @@ use borrow.Author.Tests.{leb-true, ltb-true, eqb-true}
 use Rattle.common.specs.Limits.{max_states}
 use Rattle.common.specs.Layout.{ewt_at, matrix_at}
 use Rattle.loops.proofs.Test.{both}
+use Rattle.common.specs.declared.Settings.{Settings}
+use Rattle.common.specs.declared.Common.{Common}
 use Rattle.common.specs.Ranges.{StepInRange}
 use Rattle.probe.specs.Lent.{lent_settings, lent_common, are_columns, in_range, are_limits, is_usable}
 
-pub columns-fit : (n nq nqnyh len : ℕ) → are_columns n nq nqnyh len ≡ true
+columns-fit : (n nq nqnyh len : ℕ) → are_columns n nq nqnyh len ≡ true
     → (nq ≤ 12) × (nq * n ≤ nqnyh) × (nqnyh + n ≤ len)
 unfolding are_columns
 columns-fit n nq nqnyh len h =
@@ -57,6 +59,31 @@ usable fs cs work h =
       limits = (leb-true (get_or cs 1 0) 1000000 l1.0, leb-true (get_or cs 2 0) 1000000 l2.0);
     }
 
-pub usable-by : {fs : List Float} {cs : List ℕ} {work : ℕ} {r : Bool} → r ≡ is_usable fs cs work → r ≡ true
-    → Usable fs cs work
-usable-by e h = usable _ _ _ (sym e ∙ h)
+module _ (fs : List Float) (cs : List ℕ) (work : ℕ) (r : Bool) (e : r ≡ is_usable fs cs work) (h : r ≡ true) where
+  facts : Usable fs cs work
+  facts = usable fs cs work (sym e ∙ h)
+
+  pub floats-lent : length fs ≡ 11
+  floats-lent = facts.lists.0
+
+  pub counts-lent : length cs ≡ 14
+  counts-lent = facts.lists.1
+
+  module _ (s : Settings) (is : s ≡ lent_settings fs cs) where
+    pub work-long : matrix_at s.n ≤ work
+    work-long = rw is facts.long
+
+    pub within-limits : (s.mxordn ≤ 1000000) × (s.mxords ≤ 1000000)
+    within-limits = rw is facts.limits
+
+    module _ (c : Common) (like : c ≡ lent_common fs cs) where
+      pub step-in-range : StepInRange s c
+      step-in-range = rw (is, like) facts.range
+
+      pub within-range : (1 ≤ s.n) × (s.n ≤ max_states) × (c.table ≤ 2) × (1 ≤ c.nq) × (c.nq ≤ 12)
+      within-range =
+          let t = step-in-range in
+          (t.n.0, t.n.1, t.table, t.order.0, t.order.1)
+
+-- what a record that is taken is, for a function's attribute
+pub ruleset taken = (floats-lent, counts-lent, work-long, within-limits, within-range)

@@ -90,7 +90,7 @@ fn is_order(order: usize, last: usize) -> bool
 }
 
 // Coefficient i of an order in a table: 0 none yet, 1 Adams, 2 BDF.
-#[tactic(auto, unfolding(crate::specs::Probe::elco_or_nan))]
+#[tactic(auto, unfolding(crate::specs::Probe::elco_or_nan, crate::specs::Probe::is_order))]
 pub fn probe_elco(table: usize, order: usize, i: usize) -> f64
     ensures { result ≡ elco_or_nan table order i }
 {
@@ -102,7 +102,7 @@ pub fn probe_elco(table: usize, order: usize, i: usize) -> f64
 }
 
 // Error entry i of an order in a table.
-#[tactic(auto, unfolding(crate::specs::Probe::tesco_or_nan))]
+#[tactic(auto, unfolding(crate::specs::Probe::tesco_or_nan, crate::specs::Probe::is_order))]
 pub fn probe_tesco(table: usize, order: usize, i: usize) -> f64
     ensures { result ≡ tesco_or_nan table order i }
 {
@@ -113,7 +113,7 @@ pub fn probe_tesco(table: usize, order: usize, i: usize) -> f64
     }
 }
 
-#[tactic(auto, unfolding(crate::specs::Probe::cm1_or_nan))]
+#[tactic(auto, unfolding(crate::specs::Probe::cm1_or_nan, crate::specs::Probe::is_order))]
 pub fn probe_cm1(table: usize, order: usize) -> f64
     ensures { result ≡ cm1_or_nan table order }
 {
@@ -124,7 +124,7 @@ pub fn probe_cm1(table: usize, order: usize) -> f64
     }
 }
 
-#[tactic(auto, unfolding(crate::specs::Probe::cm2_or_nan))]
+#[tactic(auto, unfolding(crate::specs::Probe::cm2_or_nan, crate::specs::Probe::is_order))]
 pub fn probe_cm2(table: usize, order: usize) -> f64
     ensures { result ≡ cm2_or_nan table order }
 {
@@ -135,7 +135,7 @@ pub fn probe_cm2(table: usize, order: usize) -> f64
     }
 }
 
-#[tactic(auto, unfolding(crate::specs::Probe::sm1_or_nan))]
+#[tactic(auto, unfolding(crate::specs::Probe::sm1_or_nan, crate::specs::Probe::is_order))]
 pub fn probe_sm1(order: usize) -> f64
     ensures { result ≡ sm1_or_nan order }
 {
@@ -206,7 +206,7 @@ pub fn probe_vmnorm(v: &[f64], w: &[f64]) -> f64
     }
 }
 
-#[tactic(auto, unfolding(crate::specs::Leaves::fnorm_or_nan))]
+#[tactic(auto, unfolding(crate::specs::Leaves::fnorm_or_nan, crate::specs::Leaves::is_matrix))]
 pub fn probe_fnorm_dense(n: usize, a: &[f64], w: &[f64]) -> f64
     ensures { result ≡ fnorm_or_nan n a.now w.now }
 {
@@ -218,7 +218,7 @@ pub fn probe_fnorm_dense(n: usize, a: &[f64], w: &[f64]) -> f64
 }
 
 // The weights of the first n numbers of work, at `at`. 0 done, 2 not.
-#[tactic(auto, unfolding(crate::specs::Leaves::ewset_left))]
+#[tactic(auto, using(crate::proofs::Sizes::weighed), unfolding(crate::specs::Leaves::ewset_left))]
 pub fn probe_ewset(rtol: &[f64], atol: &[f64], work: &mut [f64], n: usize, at: usize) -> usize
     ensures { ◌≡◌ {A = WorkLeft} (record { number = result; work = work.new })
         (ewset_left rtol.now atol.now n at work.old) }
@@ -231,7 +231,7 @@ pub fn probe_ewset(rtol: &[f64], atol: &[f64], work: &mut [f64], n: usize, at: u
     }
 }
 
-#[tactic(auto, unfolding(crate::specs::Leaves::ewset_like_left))]
+#[tactic(auto, unfolding(crate::specs::Leaves::ewset_like_left, crate::specs::Leaves::is_behind))]
 pub fn probe_ewset_scalar_like(work: &mut [f64], n: usize, at: usize) -> usize
     ensures { ◌≡◌ {A = WorkLeft} (record { number = result; work = work.new })
         (ewset_like_left n at work.old) }
@@ -256,7 +256,7 @@ pub fn probe_invert_weights(ewt: &mut [f64]) -> usize
     }
 }
 
-#[tactic(auto, unfolding(crate::specs::Leaves::initial_step_or_nan))]
+#[tactic(auto, unfolding(crate::specs::Leaves::initial_step_or_nan, crate::specs::Leaves::is_tolerance_list))]
 pub fn probe_initial_step_size(
     t: f64,
     tout: f64,
@@ -277,6 +277,7 @@ pub fn probe_initial_step_size(
 }
 
 // 0 done, 1 singular, 2 nothing done.
+#[tactic(auto, unfolding(crate::specs::Leaves::factor_left, crate::specs::Leaves::is_matrix))]
 pub fn probe_dense_lu_factor(a: &mut [f64], n: usize, ipiv: &mut [usize]) -> usize
     ensures { ◌≡◌ {A = FactorsLeft} (record { number = result; a = a.new; ipiv = ipiv.new })
         (factor_left n a.old ipiv.old) }
@@ -291,6 +292,7 @@ pub fn probe_dense_lu_factor(a: &mut [f64], n: usize, ipiv: &mut [usize]) -> usi
 }
 
 // The right side is the n numbers of work at b, the matrix stands at a. 0 done, 1 singular, 2 nothing done.
+#[tactic(auto, using(crate::proofs::Sizes::system), unfolding(crate::specs::Leaves::solve_left))]
 pub fn probe_dense_lu_solve(work: &mut [f64], n: usize, a: usize, ipiv: &[usize], b: usize) -> usize
     ensures { ◌≡◌ {A = WorkLeft} (record { number = result; work = work.new })
         (solve_left n a ipiv.now b work.old) }

@@ -22,7 +22,7 @@ fn are_columns(n: usize, nq: usize, nqnyh: usize, len: usize) -> bool
 }
 
 // 0 done, 2 not.
-#[tactic(auto, unfolding(crate::specs::Left::predict_left))]
+#[tactic(auto, unfolding(crate::specs::Left::predict_left, crate::specs::Lent::are_columns))]
 pub fn probe_predict_columns(yh: &mut [f64], n: usize, nq: usize, nqnyh: usize) -> usize
     ensures { ◌≡◌ {A = Columns} (record { number = result; yh = yh.new })
         (predict_left n nq nqnyh yh.old) }
@@ -35,7 +35,7 @@ pub fn probe_predict_columns(yh: &mut [f64], n: usize, nq: usize, nqnyh: usize) 
     }
 }
 
-#[tactic(auto, unfolding(crate::specs::Left::retract_left))]
+#[tactic(auto, unfolding(crate::specs::Left::retract_left, crate::specs::Lent::are_columns))]
 pub fn probe_retract_columns(yh: &mut [f64], n: usize, nq: usize, nqnyh: usize) -> usize
     ensures { ◌≡◌ {A = Columns} (record { number = result; yh = yh.new })
         (retract_left n nq nqnyh yh.old) }
@@ -196,7 +196,7 @@ fn is_usable(floats: &[f64], counts: &[usize], work: usize) -> bool
         && in_range(counts[0], counts[5], counts[7], counts[10], work)
 }
 
-#[tactic(auto, unfolding(crate::specs::Left::correct_left))]
+#[tactic(auto, using(crate::proofs::Usable::taken), unfolding(crate::specs::Left::correct_left))]
 pub fn probe_correct_columns(floats: &[f64], counts: &[usize], work: &mut [f64]) -> usize
     ensures { ◌≡◌ {A = Columns} (record { number = result; yh = work.new })
         (correct_left floats.now counts.now work.old) }
@@ -209,7 +209,7 @@ pub fn probe_correct_columns(floats: &[f64], counts: &[usize], work: &mut [f64])
     }
 }
 
-#[tactic(auto, unfolding(crate::specs::Left::adjust_left))]
+#[tactic(auto, using(crate::proofs::Usable::taken), unfolding(crate::specs::Left::adjust_left))]
 pub fn probe_stoda_adjust_step_size(
     floats: &mut [f64],
     counts: &mut [usize],
@@ -232,7 +232,7 @@ pub fn probe_stoda_adjust_step_size(
     }
 }
 
-#[tactic(auto, unfolding(crate::specs::Left::predicted_left))]
+#[tactic(auto, using(crate::proofs::Usable::taken), unfolding(crate::specs::Left::predicted_left))]
 pub fn probe_stoda_get_predicted_values(
     floats: &mut [f64],
     counts: &mut [usize],
@@ -254,7 +254,7 @@ pub fn probe_stoda_get_predicted_values(
     }
 }
 
-#[tactic(auto, unfolding(crate::specs::Left::init_left))]
+#[tactic(auto, using(crate::proofs::Usable::taken), unfolding(crate::specs::Left::init_left))]
 pub fn probe_stoda_first_call_init(floats: &mut [f64], counts: &mut [usize]) -> usize
     ensures { ◌≡◌ {A = RecordLeft}
         (record { number = result; floats = floats.new; counts = counts.new; work = [] })
@@ -272,7 +272,7 @@ pub fn probe_stoda_first_call_init(floats: &mut [f64], counts: &mut [usize]) -> 
     }
 }
 
-#[tactic(auto, unfolding(crate::specs::Left::reset_left))]
+#[tactic(auto, using(crate::proofs::Usable::taken), unfolding(crate::specs::Left::reset_left))]
 pub fn probe_stoda_reset(floats: &mut [f64], counts: &mut [usize]) -> usize
     ensures { ◌≡◌ {A = RecordLeft}
         (record { number = result; floats = floats.new; counts = counts.new; work = [] })
@@ -291,6 +291,7 @@ pub fn probe_stoda_reset(floats: &mut [f64], counts: &mut [usize]) -> usize
 }
 
 // The snapshot stands in the question from n on.
+#[tactic(auto, using(crate::proofs::Usable::taken), unfolding(crate::specs::Left::snapshot_left))]
 pub fn probe_snapshot_step(
     floats: &[f64],
     counts: &[usize],

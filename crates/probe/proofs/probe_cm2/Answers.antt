@@ -1,8 +1,0 @@
--- `probe_cm2` meets its contract: what its test tells is what the callees require. Assumes nothing.
-use mathlib.Core.Path.{sym, ◌∙◌}
-use native.Mathlib.Omega.{arith}
-use Rattle.probe.proofs.Order.{order-within}
-use Rattle.probe.proofs.probe_cm2.Goals as goal
-
-pub cm2-requires : goal.cm2-requires
-cm2-requires c = omega (arith, order-within _ _ (sym c.is_order.ensures ∙ c.if-is_order.true))

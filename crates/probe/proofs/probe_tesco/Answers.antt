@@ -1,8 +1,0 @@
--- `probe_tesco` meets its contract: what its test tells is what the callees require. Assumes nothing.
-use mathlib.Core.Path.{sym, ◌∙◌}
-use native.Mathlib.Omega.{arith}
-use Rattle.probe.proofs.Order.{order-within}
-use Rattle.probe.proofs.probe_tesco.Goals as goal
-
-pub tesco-requires : goal.tesco-requires
-tesco-requires c = omega (arith, order-within _ _ (sym c.is_order.ensures ∙ c.if-is_order.true))
