@@ -101,3 +101,6 @@ word-other s at w j h =
     λ k l. byte-other s at w (j + k) (⊎_elim (λ o. inl (omega arith)) (λ o. inr (omega arith)) h) in
     let z : get_or (put_word s at w) j 0 ≡ get_or s j 0 = rw add-zero at (b 0 (lit< tt)) in
     rw (z, b 1 (lit< tt), b 2 (lit< tt), b 3 (lit< tt), b 4 (lit< tt), b 5 (lit< tt), b 6 (lit< tt), b 7 (lit< tt))
+
+-- for a function's attribute
+pub ruleset eight_put = eight-put

@@ -50,6 +50,7 @@ impl Word for f64 {
 
 // The word at byte `at`. Its bytes stand one by one: an array that is filled by `copy_from_slice` is tested for overlap
 // at each word, and to read and test a session then takes 1100 instructions, not 448.
+#[tactic(auto, unfolding(crate::specs::Words::word_at))]
 pub fn get(bytes: &[u8], at: usize) -> u64
     requires { at + 8 ≤ length bytes.now }
     ensures { result ≡ word_at bytes.now at }
@@ -67,6 +68,7 @@ pub fn get(bytes: &[u8], at: usize) -> u64
 }
 
 // Puts it there.
+#[tactic(auto, using(crate::proofs::Eight::eight_put))]
 pub fn put(bytes: &mut [u8], at: usize, w: u64)
     requires { at + 8 ≤ length bytes.old }
     ensures { bytes.new ≡ put_word bytes.old at w }
@@ -83,6 +85,7 @@ pub fn number<T: Word>(bytes: &[u8], k: usize) -> T
 }
 
 // The words from word `at` on, one for each entry of the list.
+#[tactic(auto, using(loops::proofs::For::turns))]
 pub fn get_row<T: Word>(bytes: &[u8], at: usize, list: &mut [T])
     requires { 8 * (at + length list.old) ≤ length bytes.now }
     ensures { list.new ≡ row_over T.read bytes.now at (length list.old) list.old }
@@ -104,6 +107,7 @@ fn slot<T: Word>(list: &[T], i: usize) -> u64
 
 // k words from word `at` on: the list, then 0. The slots go beyond the list, and of slices that chunks_exact_mut lends
 // nothing says what the bytes end as, so the loop counts.
+#[tactic(auto, using(loops::proofs::For::turns))]
 pub fn put_row<T: Word>(bytes: &mut [u8], at: usize, k: usize, list: &[T])
     requires { 8 * (at + k) ≤ length bytes.old }
     ensures { bytes.new ≡ put_row_of at k (map T.written list.now) bytes.old }
