@@ -31,7 +31,8 @@ def table(name, end):
 
 
 def accessor(name):
-    return f"""pub fn {name}() -> {COUNT_ARRAY}
+    return f"""#[tactic(auto, unfolding(crate::specs::Fields::{name}))]
+pub fn {name}() -> {COUNT_ARRAY}
     ensures {{ result ≡ {name} }}
 {{
     {name.upper()}

@@ -1,6 +1,7 @@
 pub mod StateNumbers
 pub mod Fits
 pub mod Every
+pub mod Steps
 pub mod Within
 pub mod Listed
 pub mod Back

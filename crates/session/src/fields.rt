@@ -85,12 +85,14 @@ const HIGHEST: [usize; common::COUNT_WORDS] = [
     1, // setup
 ];
 
+#[tactic(auto, unfolding(crate::specs::Fields::lowest))]
 pub fn lowest() -> [usize; common::COUNT_WORDS]
     ensures { result ≡ lowest }
 {
     LOWEST
 }
 
+#[tactic(auto, unfolding(crate::specs::Fields::highest))]
 pub fn highest() -> [usize; common::COUNT_WORDS]
     ensures { result ≡ highest }
 {

@@ -36,6 +36,7 @@ pub fn encode_floats(x: Session, bytes: &mut [u8])
 }
 
 // The counts, read once for the record and for the ranges.
+#[tactic(auto, unfolding(words::specs::Words::counts_over))]
 pub fn counts(bytes: &[u8]) -> [usize; common::COUNT_WORDS]
     requires { session_length ≤ length bytes.now }
     ensures { result ≡ stored_counts bytes.now }
@@ -46,6 +47,7 @@ pub fn counts(bytes: &[u8]) -> [usize; common::COUNT_WORDS]
 }
 
 // The record of the bytes, u being their counts.
+#[tactic(auto, unfolding(crate::specs::Session::decode_of, words::specs::Words::floats_over))]
 pub fn decode(u: &[usize; common::COUNT_WORDS], bytes: &[u8]) -> Session
     requires { (session_length ≤ length bytes.now) × (u.now ≡ stored_counts bytes.now) }
     ensures { result ≡ decode_of bytes.now }
@@ -67,6 +69,7 @@ pub fn put_tolerances(rtol: &[f64], atol: &[f64], bytes: &mut [u8])
 
 // The first k relative tolerances, read to the first entries of a list. This and the next call one function at two
 // places, which callers need not know.
+#[tactic(auto, using(crate::proofs::Steps::first_read))]
 pub fn rtol(bytes: &[u8], k: usize, list: &mut [f64])
     requires { (session_length ≤ length bytes.now) × (k ≤ max_states) × (k ≤ length list.old) }
     ensures { list.new ≡ rtol_first bytes.now k list.old }
@@ -75,6 +78,7 @@ pub fn rtol(bytes: &[u8], k: usize, list: &mut [f64])
 }
 
 // The first k absolute tolerances.
+#[tactic(auto, using(crate::proofs::Steps::first_read))]
 pub fn atol(bytes: &[u8], k: usize, list: &mut [f64])
     requires { (session_length ≤ length bytes.now) × (k ≤ max_states) × (k ≤ length list.old) }
     ensures { list.new ≡ atol_first bytes.now k list.old }

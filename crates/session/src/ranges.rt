@@ -36,6 +36,7 @@ fn words(u: &[usize; common::COUNT_WORDS]) -> bool
 }
 
 // The lengths of the tolerance lists.
+#[tactic(auto, using(crate::proofs::Steps::tests), unfolding(crate::specs::Session::lists_in_range))]
 fn lists(s: Settings) -> bool
     ensures { result ≡ lists_in_range s }
 {
@@ -43,6 +44,7 @@ fn lists(s: Settings) -> bool
 }
 
 // The order against the columns in use and against the order at the last reset.
+#[tactic(auto, using(crate::proofs::Steps::tests), unfolding(crate::specs::Session::orders_in_range))]
 fn orders(s: Settings, c: Common) -> bool
     requires { (1 ≤ s.n) × (s.n ≤ max_states) × (c.nq ≤ 12) }
     ensures { result ≡ orders_in_range s c }
@@ -51,6 +53,7 @@ fn orders(s: Settings, c: Common) -> bool
 }
 
 // The counters of a step and of a pass against their limits.
+#[tactic(auto, using(crate::proofs::Steps::tests), unfolding(crate::specs::Session::counters_in_range))]
 fn counters(s: Settings, c: Common) -> bool
     ensures { result ≡ counters_in_range s c }
 {
@@ -59,6 +62,7 @@ fn counters(s: Settings, c: Common) -> bool
 
 // All fields but the floats, of a record whose n and nq are those of the counts u: first word by word, so that n is not
 // 0 where it divides.
+#[tactic(auto, using(crate::proofs::Steps::tests), unfolding(crate::specs::Session::fields_in_range))]
 pub fn fields(u: &[usize; common::COUNT_WORDS], s: Settings, c: Common) -> bool
     requires { (s.n ≡ (settings_of u.now []).n) × (c.nq ≡ (common_of u.now []).nq) }
     ensures { result ≡ fields_in_range u.now s c }
@@ -75,6 +79,7 @@ fn not_negative(bytes: &[u8], at: usize, k: usize) -> bool
 }
 
 // Whether no entry of the two tolerance lists is below 0.
+#[tactic(auto, using(crate::proofs::Steps::tests), unfolding(crate::specs::Session::tolerances_in_range))]
 pub fn tolerances(bytes: &[u8], s: Settings) -> bool
     requires { (session_length ≤ length bytes.now) × (s.nrtol ≤ max_states) × (s.natol ≤ max_states) }
     ensures { result ≡ tolerances_in_range bytes.now s }
@@ -83,6 +88,7 @@ pub fn tolerances(bytes: &[u8], s: Settings) -> bool
 }
 
 // Whether the four pivots from index i on are below n. One by one is slower, by 15 percent of a run (docs/SPEED.md).
+#[tactic(auto, using(crate::proofs::Steps::four_tests))]
 fn four_below(ipiv: &[usize], i: usize, n: usize) -> bool
     requires { i + 4 ≤ length ipiv.now }
     ensures { result ≡ for i (i + 4) (and_at (pivot_below ipiv.now n)) true }

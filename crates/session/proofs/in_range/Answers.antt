@@ -1,8 +1,6 @@
 -- `in_range` meets its contract. Each test is one of the definition's, on the record and the words as they were read.
 -- Assumes nothing.
 use Rattle.std.proofs.Common.{arith}
-use Rattle.std.proofs.lemmas.Grind.{common_steps}
-use Rattle.std.proofs.lemmas.Bool.Decides.{nat_tests}
 use mathlib.Core.Path.{◌≡◌, sym, ◌∙◌}
 use mathlib.Core.Bool.{◌&&◌}
 use mathlib.Core.List.{List, []}
@@ -11,6 +9,7 @@ use Rattle.questions.specs.declared.Session.{Session}
 use Rattle.session.specs.Session.{decode_of, fields_in_range, tolerances_in_range, pivots_below, in_range_of}
 use Rattle.session.specs.Session.{stored_counts}
 use Rattle.session.proofs.Thirteen.{lists-small}
+use Rattle.session.proofs.Steps.{tests}
 use Rattle.session.specs.Fields.{settings_of, common_of}
 use Rattle.session.proofs.in_range.Goals as goal
 
@@ -41,10 +40,10 @@ pub returns-then-tolerances : goal.returns-then-tolerances
 returns-then-tolerances c =
     let a = c.args in
     rw (whole a.bytes.now a.ipiv.now a.x a.u.now c.requires.u_value.1 c.requires.u_value.0)
-    (grind (arith, common_steps, nat_tests))
+    (grind (arith, tests))
 
 pub returns-else-tolerances : goal.returns-else-tolerances
 returns-else-tolerances c =
     let a = c.args in
     rw (whole a.bytes.now a.ipiv.now a.x a.u.now c.requires.u_value.1 c.requires.u_value.0)
-    (grind (arith, common_steps, nat_tests))
+    (grind (arith, tests))
