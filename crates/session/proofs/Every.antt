@@ -1,9 +1,8 @@
--- A test of every index below an end, `every p e`, and a loop that is left at the first index that fails.
---     every-again, every-fails, every-ends     the steps of a proof whose invariant is `for i e (and_at p) true ≡ r`
---     every-parts, lost-for                    the test in two runs, and the first of them failed
---     run-again, run-fails, run-of-four        the same steps by a run of n indices, and what a run of four tests
---     every-at, every-all                      every index passes, if and only if the test does
---     all-run, all-fours                       what `all` says of a range, one by one and by fours
+-- A test of every index below an end, `every p e`.
+--     every-parts, lost-for    the test in two runs, and the first of them failed
+--     run-of-four              what a run of four tests
+--     every-at, every-all      every index passes, if and only if the test does
+--     all-run, all-fours       what `all` says of a range, one by one and by fours
 -- Assumes nothing.
 use mathlib.Core.Path.{◌≡◌, refl, sym, ◌∙◌}
 use mathlib.Core.Bool.{Bool, true, false, ◌&&◌}
@@ -13,24 +12,13 @@ use native.Mathlib.Omega.{arith}
 use native.Mathlib.Nat.{add_assoc, eq-or-lt_of_le}
 use Rattle.std.specs.List.{list_all, range_with_len}
 use Rattle.loops.specs.For.{for, times}
-use Rattle.loops.proofs.For.{turn, done, onward, ended, stays, keeps}
+use Rattle.loops.proofs.For.{turn, done, stays, keeps}
 use Rattle.session.specs.Session.{every, and_at}
 
 none : (i k : ℕ) → i ≤ k → k < i + 0 → ⊥
 none i k a b = omega arith
 
 module _ (p : ℕ → Bool) where
-  pub every-again : (i e : ℕ) (r : Bool) → i < e → p i ≡ true → for i e (and_at p) true ≡ r
-      → for (i + 1) e (and_at p) true ≡ r
-  every-again i e r h t q = onward (and_at p) i e true true r h t q
-
-  pub every-fails : (i e : ℕ) (r : Bool) → i < e → p i ≡ false → for i e (and_at p) true ≡ r → false ≡ r
-  every-fails i e r h t q =
-      sym (stays (and_at p) (i + 1) e false (λ k. refl)) ∙ onward (and_at p) i e true false r h t q
-
-  pub every-ends : (i e : ℕ) (r : Bool) → e ≤ i → for i e (and_at p) true ≡ r → true ≡ r
-  every-ends i e r h q = ended (and_at p) i e true r h q
-
   pub lost-for : (i e : ℕ) → for i e (and_at p) false ≡ false
   lost-for i e = stays (and_at p) i e false (λ k. refl)
 
@@ -50,14 +38,6 @@ module _ (p : ℕ → Bool) where
   every-parts n e h =
       let z : 0 + n ≡ n = omega arith in
       rw z at (parts n 0 e true (omega arith))
-
-  pub run-again : (n i e : ℕ) (r : Bool) → i + n ≤ e → for i (i + n) (and_at p) true ≡ true
-      → for i e (and_at p) true ≡ r → for (i + n) e (and_at p) true ≡ r
-  run-again n i e r h t q = rw (parts n i e true h, t) at q
-
-  pub run-fails : (n i e : ℕ) (r : Bool) → i + n ≤ e → for i (i + n) (and_at p) true ≡ false
-      → for i e (and_at p) true ≡ r → false ≡ r
-  run-fails n i e r h t q = sym (lost-for (i + n) e) ∙ (rw (parts n i e true h, t) at q)
 
   pub run-of-four : (i : ℕ) → for i (i + 4) (and_at p) true ≡ (p i && p (i + 1) && p (i + 2) && p (i + 3))
   unfolding times
