@@ -142,5 +142,5 @@ pub fnorm-largest : (n : ℕ) (a w : List Float)
 unfolding fnorm_of
 fnorm-largest n a w = largest (λ i. row_of n a w i ⊗ get_or w i nan) n
 
--- what a test tells of a NaN, for a function's attribute
+-- what is above a float is no NaN: for a function's attribute
 pub ruleset compared = (lt-number)
