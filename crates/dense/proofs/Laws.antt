@@ -15,7 +15,9 @@ use lib.Seq.{get_or-set_other}
 use lib.Ieee as Ieee
 use lib.Ieee.{Float, nan}
 use Rattle.std.specs.Prelude.{Result, Ok, Err, IsErr, is_ok}
-use Rattle.loops.proofs.For.{keeps}
+use Rattle.std.proofs.lemmas.List.Edits.{swap_is}
+use borrow.Author.Tests.{ne_eqb}
+use Rattle.loops.proofs.For.{keeps, onward, ended}
 use Rattle.loops.proofs.Stores.{length-for}
 use Rattle.loops.proofs.Test.{chosen}
 use Rattle.numbers.specs.Float.{zero_f}
@@ -183,3 +185,6 @@ module _ (n a : ℕ) (ipiv : List ℕ) (b : ℕ) (work : List Float) where
       let other : (k : ℕ) → k < n → j ≡ b + k → ⊥ = λ k h e. ⊎_elim (λ l. omega arith) (λ l. omega arith) outside in
       solve-keeps n a ipiv b (λ p. j ≡ p → ⊥) (λ s. get_or s j nan ≡ get_or work j nan)
       (λ p x s q e. get_or-set_other s p j x nan q ∙ e) other (λ k h. other (get_or ipiv k 0) (below k h)) work refl
+
+-- a loop that exchanges entries of two rows, for a function's attribute
+pub ruleset exchanges = (onward, ended, swap_is, ne_eqb)

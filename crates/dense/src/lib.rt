@@ -40,7 +40,7 @@ fn find_pivot(a: &[f64], n: usize, k: usize) -> Pivot
 }
 
 // Rows k and p change places, if they are two.
-#[tactic(auto, using(loops::proofs::For::turns), unfolding(crate::specs::Factor::swap_of))]
+#[tactic(auto, using(crate::proofs::Laws::exchanges), unfolding(crate::specs::Factor::swap_of))]
 fn exchange(a: &mut [f64], n: usize, k: usize, p: usize)
     requires { (k < n) × (p < n) × (n * n ≤ length a.old) }
     ensures { a.new ≡ exchange_of n k p a.old }
