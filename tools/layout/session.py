@@ -7,7 +7,7 @@ COUNT_ARRAY = "[usize; common::COUNT_WORDS]"
 FLOAT_ARRAY = "[f64; common::FLOAT_WORDS]"
 # A field of Common from its word, in code and in the definitions; and the number of a field.
 STATE = {"bool": "{} == 1", "MethodFamily": "family({})", "usize": "{}", "f64": "{}"}
-NUMBER = {"bool": "usize::from({})", "MethodFamily": "family_number({})", "usize": "{}", "f64": "{}"}
+NUMBER = {"bool": "usize::from({})", "MethodFamily": "{} as usize", "usize": "{}", "f64": "{}"}
 STATE_OF = {"bool": "flag_of ({})", "MethodFamily": "family_of ({})", "usize": "{}", "f64": "{}"}
 NUMBER_OF = {"bool": "flag_number {}", "MethodFamily": "family_number {}", "Phase": "phase_number {}", "usize": "{}",
              "f64": "{}"}
@@ -51,7 +51,7 @@ ghost use Rattle.std.specs.Prelude.{{◌≡◌}};
 ghost use Rattle.session.specs.Fields.{{counts_of, floats_of, settings_of, floats_alone_of, common_of, session_of}};
 ghost use Rattle.session.specs.Fields.{{lowest, highest}};
 
-use crate::states::{{family, family_number, phase}};
+use crate::states::{{family, phase}};
 use common::{{Common, MethodFamily, Settings}};
 use questions::Session;
 

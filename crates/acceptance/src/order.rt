@@ -1,5 +1,6 @@
 // The order choice of an accepted step, as in `stoda`: the factors that three orders allow, and the one that is taken.
-// set_raised and set_column count an index: they read one part of the work and write another, to be split first else.
+// set_raised and set_column count an index: they read one part of the work and write another, and a form without an
+// index would have to split the slice first.
 ghost use Rattle.std.specs.Prelude.{◌≡◌, ◌+◌, ◌≤◌, length};
 ghost use Rattle.common.specs.Limits.{max_states};
 ghost use Rattle.common.specs.Layout.{matrix_at};

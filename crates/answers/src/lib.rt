@@ -52,20 +52,6 @@ fn numbered(number: usize) -> Reply
     }
 }
 
-// A function, since From stands where one of its types does.
-fn status(s: Status) -> usize
-    ensures { result ≡ status_number s }
-{
-    match s {
-        Status::Success => 110,
-        Status::Interrupted => 111,
-        Status::NeedsMoreSteps => 112,
-        Status::StepTooSmall => 113,
-        Status::PoorConvergence => 114,
-        Status::CoefficientGap => 115,
-    }
-}
-
 // No states: success, h 0, all counts 0.
 pub fn nothing() -> Reply
     ensures { result ≡ plain_reply 110 0 zero_f zero_f }
@@ -142,7 +128,7 @@ impl From<Question> for Reply {
                 total: end.total,
                 accepted: end.accepted,
                 rejected: end.rejected,
-                ..numbered(status(end.status))
+                ..numbered(end.status as usize)
             },
             Question::StepRefused(h) => Reply::from(Refusal::FirstStep(h)),
             Question::WeightRefused(i) => Reply::from(Refusal::Weight(i)),

@@ -13,15 +13,15 @@ ghost use Rattle.between_steps.specs.Start.{with_derivative, inverted, first_siz
 
 use common::{Common, MethodFamily, Settings};
 
-// How a run ends.
+// How a run ends, each with the number that a call answers.
 #[derive(Clone, Copy)]
 pub enum Status {
-    Success,
-    Interrupted,
-    NeedsMoreSteps,
-    StepTooSmall,
-    PoorConvergence,
-    CoefficientGap,
+    Success = 110,
+    Interrupted = 111,
+    NeedsMoreSteps = 112,
+    StepTooSmall = 113,
+    PoorConvergence = 114,
+    CoefficientGap = 115,
 }
 
 // What the host says to a report; the Rust's `XOut` is Continue.
@@ -131,22 +131,21 @@ pub fn first_size(s: Settings, c: Common, h: f64) -> f64
 }
 
 // The derivative at the start in savf, and y in column 0.
-pub fn take_first(n: usize, f: &[f64], work: &mut [f64])
-    requires f_len { length f.now ≡ n }
-    requires n_in_bounds { matrix_at n ≤ length work.old }
-    ensures { work.new ≡ copy_of n 0 (y_at n) (with_derivative n f.now work.old) }
+pub fn take_first(f: &[f64], work: &mut [f64])
+    requires { matrix_at (length f.now) ≤ length work.old }
+    ensures { work.new ≡ copy_of (length f.now) 0 (y_at (length f.now)) (with_derivative (length f.now) f.now work.old) }
 {
+    let n = f.len();
     history::store(work, common::SAVF * n, f);
     history::copy_part(work, n, 0, common::Y * n);
 }
 
 // The state as the host gives it, in y and in column 0.
-pub fn take_state(n: usize, y: &[f64], work: &mut [f64])
-    requires y_len { length y.now ≡ n }
-    requires n_in_bounds { matrix_at n ≤ length work.old }
-    ensures { work.new ≡ taken_of n y.now work.old }
+pub fn take_state(y: &[f64], work: &mut [f64])
+    requires { matrix_at (length y.now) ≤ length work.old }
+    ensures { work.new ≡ taken_of (length y.now) y.now work.old }
 {
-    history::store(work, common::Y * n, y);
+    history::store(work, common::Y * y.len(), y);
     history::store(work, 0, y);
 }
 

@@ -6,6 +6,7 @@
 
 ghost use Rattle.std.specs.Prelude.{◌≡◌, Bool, ◌+◌, ◌*◌, ◌≤◌, ◌<◌};
 ghost use Rattle.common.specs.Record.{is_bdf};
+ghost use Rattle.common.specs.Layout.{work_length, question_length};
 ghost use Rattle.common.specs.Limits.{max_states, mxordn_of, mxords_of, msbp_of, mxncf_of, maxord_of};
 ghost use Rattle.common.specs.Rules.{first_call_init_of, reset_of, tiny_of, order_in_force_of, el_of};
 ghost use Rattle.common.specs.Initial.{initial_of};
@@ -37,6 +38,22 @@ pub const QUESTION: usize = 14;
 
 pub const HEADER: usize = 6;
 
+// How many numbers the work of n states has.
+pub fn work_length(n: usize) -> usize
+    requires { n ≤ max_states }
+    ensures { result ≡ work_length n }
+{
+    n * n + MATRIX * n
+}
+
+// How many numbers the question of n states has.
+pub fn question_length(n: usize) -> usize
+    requires { n ≤ max_states }
+    ensures { result ≡ question_length n }
+{
+    QUESTION * n + HEADER
+}
+
 // made by tools/record.py: the words of a session
 // A session is a row of words of eight bytes: counts, flags and states, then floats, then MAX_STATES slots for each of
 // the two tolerance lists.
@@ -55,10 +72,11 @@ pub const SESSION_LENGTH: usize = 8 * SESSION_WORDS;
 
 #[derive(Clone, Copy, PartialEq, Eq)]
 pub enum MethodFamily {
-    Adams,
-    Bdf,
+    Adams = 1,
+    Bdf = 2,
 }
 
+// `given` is a flag beside the record's h, and the record's `table` a number: both are words of a stored session.
 #[derive(Clone, Copy)]
 pub struct Settings {
     pub n: usize, // states, 1 to 64

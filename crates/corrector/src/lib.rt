@@ -1,6 +1,7 @@
 // One corrector iteration of each family: what becomes of the correction and of y, and the size of the correction; and
 // the verdict on it: converged, a further derivative, a retry with a new Jacobian, no convergence.
-// The four loops count a state's index: each reads some parts of the one work slice and writes others, to be split else.
+// The four loops count a state's index: each reads some parts of the one work slice and writes two others, so a form
+// without an index would have to split the slice into five first.
 #![tactic(auto)]
 
 ghost use Rattle.std.specs.Prelude.{◌≡◌, true, ℕ, ◌≤◌, ◌<◌, length, get_or, replicate, is_ok};

@@ -65,7 +65,7 @@ pub fn raimsklo_work_length(n: usize) -> usize
     if n > common::MAX_STATES {
         0
     } else {
-        n * n + common::MATRIX * n
+        common::work_length(n)
     }
 }
 
@@ -77,7 +77,7 @@ pub fn raimsklo_question_length(n: usize) -> usize
     if n > common::MAX_STATES {
         0
     } else {
-        common::QUESTION * n + common::HEADER
+        common::question_length(n)
     }
 }
 

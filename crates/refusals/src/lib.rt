@@ -88,9 +88,7 @@ pub fn are_lent(n: usize, work: usize, pivots: usize, question: usize) -> bool
     requires { n ≤ max_states }
     ensures { result ≡ are_lent n work pivots question }
 {
-    work == n * n + common::MATRIX * n
-        && pivots == n
-        && question == common::QUESTION * n + common::HEADER
+    work == common::work_length(n) && pivots == n && question == common::question_length(n)
 }
 
 impl Lengths {

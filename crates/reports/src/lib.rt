@@ -74,7 +74,7 @@ pub fn first_derivative(g: &Problem, c: Common, f: &[f64], work: &mut [f64]) -> 
         ≡ first_derivative_of (given_by g.now) (state c work.old p) f.now }
 {
     let n = g.settings.n;
-    between_steps::take_first(n, f, work);
+    between_steps::take_first(f, work);
     let w = common::EWT * n;
     let we = common::SAVF * n;
     vectors::ewset(g.rtol, g.atol, work, n, w);
@@ -113,7 +113,7 @@ pub fn after_first_report(
         Answer::Continue => questions::go_on(s, d, work),
         Answer::Interrupt => questions::finish(d, Status::Interrupted),
         Answer::Modified => {
-            between_steps::take_state(s.n, y, work);
+            between_steps::take_state(y, work);
             questions::ask(d, Phase::FirstModified)
         }
     }
@@ -149,7 +149,7 @@ pub fn after_report(
     ensures { (p : List ℕ) → run_state result work.new p
         ≡ after_report_of s (state c work.old p) answer y.now time }
 {
-    between_steps::take_state(s.n, y, work);
+    between_steps::take_state(y, work);
     let d = Common { tn: time, ..c };
     match answer {
         Answer::Continue => questions::go_on(s, d, work),

@@ -4,7 +4,7 @@ ghost use Rattle.std.specs.Prelude.{◌≡◌};
 ghost use Rattle.session.specs.Fields.{counts_of, floats_of, settings_of, floats_alone_of, common_of, session_of};
 ghost use Rattle.session.specs.Fields.{lowest, highest};
 
-use crate::states::{family, family_number, phase};
+use crate::states::{family, phase};
 use common::{Common, MethodFamily, Settings};
 use questions::Session;
 
@@ -118,7 +118,7 @@ pub fn counts(x: Session) -> [usize; common::COUNT_WORDS]
         usize::from(s.given),
         s.nrtol,
         s.natol,
-        family_number(c.meth),
+        c.meth as usize,
         c.nq,
         c.lmax,
         c.nqnyh,

@@ -15,7 +15,7 @@ mod fields;
 mod ranges;
 mod states;
 
-use questions::Session;
+use questions::{Phase, Session};
 
 // The record's counts, flags and states among them, written to the first words.
 pub fn encode_counts(x: Session, bytes: &mut [u8])
@@ -99,7 +99,7 @@ pub fn is_finished(bytes: &[u8]) -> bool
     requires { session_length ≤ length bytes.now }
     ensures { result ≡ finished_in bytes.now }
 {
-    words::number::<usize>(bytes, 0) == 10
+    words::number::<usize>(bytes, 0) == Phase::Finished as usize
 }
 
 // Whether every value of a session that is not finished is in its range, and every lent pivot below n; u and x as they

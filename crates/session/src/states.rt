@@ -1,19 +1,10 @@
-// The numbers that stand for a family and a phase; a phase's is its place in the enum. They are functions, since From
-// and TryFrom stand where the types do. An unknown number, which 13 refuses, is read as the last, so that none fails.
+// The family and the phase of a stored number. An unknown number, which 13 refuses, is read as the last: a `TryFrom`
+// would have an error that no caller wants.
 ghost use Rattle.std.specs.Prelude.{◌≡◌};
-ghost use Rattle.session.specs.States.{family_number, family_of, phase_of};
+ghost use Rattle.session.specs.States.{family_of, phase_of};
 
 use common::MethodFamily;
 use questions::Phase;
-
-pub fn family_number(meth: MethodFamily) -> usize
-    ensures { result ≡ family_number meth }
-{
-    match meth {
-        MethodFamily::Adams => 1,
-        MethodFamily::Bdf => 2,
-    }
-}
 
 #[tactic(auto, unfolding(crate::specs::States::family_of))]
 pub fn family(w: usize) -> MethodFamily
