@@ -99,6 +99,7 @@ fn read_header(cont: &[f64]) -> Option<Sizes>
 }
 
 // One turn of Horner's rule: a column plus s times what stands.
+#[tactic(auto, using(loops::proofs::For::turns), unfolding(crate::specs::Evaluate::horner_of))]
 fn horner(yi: &mut [f64], column: &[f64], s: f64)
     requires { length yi.old ≤ length column.now }
     ensures { yi.new ≡ horner_of column.now s yi.old }
