@@ -1,4 +1,4 @@
--- `probe_correct_columns` meets its contract: a record that is taken is in the ranges of a step. Assumes nothing.
+-- A record that is taken is in the ranges of a step. Assumes nothing.
 use Rattle.probe.proofs.Usable.{step-in-range}
 use Rattle.probe.proofs.steps.probe_correct_columns.Goals as goal
 

@@ -1,4 +1,4 @@
--- `probe_stoda_adjust_step_size` meets its contract: a record that is taken is in the ranges of a step. Assumes nothing.
+-- A record that is taken is in the ranges of a step. Assumes nothing.
 use Rattle.probe.proofs.Usable.{step-in-range}
 use Rattle.probe.proofs.steps.probe_stoda_adjust_step_size.Goals as goal
 
