@@ -7,8 +7,7 @@ ghost use Rattle.common.specs.State.{Moved};
 ghost use Rattle.common.specs.Ranges.{StepInRange};
 ghost use Rattle.acceptance.specs.Size.{size_of, column_size_of, within_stability_of};
 ghost use Rattle.acceptance.specs.Family.{bdf_proposal_of, to_bdf_of, adams_proposal_of, to_adams_of, change_of};
-ghost use Rattle.acceptance.specs.Family.{other_of};
-ghost use Rattle.acceptance.specs.Family.{changed_of};
+ghost use Rattle.acceptance.specs.Family.{other_of, changed_of};
 
 use common::{Common, MethodFamily, Settings};
 

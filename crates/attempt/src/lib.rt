@@ -1,5 +1,6 @@
 // A step's attempts that are not accepted, as in `stoda`: no convergence, the error test, its failure, and what
 // follows the derivative of the third to ninth failure.
+// Settings, record and work stay parameters, with a clause on each one's range: the head of crate history says why.
 #![tactic(auto)]
 
 ghost use Rattle.std.specs.Prelude.{◌≡◌, ◌^◌, ◌≤◌, ◌<◌, length};

@@ -1,5 +1,6 @@
 // What the run does between two steps, shared by the machine and the step rules: what a host may say and how a run
 // may end, the way to a step's first prediction, the first step's size, a state that the host gives.
+// Settings, record and work stay parameters, with a clause on each one's range: the head of crate history says why.
 #![tactic(auto)]
 
 ghost use Rattle.std.specs.Prelude.{◌≡◌, ◌≤◌, length};

@@ -1,5 +1,6 @@
-// What a start fixes: the settings, and the tolerance lists, which stand in the session's bytes and are lent to a reply.
-// Each list has 1 number for all states or one for each; proofs/Lists.antt has the two ways out of the ghost fields.
+// What a start fixes: the settings, and the tolerance lists, which stand in the session's bytes and are lent to each
+// reply. Each list has 1 number for all states or one for each; proofs/Lists.antt has the two ways out of the ghost
+// fields.
 ghost use Rattle.std.specs.Prelude.{◌-◌};
 ghost use Rattle.vectors.specs.Tolerance.{List1OrN};
 

@@ -2,6 +2,7 @@
 // the verdict on it: converged, a further derivative, a retry with a new Jacobian, no convergence.
 // The four loops count a state's index: each reads some parts of the one work slice and writes two others, so a form
 // without an index would have to split the slice into five first.
+// Settings, record and work stay parameters, with a clause on each one's range: the head of crate history says why.
 #![tactic(auto)]
 
 ghost use Rattle.std.specs.Prelude.{◌≡◌, true, ℕ, ◌≤◌, ◌<◌, length, get_or, replicate, is_ok};

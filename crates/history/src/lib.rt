@@ -3,6 +3,7 @@
 // work and n stay two: n is the settings' in most callers, these ask less than the whole layout, and of a struct with
 // the `&mut` no contract is an equation for what work becomes: it is a relation that keeps the reference's name too.
 // Settings and Common stay two values: a rule makes the record anew, so a struct of both would be taken apart in each.
+// A bound on one count, order or index stays a clause: a type for it would be unwrapped wherever it is reckoned with.
 // sweep, add_scaled, copy_part, set_slope count an index: they read one part of a slice and write another part of it.
 // passes and correct_columns hand on the number of the pass or column that they are at.
 #![tactic(auto)]

@@ -1,4 +1,5 @@
 // The snapshot of a step and its dense output: snapshot_step, and interpolate with its header and evaluation.
+// Settings, record and work stay parameters, with a clause on each one's range: the head of crate history says why.
 #![tactic(auto)]
 
 ghost use Rattle.std.specs.Prelude.{◌≡◌, ◌+◌, ◌*◌, ◌≤◌, ◌<◌, length};
@@ -98,7 +99,8 @@ fn read_header(cont: &[f64]) -> Option<Sizes>
     })
 }
 
-// One turn of Horner's rule: a column plus s times what stands.
+// One turn of Horner's rule: a column plus s times what stands. By index: of what
+// `iter_mut().zip(column)` leaves a proof knows the length alone.
 #[tactic(auto, using(loops::proofs::For::turns), unfolding(crate::specs::Evaluate::horner_of))]
 fn horner(yi: &mut [f64], column: &[f64], s: f64)
     requires { length yi.old ≤ length column.now }

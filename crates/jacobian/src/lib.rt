@@ -1,6 +1,7 @@
 // The Jacobian of the corrector, `prja` in its parts: the matrix by differences or from the host, its norm and factors.
 // difference_column counts an index, since it reads parts of the work that it writes another of, and add_identity one,
 // since the diagonal's entries stand n + 1 apart: a `step_by` asks for a measure.
+// Settings, record and work stay parameters, with a clause on each one's range: the head of crate history says why.
 #![tactic(auto)]
 
 ghost use Rattle.std.specs.Prelude.{◌≡◌, ◌+◌, ◌*◌, ◌^◌, ◌≤◌, ◌<◌, length, is_ok};
@@ -95,7 +96,8 @@ pub fn store_column(s: Settings, c: Common, work: &mut [f64], j: usize)
     work[common::Y_FD * n + j] = work[common::Y * n + j];
 }
 
-// The host's Jacobian, column by column, scaled into the matrix.
+// The host's Jacobian, column by column, scaled into the matrix. By index: of what
+// `iter_mut().zip(jac)` leaves a proof knows the length alone.
 #[tactic(auto, using(loops::proofs::For::turns), unfolding(crate::specs::Jacobian::scaled_of))]
 pub fn store_jacobian(c: Common, a: &mut [f64], jac: &[f64])
     requires { length jac.now ≤ length a.old }

@@ -1,4 +1,5 @@
 // The replies in a pass, and how it ends: the Jacobian, the iterations, the error test, acceptance, the report.
+// Settings, record and work stay parameters, with a clause on each one's range: the head of crate history says why.
 #![tactic(auto)]
 
 ghost use Rattle.std.specs.Prelude.{List, ◌≡◌, ℕ, ◌*◌, ◌^◌, ◌≤◌, ◌<◌, length};

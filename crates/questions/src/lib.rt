@@ -1,4 +1,5 @@
 // What a run asks, what it then waits for and keeps until the reply; and the way from one step to the next.
+// Settings, record and work stay parameters, with a clause on each one's range: the head of crate history says why.
 #![tactic(auto)]
 
 ghost use Rattle.std.specs.Prelude.{List, ◌≡◌, ℕ, ◌^◌, ◌≤◌, ◌<◌, length};

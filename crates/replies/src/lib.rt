@@ -1,4 +1,5 @@
 // A reply: what it is refused for, and what an accepted one leaves. Nothing is written before the last refusal is past.
+// Settings, record and work stay parameters, with a clause on each one's range: the head of crate history says why.
 #![tactic(auto)]
 
 ghost use Rattle.std.specs.Prelude.{◌≡◌, Bool, true, ℕ, ◌+◌, ◌*◌, ◌≤◌, ◌<◌, length, IfOk};
@@ -17,7 +18,7 @@ use common::{Common, Settings};
 use questions::{Phase, Question, Session, Turn};
 use refusals::Refusal;
 
-// 1 derivative, 2 Jacobian, 3 continue, 4 interrupt, 5 modified.
+// 1 derivative, 2 Jacobian, 3 continue, 4 interrupt, 5 modified. No `TryFrom`: its error would say nothing.
 #[tactic(auto, unfolding(crate::specs::Replies::kind_of))]
 fn known(kind: usize) -> Option<Kind>
     ensures { result ≡ kind_in kind }

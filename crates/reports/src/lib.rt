@@ -1,4 +1,5 @@
 // The start and the reports: the first step, and what the host's answers and a state that it has modified lead to.
+// Settings, record and work stay parameters, with a clause on each one's range: the head of crate history says why.
 #![tactic(auto)]
 
 ghost use Rattle.std.specs.Prelude.{List, ◌≡◌, ℕ, ◌≤◌, length};

@@ -1,7 +1,8 @@
 // A session's bytes: its record and its tolerances written and read, and the ranges of 13. docs/SESSION.md has the
 // layout; fields.rt, which names every field, is made by tools/record.py.
 // What a reply needs of a stored session stands here in the order in which it is tested.
-// The bytes stay a slice with a clause on its length: an array, or a struct of it, would ask more of callers.
+// The bytes stay a slice with a clause on its length: an array, or a struct of it, would ask more of callers. The
+// counts, the record and the bytes of one session are three parameters: each is read once and used by itself.
 #![tactic(auto)]
 
 ghost use Rattle.std.specs.Prelude.{◌≡◌, Bool, ◌≤◌, length};

@@ -1,7 +1,7 @@
 // Norms and weights: vmnorm, fnorm_dense, ewset, invert_weights, initial_step_size.
 // Loops by index: `ewset` and `ewset_scalar_like` read one part of the slice that they write another of, `largest_rtol`
 // goes by a list that may be 1 long, `row_sum` along a row, which is no slice, and the norms go four entries or rows at
-// a time (`Four`).
+// a time (`Four`). The two tolerance lists stay two parameters here: crate common's `Problem` is above.
 #![tactic(auto)]
 
 ghost use Rattle.std.specs.Prelude.{◌≡◌, false, ◌+◌, ◌-◌, ◌*◌, ◌≤◌, ◌<◌, length};

@@ -1,5 +1,6 @@
 // Words of eight bytes, little-endian, in a slice of bytes: one by one at any byte, and rows of counts and of floats.
-// Word k of a slice stands at byte 8·k; a row elsewhere is a row of a part of the slice.
+// Word k of a slice stands at byte 8·k; a row elsewhere is a row of a part of the slice. A place stands beside the
+// bytes, since a part cut out for each word would be cut anew at each call.
 #![tactic(auto)]
 
 ghost use Rattle.std.specs.Prelude.{◌≡◌, ℕ, ◌+◌, ◌*◌, ◌≤◌, length, get_or, map};
