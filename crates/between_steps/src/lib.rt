@@ -134,7 +134,8 @@ pub fn first_size(s: Settings, c: Common, h: f64) -> f64
 // The derivative at the start in savf, and y in column 0.
 pub fn take_first(f: &[f64], work: &mut [f64])
     requires { matrix_at (length f.now) ≤ length work.old }
-    ensures { work.new ≡ copy_of (length f.now) 0 (y_at (length f.now)) (with_derivative (length f.now) f.now work.old) }
+    ensures { work.new
+        ≡ copy_of (length f.now) 0 (y_at (length f.now)) (with_derivative (length f.now) f.now work.old) }
 {
     let n = f.len();
     history::store(work, common::SAVF * n, f);
