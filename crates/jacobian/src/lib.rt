@@ -73,6 +73,7 @@ pub fn perturb(s: Settings, c: Common, work: &mut [f64], j: usize)
 }
 
 // Column j of the matrix from the derivative in ftem at the moved state.
+#[tactic(auto, using(loops::proofs::For::turns), unfolding(crate::specs::Jacobian::difference_of))]
 fn difference_column(work: &mut [f64], n: usize, j: usize, fac: f64)
     requires { (j * n + n ≤ n * n) × (work_length n ≤ length work.old) }
     ensures { work.new ≡ difference_of n j fac work.old }
@@ -110,6 +111,7 @@ pub fn store_jacobian(c: Common, a: &mut [f64], jac: &[f64])
 }
 
 // The identity added to a matrix.
+#[tactic(auto, using(loops::proofs::For::turns), unfolding(crate::specs::Jacobian::identity_of))]
 fn add_identity(a: &mut [f64], n: usize)
     requires { n * n ≤ length a.old }
     ensures { a.new ≡ identity_of n a.old }
