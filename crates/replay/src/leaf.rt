@@ -1,13 +1,13 @@
 // A stored call of a leaf, made again: one of the functions of probe on the lists a, b and m that are
 // lent to it, and whether it answers and leaves what the reference did.
-ghost use Rattle.std.specs.Prelude.{◌≡◌, ℕ, ◌+◌, ◌*◌, ◌≤◌, length, get_or};
-ghost use Rattle.std.specs.Float.Ieee as Ieee;
-ghost use Rattle.std.specs.Float.{binary64};
+ghost use Rattle.std.specs.Prelude.{◌≡◌, ◌+◌, ◌*◌, ◌≤◌, length, get_or};
 ghost use Rattle.replay.specs.Leaf.{LeafAfter, leaf_norms, leaf_first_step, leaf_lists, leaf_records, leaf_of};
 ghost use Rattle.replay.specs.Leaf.{leaf_weights, leaf_snapshot, leaf_list, are_left};
 ghost use Rattle.replay.specs.Leaf.{called_of, is_left, is_again, call_of, length_of, is_same, calls_differ};
 ghost use Rattle.probe.specs.Leaves.{WorkLeft};
 ghost use Rattle.probe.specs.Left.{Columns};
+
+use words::Word;
 
 // The kinds, as oracle/ numbers them in the stored table: up to 2 on lists that are read, up to 9 on one that is
 // written, and the others on a record. Any other below 3 is initial_step_size, below 10 retract_columns, and from there
@@ -204,51 +204,10 @@ fn length_of(heads: &[u64], k: usize, limit: usize) -> usize
     (word(heads, k) as usize).min(limit)
 }
 
-// What stands in a list: a float by its pattern, or a count.
-trait Stored: Copy {
-    ghost of_word: { ℕ → Self };
-
-    ghost word_of: { Self → ℕ };
-
-    fn from_word(word: u64) -> Self
-        ensures { result ≡ of_word word };
-
-    fn to_word(self) -> u64
-        ensures { result ≡ word_of self };
-}
-
-impl Stored for f64 {
-    ghost of_word = { Ieee.of_bits binary64 };
-
-    ghost word_of = { Ieee.to_bits binary64 };
-
-    fn from_word(word: u64) -> f64 {
-        numbers::from_bits(word)
-    }
-
-    fn to_word(self) -> u64 {
-        numbers::to_bits(self)
-    }
-}
-
-impl Stored for usize {
-    ghost of_word = { λ word. word };
-
-    ghost word_of = { λ count. count };
-
-    fn from_word(word: u64) -> usize {
-        word as usize
-    }
-
-    fn to_word(self) -> u64 {
-        self as u64
-    }
-}
-
 // The list becomes what is stored from `at` on.
-fn get<T: Stored>(stored: &[u64], at: usize, list: &mut [T])
+fn get<T: Word>(stored: &[u64], at: usize, list: &mut [T])
     requires { at + length list.old ≤ 1000000 }
-    ensures { list.new ≡ leaf_list T.of_word stored.now at list.old }
+    ensures { list.new ≡ leaf_list T.read stored.now at list.old }
 {
     for (i, x) in list.iter_mut().enumerate() {
         *x = T::from_word(word(stored, at + i));
@@ -257,9 +216,9 @@ fn get<T: Stored>(stored: &[u64], at: usize, list: &mut [T])
 
 // Whether the list is what is stored from `at` on; floats by their patterns.
 #[tactic(auto, unfolding(crate::specs::Leaf::are_left))]
-fn are_left<T: Stored>(list: &[T], stored: &[u64], at: usize) -> bool
+fn are_left<T: Word>(list: &[T], stored: &[u64], at: usize) -> bool
     requires { at + length list.now ≤ 1000000 }
-    ensures { result ≡ are_left T.word_of list.now stored.now at }
+    ensures { result ≡ are_left T.written list.now stored.now at }
 {
     list.iter()
         .enumerate()
