@@ -73,9 +73,6 @@ module _ (fs : List Float) (cs : List ℕ) (work : ℕ) (r : Bool) (e : r ≡ is
     pub work-long : matrix_at s.n ≤ work
     work-long = rw is facts.long
 
-    pub within-limits : (s.mxordn ≤ 1000000) × (s.mxords ≤ 1000000)
-    within-limits = rw is facts.limits
-
     module _ (c : Common) (like : c ≡ lent_common fs cs) where
       pub step-in-range : StepInRange s c
       step-in-range = rw (is, like) facts.range
@@ -86,4 +83,21 @@ module _ (fs : List Float) (cs : List ℕ) (work : ℕ) (r : Bool) (e : r ≡ is
           (t.n.0, t.n.1, t.table, t.order.0, t.order.1)
 
 -- what a record that is taken is, for a function's attribute
-pub ruleset taken = (floats-lent, counts-lent, work-long, within-limits, within-range)
+pub ruleset taken = (floats-lent, counts-lent, work-long, within-range)
+
+-- the same where the record is given by the numbers that are lent, for a function that is passed to `on_record`
+module _ (fs : List Float) (cs : List ℕ) (long : ℕ) (h : is_usable fs cs long ≡ true) where
+  pub lent-range : StepInRange (lent_settings fs cs) (lent_common fs cs)
+  lent-range = (usable fs cs long h).range
+
+  pub lent-long : (v w : List Float) → long ≡ length v → w ≡ v → matrix_at (lent_settings fs cs).n ≤ length w
+  lent-long v w e like = rw (like, sym e) (usable fs cs long h).long
+
+  pub lent-order : ((lent_settings fs cs).n ≤ max_states) × ((lent_common fs cs).table ≤ 2)
+      × (1 ≤ (lent_common fs cs).nq) × ((lent_common fs cs).nq ≤ 12)
+  lent-order = (lent-range.n.1, lent-range.table, lent-range.order.0, lent-range.order.1)
+
+  pub lent-limits : ((lent_settings fs cs).mxordn ≤ 1000000) × ((lent_settings fs cs).mxords ≤ 1000000)
+  lent-limits = (usable fs cs long h).limits
+
+pub ruleset lent = (lent-range, lent-long, lent-order, lent-limits)

@@ -154,7 +154,7 @@ fn is_matrix(n: usize, matrix: usize, vector: usize) -> bool
     n <= common::MAX_STATES && n * n <= matrix && n <= vector
 }
 
-// Whether a tolerance list of this length serves n states.
+// Whether a tolerance list of this length serves n states. (refusals has a test of the length, but lies above probe.)
 #[tactic(auto, unfolding(crate::specs::Leaves::is_tolerance_list))]
 fn is_list(n: usize, len: usize) -> bool
     ensures { result ≡ is_tolerance_list n len }

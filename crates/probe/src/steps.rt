@@ -1,7 +1,8 @@
 // For comparisons with the reference alone: the functions on the history, the record and the snapshot.
 // Nothing is asked of the host: where a callee's requires is not met, the number 2 is answered, and what was lent stays
 // as it was. A record is lent as its 11 floats and 14 counts, in the order of specs/Lent.antt. All this is C's form.
-ghost use Rattle.std.specs.Prelude.{◌≡◌, [], length};
+ghost use Rattle.std.specs.Prelude.{◌≡◌, true, false, [], length};
+ghost use Rattle.common.specs.declared.Common.{Common};
 ghost use Rattle.interpolation.specs.Evaluate.{Interpolated, interpolate_of};
 ghost use Rattle.probe.specs.Lent.{lent_family, lent_settings, lent_common, written_floats, written_counts};
 ghost use Rattle.probe.specs.Lent.{are_columns, in_range, are_limits, is_usable};
@@ -209,7 +210,38 @@ pub fn probe_correct_columns(floats: &[f64], counts: &[usize], work: &mut [f64])
     }
 }
 
-#[tactic(auto, using(crate::proofs::Usable::taken), unfolding(crate::specs::Left::adjust_left))]
+// One of the step's functions on the lent record, which is then written back. `long` is the length of work that the
+// test is told of: the two functions that need none are lent none.
+#[tactic(auto, using(crate::proofs::Usable::taken))]
+fn on_record<F: FnOnce(Settings, Common, &mut [f64]) -> Common>(
+    floats: &mut [f64],
+    counts: &mut [usize],
+    long: usize,
+    work: &mut [f64],
+    f: F,
+) -> usize
+    requires { is_usable floats.old counts.old long ≡ true → (p : _) → p.now ≡ work.old
+        → F.pre f (lent_settings floats.old counts.old) (lent_common floats.old counts.old) p }
+    ensures taken { is_usable floats.old counts.old long ≡ true → (d : Common) × (p : _) × (q : _) × (p.now ≡ work.old)
+        × F.post f (lent_settings floats.old counts.old) (lent_common floats.old counts.old) p d q
+        × (q.now ≡ work.new) × (result ≡ 0) × (floats.new ≡ written_floats d floats.old)
+        × (counts.new ≡ written_counts d counts.old) }
+    ensures refused { is_usable floats.old counts.old long ≡ false → (result ≡ 2) × (floats.new ≡ floats.old)
+        × (counts.new ≡ counts.old) × (work.new ≡ work.old) }
+{
+    if is_usable(floats, counts, long) {
+        let s = settings(floats, counts);
+        let c = common(floats, counts);
+        let d = f(s, c, work);
+        put_floats(d, floats);
+        put_counts(d, counts);
+        0
+    } else {
+        2
+    }
+}
+
+#[tactic(auto, using(crate::proofs::Usable::lent), unfolding(crate::specs::Left::adjust_left))]
 pub fn probe_stoda_adjust_step_size(
     floats: &mut [f64],
     counts: &mut [usize],
@@ -220,19 +252,17 @@ pub fn probe_stoda_adjust_step_size(
         (record { number = result; floats = floats.new; counts = counts.new; work = work.new })
         (adjust_left floats.old counts.old rh work.old) }
 {
-    if is_usable(floats, counts, work.len()) {
-        let s = settings(floats, counts);
-        let c = common(floats, counts);
-        let d = history::stoda_adjust_step_size(s, c, rh, work);
-        put_floats(d, floats);
-        put_counts(d, counts);
-        0
-    } else {
-        2
-    }
+    let long = work.len();
+    on_record(
+        floats,
+        counts,
+        long,
+        work,
+        |s, c, work| history::stoda_adjust_step_size(s, c, rh, work),
+    )
 }
 
-#[tactic(auto, using(crate::proofs::Usable::taken), unfolding(crate::specs::Left::predicted_left))]
+#[tactic(auto, using(crate::proofs::Usable::lent), unfolding(crate::specs::Left::predicted_left))]
 pub fn probe_stoda_get_predicted_values(
     floats: &mut [f64],
     counts: &mut [usize],
@@ -242,52 +272,44 @@ pub fn probe_stoda_get_predicted_values(
         (record { number = result; floats = floats.new; counts = counts.new; work = work.new })
         (predicted_left floats.old counts.old work.old) }
 {
-    if is_usable(floats, counts, work.len()) {
-        let s = settings(floats, counts);
-        let c = common(floats, counts);
-        let d = history::stoda_get_predicted_values(s, c, work);
-        put_floats(d, floats);
-        put_counts(d, counts);
-        0
-    } else {
-        2
-    }
+    let long = work.len();
+    on_record(
+        floats,
+        counts,
+        long,
+        work,
+        history::stoda_get_predicted_values,
+    )
 }
 
-#[tactic(auto, using(crate::proofs::Usable::taken), unfolding(crate::specs::Left::init_left))]
+#[tactic(auto, using(crate::proofs::Usable::lent), unfolding(crate::specs::Left::init_left))]
 pub fn probe_stoda_first_call_init(floats: &mut [f64], counts: &mut [usize]) -> usize
     ensures { ◌≡◌ {A = RecordLeft}
         (record { number = result; floats = floats.new; counts = counts.new; work = [] })
         (init_left floats.old counts.old) }
 {
-    if is_usable(floats, counts, ENOUGH_WORK) {
-        let s = settings(floats, counts);
-        let c = common(floats, counts);
-        let d = c.stoda_first_call_init(s);
-        put_floats(d, floats);
-        put_counts(d, counts);
-        0
-    } else {
-        2
-    }
+    on_record(
+        floats,
+        counts,
+        ENOUGH_WORK,
+        &mut [],
+        |s, c, _| c.stoda_first_call_init(s),
+    )
 }
 
-#[tactic(auto, using(crate::proofs::Usable::taken), unfolding(crate::specs::Left::reset_left))]
+#[tactic(auto, using(crate::proofs::Usable::lent), unfolding(crate::specs::Left::reset_left))]
 pub fn probe_stoda_reset(floats: &mut [f64], counts: &mut [usize]) -> usize
     ensures { ◌≡◌ {A = RecordLeft}
         (record { number = result; floats = floats.new; counts = counts.new; work = [] })
         (reset_left floats.old counts.old) }
 {
-    if is_usable(floats, counts, ENOUGH_WORK) {
-        let s = settings(floats, counts);
-        let c = common(floats, counts);
-        let d = c.stoda_reset(s);
-        put_floats(d, floats);
-        put_counts(d, counts);
-        0
-    } else {
-        2
-    }
+    on_record(
+        floats,
+        counts,
+        ENOUGH_WORK,
+        &mut [],
+        |s, c, _| c.stoda_reset(s),
+    )
 }
 
 // The snapshot stands in the question from n on.
