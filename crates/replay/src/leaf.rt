@@ -40,6 +40,8 @@ const STODA_RESET: u64 = 14;
 
 const SNAPSHOT_STEP: u64 = 15;
 
+// first_step, weights and snapshot answer 2 where a list is too short: the stored table's number, so no Result.
+
 // The lists behind the first stand one behind the other in b: f0, the weights, rtol and atol.
 #[tactic(auto, unfolding(crate::specs::Leaf::leaf_first_step))]
 fn first_step(t: f64, tout: f64, y: &[f64], b: &[f64], n: usize, nrtol: usize) -> u64
@@ -157,7 +159,7 @@ fn leaf(h: Call, a: &mut [f64], b: &mut [f64], m: &mut [usize]) -> u64
     }
 }
 
-// Number i, and 0 behind the list's end; replay_runs has its own, since two programs share no library.
+// Number i, and 0 behind the list's end; replay_runs has its own: a library for one line of std would be no plainer.
 fn word(list: &[u64], i: usize) -> u64
     ensures { result ≡ get_or list.now i 0 }
 {

@@ -91,7 +91,7 @@ fn square(n: usize) -> usize
     n * n
 }
 
-// How many numbers a reply has: n, of a Jacobian n·n.
+// How many numbers a reply has: n, of a Jacobian n·n. The kind is the stored run's number, and it may be any.
 fn reply_size(kind: usize, n: usize) -> usize
     requires { n ≤ max_states }
     ensures { result ≤ most_numbers }

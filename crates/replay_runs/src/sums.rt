@@ -14,7 +14,8 @@ struct Sum {
     options: Options,
 }
 
-// What an answer asks of the host. No sum supplies a Jacobian. (rig has its own: two programs share no library.)
+// What an answer asks of the host. No sum supplies a Jacobian. (rig has its own, with two more cases: a library for an
+// enum of a few lines would be no plainer.)
 #[derive(Clone, Copy)]
 enum Wanted {
     Derivative,
@@ -90,7 +91,7 @@ fn outcome_of(sum: &Sum) -> Outcome {
     let mut lent = Lent::new();
     let mut end = lent.start(sum);
     let mut pose = 0.0;
-    // One of these sums takes 100000 steps.
+    // One of these sums takes 100000 steps. `i` counts the replies and indexes nothing.
     for i in 0..1000000 {
         let Some(wanted) = Wanted::of(end.number) else {
             break;
@@ -114,7 +115,7 @@ struct Pattern(f64);
 
 impl fmt::Display for Pattern {
     fn fmt<W: fmt::Write>(&self, f: &mut fmt::Formatter<W>) -> fmt::Result {
-        if self.0 != self.0 {
+        if self.0.is_nan() {
             return f.write_str("NaN");
         }
         match numbers::to_bits(self.0) {
