@@ -18,8 +18,9 @@ LINES = {f: open(f).read().split("\n") for f in FILES}
 SPELLINGS = [
     (1, "own enums", r"^\s*(pub )?enum \w+"),
     (1, "flags in a struct or beside a value", r"^\s+(pub )?\w+: bool,"),
-    (1, "answers that are numbers", r"^\s*(return )?(0|1|2|1[0-9]|11[0-5]);?$|=> (0|1|2|1[0-9]|11[0-5]),|\w = [0-9]+;  *// kind"),
-    (1, "kinds and refusals told by number", r"\b(number|kind|asked|table|w)(\.number)? [=!]= [0-9]+|plain\([0-9]+|^\s+number: [0-9]+,"),
+    (1, "answers that are numbers", r"^\s*(return )?(0|1|2|1[0-9]|11[0-5]);?$|=> (0|1|2|1[0-9]|11[0-5]),"),
+    (1, "kinds and refusals told by number",
+     r"\b(number|kind|asked|table|w)(\.number)? [=!]= [0-9]+|plain\([0-9]+|^\s+number: [0-9]+,"),
     (3, "loops over a range", r"^\s*for \w+ in [^{]*\.\."),
     (3, "loops with a condition", r"^\s*(while|loop)\b"),
     (4, "answers true or false by hand", r"^\s*(return )?(true|false);?$|=> (true|false),"),
