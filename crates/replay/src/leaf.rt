@@ -1,5 +1,6 @@
 // A stored call of a leaf, made again: one of the functions of probe on the lists a, b and m that are
-// lent to it, and whether it answers and leaves what the reference did.
+// lent to it, and whether it answers and leaves what the reference did. A place stands beside the stored words, as in
+// replay_runs.
 ghost use Rattle.std.specs.Prelude.{◌≡◌, ◌+◌, ◌*◌, ◌≤◌, length, get_or};
 ghost use Rattle.replay.specs.Leaf.{LeafAfter, leaf_norms, leaf_first_step, leaf_lists, leaf_records, leaf_of};
 ghost use Rattle.replay.specs.Leaf.{leaf_weights, leaf_snapshot, leaf_list, are_left};

@@ -1,4 +1,5 @@
-// The stored words: counts, and floats by their patterns. Behind the end every word is 0.
+// The stored words: counts, and floats by their patterns. Behind the end every word is 0. A place stands beside the
+// words in every function: a part cut out for each number would be cut anew at each call.
 ghost use Rattle.std.specs.Prelude.{◌≤◌, ◌≡◌, length};
 ghost use Rattle.replay_runs.specs.Words.{word_of, limited_word, float_of, is_stored_count, is_stored_float};
 ghost use Rattle.replay_runs.specs.Words.{are_stored_three, are_stored_floats, most_numbers};
