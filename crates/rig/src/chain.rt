@@ -9,8 +9,6 @@ pub const LINKS: usize = 32;
 // As many states as the library takes at most.
 pub const STATES: usize = common::MAX_STATES;
 
-pub const QUESTION_LENGTH: usize = common::QUESTION * STATES + common::HEADER;
-
 const SPRING: f64 = 80.0;
 
 const DRAG: f64 = 40.0;
@@ -25,8 +23,8 @@ pub fn first_pose() -> [f64; STATES] {
 }
 
 // The angle of the neighbour towards the root.
-fn above(t: f64, y: &[f64; QUESTION_LENGTH], i: usize) -> f64
-    requires { i < 32 }
+fn above(t: f64, y: &[f64], i: usize) -> f64
+    requires { (i < 32) × (max_states ≤ length y.now) }
 {
     if i == 0 {
         1.2 * t / (1.0 + t * t)
@@ -36,14 +34,14 @@ fn above(t: f64, y: &[f64; QUESTION_LENGTH], i: usize) -> f64
 }
 
 // The angle of the other neighbour; the last link has none.
-fn below(y: &[f64; QUESTION_LENGTH], i: usize) -> f64
-    requires { i < 32 }
+fn below(y: &[f64], i: usize) -> f64
+    requires { (i < 32) × (max_states ≤ length y.now) }
 {
     if i == LINKS - 1 { y[i] } else { y[i + 1] }
 }
 
-fn acceleration(t: f64, y: &[f64; QUESTION_LENGTH], i: usize) -> f64
-    requires { i < 32 }
+fn acceleration(t: f64, y: &[f64], i: usize) -> f64
+    requires { (i < 32) × (max_states ≤ length y.now) }
 {
     let a = y[i];
     let pull = SPRING * (above(t, y, i) - a + (below(y, i) - a));
@@ -51,7 +49,9 @@ fn acceleration(t: f64, y: &[f64; QUESTION_LENGTH], i: usize) -> f64
 }
 
 // The angles change by the speeds, the speeds by the accelerations.
-pub fn derivative(t: f64, y: &[f64; QUESTION_LENGTH]) -> [f64; STATES] {
+pub fn derivative(t: f64, y: &[f64]) -> [f64; STATES]
+    requires { max_states ≤ length y.now }
+{
     let mut f = [0.0; STATES];
     f[..LINKS].copy_from_slice(&y[LINKS..STATES]);
     for (i, speed) in f[LINKS..].iter_mut().enumerate() {
@@ -93,7 +93,9 @@ fn link(i: usize, a: f64, j: &mut [f64])
     }
 }
 
-pub fn jacobian(y: &[f64; QUESTION_LENGTH]) -> [f64; STATES * STATES] {
+pub fn jacobian(y: &[f64]) -> [f64; STATES * STATES]
+    requires { max_states ≤ length y.now }
+{
     let mut j = [0.0; STATES * STATES];
     // By number: over `y[..LINKS].iter().enumerate()` the bound of i stays unproved.
     for i in 0..LINKS {

@@ -8,11 +8,13 @@ mod chain;
 mod show;
 mod watch;
 
-use chain::{QUESTION_LENGTH, STATES};
+use chain::STATES;
 use raimsklo::Reply;
 use refusals::Options;
 use std::io;
 use watch::Watch;
+
+const QUESTION_LENGTH: usize = common::QUESTION * STATES + common::HEADER;
 
 // made by tools/record.py: the family's place
 const FAMILY_AT: usize = 8 * 12;

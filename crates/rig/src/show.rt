@@ -1,5 +1,7 @@
 // What the program prints: times and angles in millionths, and a pose bit by bit.
-use crate::chain::STATES;
+ghost use Rattle.std.specs.Prelude.{◌≤◌, length};
+ghost use Rattle.common.specs.Limits.{max_states};
+
 use std::io;
 
 // A number in millionths, without its fraction.
@@ -7,8 +9,10 @@ fn millionths(x: f64) -> i64 {
     std::num::saturating_f64_to_i64(x * 1000000.0)
 }
 
-// The angles of the links 1, 16 and 32 at time t, or the number of the refusal: C's, 0 where nothing was refused.
-pub fn frame(rt: &impl Print, t: f64, refused: usize, y: &[f64; STATES]) -> io::Result<()> {
+// The angles of the links 1, 16 and 32 at time t, or the number of the refusal.
+pub fn frame(rt: &impl Print, t: f64, refused: usize, y: &[f64]) -> io::Result<()>
+    requires { max_states ≤ length y.now }
+{
     let time = millionths(t);
     if refused != 0 {
         println!(rt; "at {time} refused by {refused}")

@@ -1,7 +1,10 @@
 // What was seen of a run: its requests one by one, and each report held to them. A report's count is that of the
 // derivatives asked for since the one before, and within the cap of a step with as many Jacobians as were begun in it;
 // a report that is not so is counted as wrong.
-use crate::chain::{QUESTION_LENGTH, STATES};
+ghost use Rattle.std.specs.Prelude.{◌≤◌, length};
+ghost use Rattle.common.specs.Limits.{max_states};
+
+use crate::chain::STATES;
 use raimsklo::Reply;
 
 // The most derivatives that a step asks for with mxncf 10 and maxcor 3, beside the columns of its Jacobians:
@@ -55,7 +58,9 @@ impl Watch {
     }
 
     // A derivative is asked for at y. It may be for the first column of a Jacobian by differences.
-    pub fn derivative(&mut self, r: &Reply, y: &[f64; QUESTION_LENGTH]) {
+    pub fn derivative(&mut self, r: &Reply, y: &[f64])
+        requires { max_states ≤ length y.now }
+    {
         if self.is_first_column(r, y) {
             self.begin_jacobian();
             self.columns = self.columns.saturating_add(STATES);
@@ -67,7 +72,9 @@ impl Watch {
     }
 
     // The Jacobian is asked for at y.
-    pub fn jacobian(&mut self, y: &[f64; QUESTION_LENGTH]) {
+    pub fn jacobian(&mut self, y: &[f64])
+        requires { max_states ≤ length y.now }
+    {
         self.begin_jacobian();
         self.pose.copy_from_slice(&y[..STATES]);
     }
@@ -95,7 +102,9 @@ impl Watch {
     }
 
     // At the time of the last derivative, and at the pose that it asked for but for the first state.
-    fn is_first_column(&self, r: &Reply, y: &[f64; QUESTION_LENGTH]) -> bool {
+    fn is_first_column(&self, r: &Reply, y: &[f64]) -> bool
+        requires { max_states ≤ length y.now }
+    {
         r.time == self.at && y[0] != self.pose[0] && y[1..STATES] == self.pose[1..]
     }
 
