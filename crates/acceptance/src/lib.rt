@@ -1,5 +1,6 @@
 // An accepted step, as in `stoda`: the columns corrected, the family test or the order choice, and the end of the step.
 // The family test and the change of family are in family.rt, the order choice in order.rt.
+// The record and the error dsm stay two: dsm is of one pass, and no later one reads it.
 // Settings, record and work stay parameters, with a clause on each one's range: the head of crate history says why.
 #![tactic(auto)]
 

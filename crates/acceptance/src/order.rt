@@ -40,8 +40,7 @@ fn raised_size(s: Settings, c: Common, work: &mut [f64]) -> f64
     }
     let n = s.n;
     set_raised(work, n, c.lmax);
-    let dup = history::norm_at(work, n, common::SAVF * n).value
-        / coefficients::tesco(c.table, c.nq, 2);
+    let dup = history::norm_at(work, n, common::SAVF * n).value / c.tesco(2);
     family::size(1.4, 1.4e-6, dup, l + 1)
 }
 
@@ -55,7 +54,7 @@ fn lowered_size(s: Settings, c: Common, work: &[f64]) -> f64
     if c.nq == 1 {
         return 0.0;
     }
-    let ddn = family::column_size(work, s.n, c.nq) / coefficients::tesco(c.table, c.nq, 0);
+    let ddn = family::column_size(work, s.n, c.nq) / c.tesco(0);
     family::size(1.3, 1.3e-6, ddn, c.nq)
 }
 

@@ -100,7 +100,7 @@ pub fn error(s: Settings, c: Common, del: f64, work: &[f64]) -> f64
     } else {
         history::norm_at(work, s.n, common::ACOR * s.n).value
     };
-    size / coefficients::tesco(c.table, c.nq, 1)
+    size / c.tesco(1)
 }
 
 // The factor after the first and the second error failure.

@@ -1,5 +1,7 @@
 // The coefficients of both families, as `cfode` computes them, and the stability limits SM1.
 // One table of 384 numbers: for each family 12 orders of 13 numbers (elco) and 12 of 3 (tesco). Unset ones are 0.
+// A table is a number, 0 none yet, 1 Adams, 2 BDF, since it is a word of a stored session (docs/SESSION.md). Table and
+// order stay two parameters, and their bounds clauses: each caller has them as two fields of a larger record.
 #![tactic(auto)]
 
 ghost use Rattle.std.specs.Prelude.{◌≡◌, ◌+◌, ◌-◌, ◌*◌, ◌≤◌, ◌<◌, cond, eqb, get_or};
@@ -448,7 +450,6 @@ pub fn coefficient(i: usize) -> f64
 
 // The number of an order in the table in force, 0 where there is none yet. Order 1's stands at `base`, that of each
 // further order `SIZE` numbers on.
-// A table is a number, 0 none yet, 1 Adams, 2 BDF, since it is a word of a stored session (docs/SESSION.md).
 fn number<const SIZE: usize>(table: usize, base: usize, order: usize) -> f64
     requires { (table ≤ 2) × (1 ≤ order) × (order ≤ 12) × (SIZE * (order - 1) + base < 192) }
     ensures { result ≡ cond (eqb table 0) zero_f (get_or cfode_of (192 * (table - 1) + SIZE * (order - 1) + base) nan) }
@@ -478,7 +479,8 @@ pub fn tesco(table: usize, order: usize, i: usize) -> f64
     number::<3>(table, 156 + i, order)
 }
 
-// The error constant of a family's method of the given order; 0 before the first setup.
+// The error constant of a family's method of the given order; 0 before the first setup. The family is the number of its
+// table: `MethodFamily` stands in common, above.
 fn error_constant(table: usize, family: usize, order: usize) -> f64
     requires { (1 ≤ family) × (family ≤ 2) × (1 ≤ order) × (order ≤ 12) }
     ensures { result ≡ cond (eqb table 0) zero_f (tesco_of family order 1 ⊗ elco_of family order order) }

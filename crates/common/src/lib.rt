@@ -8,6 +8,7 @@ ghost use Rattle.std.specs.Prelude.{◌≡◌, Bool, ◌+◌, ◌*◌, ◌≤◌
 ghost use Rattle.common.specs.Record.{is_bdf};
 ghost use Rattle.common.specs.Layout.{work_length, question_length};
 ghost use Rattle.common.specs.Limits.{max_states, mxordn_of, mxords_of, msbp_of, mxncf_of, maxord_of};
+ghost use Rattle.coefficients.specs.Table.{tesco_of};
 ghost use Rattle.common.specs.Rules.{first_call_init_of, reset_of, tiny_of, order_in_force_of, el_of};
 ghost use Rattle.common.specs.Initial.{initial_of};
 
@@ -37,6 +38,11 @@ pub const MATRIX: usize = 19;
 pub const QUESTION: usize = 14;
 
 pub const HEADER: usize = 6;
+
+// Work and question of the most states.
+pub const WORK_LENGTH: usize = MAX_STATES * MAX_STATES + MATRIX * MAX_STATES;
+
+pub const QUESTION_LENGTH: usize = QUESTION * MAX_STATES + HEADER;
 
 // How many numbers the work of n states has.
 pub fn work_length(n: usize) -> usize
@@ -222,6 +228,14 @@ impl Common {
         ensures { result ≡ el_of s self j }
     {
         coefficients::elco(self.table, self.order_in_force(s), j)
+    }
+
+    // Error entry i of the order itself.
+    pub fn tesco(self, i: usize) -> f64
+        requires { (self.table ≤ 2) × (1 ≤ self.nq) × (self.nq ≤ 12) × (i ≤ 2) }
+        ensures { result ≡ tesco_of self.table self.nq i }
+    {
+        coefficients::tesco(self.table, self.nq, i)
     }
 
     #[tactic(auto, unfolding(crate::specs::Rules::reset_of))]

@@ -180,7 +180,7 @@ fn dcon(c: Common, del: f64) -> f64
     requires { (c.table ≤ 2) × (1 ≤ c.nq) × (c.nq ≤ 12) }
     ensures { result ≡ dcon_of c del }
 {
-    del * numbers::min(1.5, c.convrate) / (coefficients::tesco(c.table, c.nq, 1) * c.conit)
+    del * numbers::min(1.5, c.convrate) / (c.tesco(1) * c.conit)
 }
 
 // The estimate of the Jacobian's norm from the rate.

@@ -12,27 +12,22 @@ ghost use Rattle.interpolation.specs.Evaluate.{interpolate_of};
 
 use common::{Common, Settings};
 
-// Why a snapshot gives no pose.
+// Why a snapshot gives no pose, each with the number of the refusal.
 #[derive(Clone, Copy, PartialEq, Eq)]
 pub enum Unusable {
     // under 6 numbers, or n or nq is no count within its limit
-    Header,
+    Header = 15,
     // the pose's length is not n
-    Length,
+    Length = 16,
     // the history is shorter than its columns, or h is zero
-    History,
+    History = 17,
 }
 
 impl From<Unusable> for usize {
-    // The number of the refusal.
     fn from(why: Unusable) -> usize
         ensures { result ≡ unusable_number why }
     {
-        match why {
-            Unusable::Header => 15,
-            Unusable::Length => 16,
-            Unusable::History => 17,
-        }
+        why as usize
     }
 }
 

@@ -23,8 +23,13 @@ fn is_asked(phase: Phase, kind: Kind, len: usize, n: usize) -> bool
         Phase::Finished => false,
         Phase::JacobianAsked => kind == Kind::Jacobian && len == n * n,
         Phase::FirstReport | Phase::Report => matches!(kind, Kind::Report(_)) && len == n,
-        // all others wait for a derivative
-        _ => kind == Kind::Derivative && len == n,
+        Phase::FirstDerivative
+        | Phase::FirstModified
+        | Phase::Opened
+        | Phase::DifferenceColumn
+        | Phase::FurtherDerivative
+        | Phase::Restep
+        | Phase::Modified => kind == Kind::Derivative && len == n,
     }
 }
 
@@ -83,6 +88,6 @@ pub fn resume(
             s, c, answer, reply, time, work,
         ),
         (Phase::Modified, _) => reports::modified(s, c, reply, work),
-        _ => unasked(x),
+        (Phase::FirstReport | Phase::Report | Phase::Finished, _) => unasked(x),
     }
 }

@@ -1,4 +1,6 @@
 // The replies in a pass, and how it ends: the Jacobian, the iterations, the error test, acceptance, the report.
+// A reply f, the work and the pivots stay three slices, as the host lends them; n is known at run time alone, so that f
+// is n long is a clause.
 // Settings, record and work stay parameters, with a clause on each one's range: the head of crate history says why.
 #![tactic(auto)]
 
@@ -19,7 +21,6 @@ use between_steps::Status;
 use common::{Common, Problem, Settings};
 use corrector::Pass;
 use questions::{At, Phase, Question, Step, Turn};
-use vectors::NotPositive;
 
 // ---- a pass's end
 
@@ -74,13 +75,7 @@ fn end_step(g: &Problem, c: Common, order: usize, work: &mut [f64]) -> Turn
 {
     match acceptance::close(g, c, order, work) {
         Ok(()) => report(c, g.settings.n, work),
-        Err(NotPositive { index }) => {
-            Turn {
-                question: Question::WeightRefused(index),
-                phase: Phase::Finished,
-                common: c,
-            }
-        }
+        Err(why) => questions::refuse_weight(c, why),
     }
 }
 
@@ -95,6 +90,7 @@ fn accepted(g: &Problem, c: Common, dsm: f64, work: &mut [f64]) -> Turn
     let chosen = acceptance::accept(g.settings, c, dsm, work);
     match chosen.branch {
         Branch::CoefficientGap => questions::finish(chosen.common, Status::CoefficientGap),
+        // every other branch ends the step
         _ => end_step(g, chosen.common, c.nq, work),
     }
 }

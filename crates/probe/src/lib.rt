@@ -1,7 +1,8 @@
 // For comparisons with the reference alone: the functions that a host cannot reach otherwise. crates/probe_c exports
 // them by C's rules. Nothing is asked of the host: where a callee's requires is not met, a NaN or the number 2 is
-// answered, and what was lent stays as it was. Answers are numbers and not enums, since C reads them. The functions on
-// the history and the record are in steps.rt.
+// answered, and what was lent stays as it was. Answers are numbers and not enums, since C reads them. There is one
+// function for each exported name, so elco and tesco, cm1 and cm2, max and min, predict and retract stay two each. The
+// functions on the history and the record are in steps.rt.
 #![tactic(auto)]
 
 ghost use Rattle.std.specs.Prelude.{◌≡◌, ◌≤◌, length};
@@ -297,10 +298,7 @@ pub fn probe_dense_lu_solve(work: &mut [f64], n: usize, a: usize, ipiv: &[usize]
     ensures { ◌≡◌ {A = WorkLeft} (record { number = result; work = work.new })
         (solve_left n a ipiv.now b work.old) }
 {
-    if !is_system(n, a, b, work.len(), ipiv.len()) {
-        return 2;
-    }
-    if !are_pivots(n, ipiv) {
+    if !is_system(n, a, b, work.len(), ipiv.len()) || !are_pivots(n, ipiv) {
         return 2;
     }
     match dense::dense_lu_solve(work, n, a, ipiv, b) {

@@ -327,13 +327,14 @@ pub fn probe_snapshot_step(
         return 2;
     }
     let s = settings(floats, counts);
-    if question.len() < common::QUESTION * s.n + common::HEADER {
+    if question.len() < common::question_length(s.n) {
         return 2;
     }
     interpolation::snapshot_step(s, common(floats, counts), work, question);
     0
 }
 
+// Beside `raimsklo_interpolate`, which is in a crate above: the comparison links this one's library alone.
 pub fn probe_interpolate(xi: f64, yi: &mut [f64], cont: &[f64]) -> usize
     ensures { ◌≡◌ {A = Interpolated} (record { number = result; output = yi.new })
         (interpolate_of xi cont.now yi.old) }

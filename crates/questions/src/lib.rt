@@ -6,11 +6,12 @@ ghost use Rattle.std.specs.Prelude.{List, ◌≡◌, ℕ, ◌^◌, ◌≤◌, �
 ghost use Rattle.common.specs.Layout.{matrix_at};
 ghost use Rattle.common.specs.State.{state};
 ghost use Rattle.common.specs.Ranges.{Inside};
-ghost use Rattle.questions.specs.Turns.{run_state, asked_of, asked_in_step_of, finished_of};
+ghost use Rattle.questions.specs.Turns.{run_state, asked_of, asked_in_step_of, finished_of, weight_refused};
 ghost use Rattle.questions.specs.Begin.{open_pass_of, began_of, go_on_of};
 
 use between_steps::Status;
 use common::{Common, Settings};
+use vectors::NotPositive;
 
 // What the run waits for.
 #[derive(Clone, Copy)]
@@ -130,6 +131,17 @@ pub fn finish(c: Common, status: Status) -> Turn
     };
     Turn {
         question: Question::Finished(end),
+        phase: Phase::Finished,
+        common: c,
+    }
+}
+
+// 12: a weight is at most 0.
+pub fn refuse_weight(c: Common, why: NotPositive) -> Turn
+    ensures { result ≡ weight_refused c why.index }
+{
+    Turn {
+        question: Question::WeightRefused(why.index),
         phase: Phase::Finished,
         common: c,
     }

@@ -235,7 +235,7 @@ fn inverse(hmax: f64) -> f64
 pub fn is_negative(list: &[f64], i: usize) -> bool
     ensures { result ≡ is_negative list.now i }
 {
-    i < list.len() && list[i] < 0.0
+    list.get(i).is_some_and(|x| *x < 0.0)
 }
 
 // 9 and 10: the first index at which a tolerance is below 0. By index: each list is 1 or n long.

@@ -16,12 +16,6 @@ use raimsklo::Reply;
 use refusals::Options;
 use std::io;
 
-// Work and question of the most states.
-const WORK_LENGTH: usize = common::MAX_STATES * common::MAX_STATES
-    + common::MATRIX * common::MAX_STATES;
-
-const QUESTION_LENGTH: usize = common::QUESTION * common::MAX_STATES + common::HEADER;
-
 // What was found so far.
 #[derive(Clone, Copy)]
 struct Found {
@@ -195,12 +189,12 @@ fn run(stored: &[u64], at: usize, found: &mut Found) -> usize
 {
     let head = Head::read(stored, at);
     let n = head.n;
-    let works = square(n) + common::MATRIX * n;
-    let asked = common::QUESTION * n + common::HEADER;
-    let mut work = [0.0; WORK_LENGTH];
+    let works = common::work_length(n);
+    let asked = common::question_length(n);
+    let mut work = [0.0; common::WORK_LENGTH];
     let mut pivots = [0usize; common::MAX_STATES];
     let mut session = [0u8; common::SESSION_LENGTH];
-    let mut question = [0.0; QUESTION_LENGTH];
+    let mut question = [0.0; common::QUESTION_LENGTH];
     replay(
         stored,
         &head,

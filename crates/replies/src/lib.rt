@@ -35,6 +35,7 @@ fn known(kind: usize) -> Option<Kind>
 
 // The kind of a reply with a session of the right length, or 3, 13, 14. A stored n that is no number of states gives
 // 13 before the lengths that need it; a finished session is judged by its n and phase alone.
+// Counts, record and bytes are one session's: a struct of the three would only carry the two clauses that tie them.
 pub fn checked(
     kind: usize,
     u: &[usize; common::COUNT_WORDS],
@@ -88,6 +89,7 @@ fn write_question(s: Settings, c: Common, phase: Phase, work: &[f64], question: 
             show(n, common::Y * n, work, question);
             interpolation::snapshot_step(s, c, work, question);
         }
+        // every other question is about y alone
         _ => show(n, common::Y * n, work, question),
     }
 }
@@ -152,21 +154,12 @@ pub fn accept(
           question = question.old;
         })) }
 {
-    let nrtol = x.settings.nrtol;
-    let natol = x.settings.natol;
     let mut rtol = [0.0; common::MAX_STATES];
-    session::rtol(bytes, nrtol, &mut rtol);
+    let rtol = &mut rtol[..x.settings.nrtol];
+    session::rtol(bytes, rtol);
     let mut atol = [0.0; common::MAX_STATES];
-    session::atol(bytes, natol, &mut atol);
-    let turn = machine::resume(
-        x,
-        kind,
-        numbers,
-        time,
-        &rtol[0..nrtol],
-        &atol[0..natol],
-        work,
-        pivots,
-    );
+    let atol = &mut atol[..x.settings.natol];
+    session::atol(bytes, atol);
+    let turn = machine::resume(x, kind, numbers, time, rtol, atol, work, pivots);
     write_turn(x.settings, turn, work, bytes, question)
 }

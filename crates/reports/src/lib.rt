@@ -14,7 +14,6 @@ ghost use Rattle.reports.specs.Reports.{after_report_of, modified_of};
 use between_steps::{Answer, Status};
 use common::{Common, Problem, Settings};
 use questions::{At, Phase, Question, Turn};
-use vectors::NotPositive;
 
 // The first step is known: refused (11), or the first report.
 #[tactic(auto, unfolding(crate::specs::Reports::sized_of, crate::specs::Reports::sized_at))]
@@ -84,13 +83,7 @@ pub fn first_derivative(g: &Problem, c: Common, f: &[f64], work: &mut [f64]) -> 
             let h = first_step(g, c, work);
             sized(g.settings, c, h, work)
         }
-        Err(NotPositive { index }) => {
-            Turn {
-                question: Question::WeightRefused(index),
-                phase: Phase::Finished,
-                common: c,
-            }
-        }
+        Err(why) => questions::refuse_weight(c, why),
     }
 }
 

@@ -1,6 +1,8 @@
 // The rig: a chain of 32 links, whose angles are the states 0 to 31 and whose speeds are 32 to 63. A spring holds each
 // link to both its neighbours, the first one to a root that is turned by 1.2·t/(1 + t²). Each has drag, and gravity by
 // the first two terms of the sine.
+// A pose comes as a slice with a clause on its length: an array of STATES would ask more of callers. A link's number
+// comes with a clause on its bound: a type for it would be unwrapped at each index.
 ghost use Rattle.std.specs.Prelude.{◌*◌, ◌<◌, ◌≤◌, length};
 ghost use Rattle.common.specs.Limits.{max_states};
 

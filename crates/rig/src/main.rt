@@ -14,8 +14,6 @@ use refusals::Options;
 use std::io;
 use watch::Watch;
 
-const QUESTION_LENGTH: usize = common::QUESTION * STATES + common::HEADER;
-
 // made by tools/record.py: the family's place
 const FAMILY_AT: usize = 8 * 12;
 // end of the family's place
@@ -45,19 +43,19 @@ impl Wanted {
 // What the host lends to each call of a run.
 #[derive(Drop)]
 struct Lent {
-    work: [f64; 5312],
+    work: [f64; common::WORK_LENGTH],
     pivots: [usize; STATES],
     session: [u8; common::SESSION_LENGTH],
-    question: [f64; QUESTION_LENGTH],
+    question: [f64; common::QUESTION_LENGTH],
 }
 
 impl Lent {
     fn new() -> Lent {
         Lent {
-            work: [0.0; 5312],
+            work: [0.0; common::WORK_LENGTH],
             pivots: [0; STATES],
             session: [0; common::SESSION_LENGTH],
-            question: [0.0; QUESTION_LENGTH],
+            question: [0.0; common::QUESTION_LENGTH],
         }
     }
 
@@ -114,8 +112,8 @@ impl Lent {
     }
 }
 
-// The poses at the quarters of a second that lie within the reported step.
-fn frames(rt: &impl Print, r: &Reply, question: &[f64; QUESTION_LENGTH]) -> io::Result<()> {
+// The poses at the quarters of a second that lie within the reported step. The loop counts them, and indexes nothing.
+fn frames(rt: &impl Print, r: &Reply, question: &[f64; common::QUESTION_LENGTH]) -> io::Result<()> {
     for quarter in 1..9u32 {
         let t = quarter as f64 * 0.25;
         if r.previous < t && t <= r.time && r.order <= 12 {

@@ -68,23 +68,23 @@ pub fn put_tolerances(rtol: &[f64], atol: &[f64], bytes: &mut [u8])
     words::put_row(bytes, common::ATOL_AT, common::MAX_STATES, atol);
 }
 
-// The first k relative tolerances, read to the first entries of a list. This and the next call one function at two
-// places, which callers need not know.
-#[tactic(auto, using(crate::proofs::Steps::first_read))]
-pub fn rtol(bytes: &[u8], k: usize, list: &mut [f64])
-    requires { (session_length ≤ length bytes.now) × (k ≤ max_states) × (k ≤ length list.old) }
-    ensures { list.new ≡ rtol_first bytes.now k list.old }
+// As many relative tolerances as the list is long. This and the next call one function at two places, which callers
+// need not know.
+#[tactic(auto, unfolding(words::specs::Words::floats_over))]
+pub fn rtol(bytes: &[u8], list: &mut [f64])
+    requires { (session_length ≤ length bytes.now) × (length list.old ≤ max_states) }
+    ensures { list.new ≡ rtol_first bytes.now (length list.old) list.old }
 {
-    words::get_row(bytes, common::RTOL_AT, &mut list[..k]);
+    words::get_row(bytes, common::RTOL_AT, list);
 }
 
-// The first k absolute tolerances.
-#[tactic(auto, using(crate::proofs::Steps::first_read))]
-pub fn atol(bytes: &[u8], k: usize, list: &mut [f64])
-    requires { (session_length ≤ length bytes.now) × (k ≤ max_states) × (k ≤ length list.old) }
-    ensures { list.new ≡ atol_first bytes.now k list.old }
+// The absolute tolerances.
+#[tactic(auto, unfolding(words::specs::Words::floats_over))]
+pub fn atol(bytes: &[u8], list: &mut [f64])
+    requires { (session_length ≤ length bytes.now) × (length list.old ≤ max_states) }
+    ensures { list.new ≡ atol_first bytes.now (length list.old) list.old }
 {
-    words::get_row(bytes, common::ATOL_AT, &mut list[..k]);
+    words::get_row(bytes, common::ATOL_AT, list);
 }
 
 // The stored n, whatever it is.

@@ -70,7 +70,8 @@ pub fn fields(u: &[usize; common::COUNT_WORDS], s: Settings, c: Common) -> bool
     words(u) && lists(s) && orders(s, c) && counters(s, c)
 }
 
-// Whether none of the k tolerances from word `at` on is below 0; a NaN passes.
+// Whether none of the k tolerances from word `at` on is below 0; a NaN passes. They are words of a stored session, and no
+// list of floats until they are read: so a place and a count.
 fn not_negative(bytes: &[u8], at: usize, k: usize) -> bool
     requires { 8 * (at + k) ≤ length bytes.now }
     ensures { result ≡ not_negative bytes.now at k }
@@ -96,7 +97,7 @@ fn four_below(ipiv: &[usize], i: usize, n: usize) -> bool
     ipiv[i] < n && ipiv[i + 1] < n && ipiv[i + 2] < n && ipiv[i + 3] < n
 }
 
-// Whether each pivot is below n: four at a time, then those that are left.
+// Whether each pivot is below n, a bound here and no length: four at a time, then those that are left.
 pub fn pivots_below(ipiv: &[usize], n: usize) -> bool
     ensures { result ≡ pivots_below ipiv.now n }
 {

@@ -186,7 +186,7 @@ impl Weighted<'_> {
     }
 }
 
-// The norm of a matrix of n columns that belongs to vmnorm.
+// The norm of a matrix of n columns that belongs to vmnorm. n columns fit in a, which may be longer: so n beside it.
 #[tactic(auto, using(loops::proofs::For::turns), unfolding(crate::specs::Norm::fnorm_of))]
 pub fn fnorm_dense(n: usize, a: &[f64], w: &[f64]) -> Norm
     requires { (n * n ≤ length a.now) × (n ≤ length w.now) }

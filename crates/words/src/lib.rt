@@ -100,10 +100,7 @@ pub fn get_row<T: Word>(bytes: &[u8], at: usize, list: &mut [T])
 fn slot<T: Word>(list: &[T], i: usize) -> u64
     ensures { result ≡ get_or (map T.written list.now) i 0 }
 {
-    match list.get(i) {
-        Some(x) => x.to_word(),
-        None => 0,
-    }
+    list.get(i).map_or(0, |x| x.to_word())
 }
 
 // k words from word `at` on: the list, then 0. The slots go beyond the list, and of slices that chunks_exact_mut lends

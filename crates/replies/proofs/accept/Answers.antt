@@ -1,11 +1,12 @@
 -- `accept` meets its contract: work and pivots beside what the turn leaves of session and question. Assumes nothing.
 use mathlib.Core.List.{List}
-use mathlib.Core.Path.{ap, ◌∙◌, ◌≡◌}
+use mathlib.Core.Path.{ap, sym, refl, ◌∙◌, ◌≡◌}
 use mathlib.Core.Bool.{true}
-use Prim.Native.Nat.{ℕ, ◌-◌, ◌≤◌}
+use Prim.Native.Nat.{ℕ, ◌≤◌}
 use lib.Ieee.{Float}
 use native.Mathlib.Omega.{arith}
-use lib.ListN.{length, replicate}
+use lib.ListN.{length, replicate, take, length-replicate}
+use lib.Seq.{length-take-le, take-length}
 use borrow.Author.Rules.{rules}
 use Rattle.numbers.specs.Float.{zero_f}
 use Rattle.questions.specs.declared.Session.{Session}
@@ -15,9 +16,9 @@ use Rattle.common.specs.State.{given, state}
 use Rattle.common.specs.SessionWords.{rtol_at, atol_at}
 use Rattle.invariants.proofs.Ranges.{order-after}
 use Rattle.invariants.proofs.Lent.{resume-lent}
-use Rattle.session.specs.Session.{decode_of, rtol_of, atol_of, in_range_of}
+use Rattle.session.specs.Session.{decode_of, rtol_of, atol_of, rtol_first, atol_first, in_range_of}
 use Rattle.loops.specs.Part.{part}
-use Rattle.words.specs.Words.{floats_over}
+use Rattle.words.specs.Words.{floats_over, floats_in}
 use Rattle.words.proofs.Rows.{length_over, over-part}
 use Rattle.session.proofs.Thirteen.{lists-fit, resumes}
 use Rattle.answers.specs.Called.{Buffers, Called}
@@ -34,51 +35,45 @@ put w p y = record {
 abbrev empty : List Float
 empty = replicate max_states zero_f
 
-same_size : (k : ℕ) → k - 0 ≡ k
-same_size k = omega arith
-
--- the lists of a session in range have slots, and read to their first entries they are the session's
+-- the lists of a session in range have slots, and read to a list of their lengths they are the session's
 module _ (b p : List ℕ) (x : Session) (q : in_range_of b p ≡ true) (e : x ≡ decode_of b) where
   few : (x.settings.nrtol ≤ max_states) × (x.settings.natol ≤ max_states)
   few = rw e (lists-fit b p q)
 
-  relative : {l : List Float} → l ≡ floats_over b rtol_at x.settings.nrtol empty
-      → part 0 (x.settings.nrtol - 0) l ≡ rtol_of b
-  relative d =
-      let k = (lists-fit b p q).0 in
-      rw (d, e, same_size (decode_of b).settings.nrtol) (over-part b rtol_at _ empty k max_states k)
+  read : (at k : ℕ) → k ≤ max_states → {l : List Float}
+      → l ≡ floats_over b at (length (take k empty)) (take k empty) → l ≡ part 0 k (floats_in b at max_states)
+  read at k h d =
+      let long : k ≤ length empty = omega (arith, h, length-replicate {A = Float} max_states zero_f) in
+      let m = length-take-le k empty long in
+      let row = floats_over b at k (take k empty) in
+      let o = length_over b at k (take k empty) (omega (arith, m)) ∙ m in
+      rw (d, m) (sym (rw o at (take-length row)) ∙ over-part b at k (take k empty) (omega (arith, m)) max_states h)
 
-  absolute : {l : List Float} → l ≡ floats_over b atol_at x.settings.natol empty
-      → part 0 (x.settings.natol - 0) l ≡ atol_of b
-  absolute d =
-      let k = (lists-fit b p q).1 in
-      rw (d, e, same_size (decode_of b).settings.natol) (over-part b atol_at _ empty k max_states k)
+  relative : {l : List Float} → l ≡ rtol_first b (length (take x.settings.nrtol empty)) (take x.settings.nrtol empty)
+      → l ≡ rtol_of b
+  relative d = read rtol_at x.settings.nrtol few.0 d ∙ rw e refl
 
-pub rtol-requires : goal.rtol-requires
-rtol-requires c =
+  absolute : {l : List Float} → l ≡ atol_first b (length (take x.settings.natol empty)) (take x.settings.natol empty)
+      → l ≡ atol_of b
+  absolute d = read atol_at x.settings.natol few.1 d ∙ rw e refl
+
+pub slice_bounds-rtol-end : goal.slice_bounds-rtol-end
+slice_bounds-rtol-end c =
+    (few c.args.bytes.now c.args.pivots.now c.args.x c.requires.pivots_value.0 c.requires.pivots_value.1).0
+
+pub slice_bounds-rtol-end-2 : goal.slice_bounds-rtol-end-2
+slice_bounds-rtol-end-2 c =
     let l = few c.args.bytes.now c.args.pivots.now c.args.x c.requires.pivots_value.0 c.requires.pivots_value.1 in
-    (search rules, l.0, l.0)
+    search (rules, l.0)
 
-pub atol-requires : goal.atol-requires
-atol-requires c =
+pub slice_bounds-atol-end : goal.slice_bounds-atol-end
+slice_bounds-atol-end c =
+    (few c.args.bytes.now c.args.pivots.now c.args.x c.requires.pivots_value.0 c.requires.pivots_value.1).1
+
+pub slice_bounds-atol-end-2 : goal.slice_bounds-atol-end-2
+slice_bounds-atol-end-2 c =
     let l = few c.args.bytes.now c.args.pivots.now c.args.x c.requires.pivots_value.0 c.requires.pivots_value.1 in
-    (search rules, l.1, l.1)
-
-pub slice_bounds-resume-end : goal.slice_bounds-resume-end
-slice_bounds-resume-end c =
-    let x = c.args in
-    let b = x.bytes.now in
-    let l = few b x.pivots.now x.x c.requires.pivots_value.0 c.requires.pivots_value.1 in
-    let e = c.rtol.ensures in
-    omega (arith, ap length e ∙ length_over b rtol_at x.x.settings.nrtol empty l.0)
-
-pub slice_bounds-resume-end-2 : goal.slice_bounds-resume-end-2
-slice_bounds-resume-end-2 c =
-    let x = c.args in
-    let b = x.bytes.now in
-    let l = few b x.pivots.now x.x c.requires.pivots_value.0 c.requires.pivots_value.1 in
-    let e = c.atol.ensures in
-    omega (arith, ap length e ∙ length_over b atol_at x.x.settings.natol empty l.1)
+    search (rules, l.1)
 
 pub resume-turn-requires : goal.resume-turn-requires
 resume-turn-requires c =
