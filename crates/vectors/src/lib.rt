@@ -1,5 +1,5 @@
 // Norms and weights: vmnorm, fnorm_dense, ewset, invert_weights, initial_step_size.
-// Loops by index: `ewset` and `ewset_scalar_like` read one part of the slice that they write another of, `largest_rtol`
+// Loops by index: `ewset` reads one part of the slice that it writes another of, `largest_rtol`
 // goes by a list that may be 1 long, `row_sum` along a row, which is no slice, and the norms go four entries or rows at
 // a time (`Four`). The two tolerance lists stay two parameters here: crate common's `Problem` is above.
 #![tactic(auto)]
@@ -223,8 +223,9 @@ pub fn ewset_scalar_like(work: &mut [f64], n: usize, at: usize)
     requires { (n ≤ at) × (at + n ≤ length work.old) }
     ensures { work.new ≡ ewset_like_of n at work.old }
 {
-    for i in 0..n {
-        work[at + i] = numbers::max(numbers::abs(work[i]), 2.220446049250313e-16);
+    let (y, weights) = work.split_at_mut(at);
+    for (i, w) in weights[..n].iter_mut().enumerate() {
+        *w = numbers::max(numbers::abs(y[i]), 2.220446049250313e-16);
     }
 }
 
