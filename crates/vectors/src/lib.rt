@@ -1,7 +1,7 @@
 // Norms and weights: vmnorm, fnorm_dense, ewset, invert_weights, initial_step_size.
-// Loops by index: `ewset` reads one part of the slice that it writes another of, `largest_rtol`
-// goes by a list that may be 1 long, `row_sum` along a row, which is no slice, and the norms go four entries or rows at
-// a time (`Four`). The two tolerance lists stay two parameters here: crate common's `Problem` is above.
+// Loops by index: `largest_rtol` goes by a list that may be 1 long, `row_sum` along a row, which is no slice, and the
+// norms go four entries or rows at a time (`Four`). The two tolerance lists stay two parameters here: crate common's
+// `Problem` is above.
 #![tactic(auto)]
 
 ghost use Rattle.std.specs.Prelude.{◌≡◌, false, ◌+◌, ◌-◌, ◌*◌, ◌≤◌, ◌<◌, length};
@@ -211,9 +211,10 @@ pub fn ewset(rtol: &[f64], atol: &[f64], work: &mut [f64], n: usize, at: usize)
     requires n_le_at { (n ≤ at) × (at + n ≤ length work.old) }
     ensures { work.new ≡ ewset_of rtol.now atol.now n at work.old }
 {
-    for i in 0..n {
+    let (y, weights) = work.split_at_mut(at);
+    for (i, w) in weights[..n].iter_mut().enumerate() {
         #[tactic(auto, using(crate::proofs::Laws::serves))]
-        work[at + i] = tolerance(rtol, i) * numbers::abs(work[i]) + tolerance(atol, i);
+        *w = tolerance(rtol, i) * numbers::abs(y[i]) + tolerance(atol, i);
     }
 }
 
