@@ -1,6 +1,5 @@
 // The Jacobian of the corrector, `prja` in its parts: the matrix by differences or from the host, its norm and factors.
-// difference_column counts an index, since it reads parts of the work that it writes another of, and add_identity one,
-// since the diagonal's entries stand n + 1 apart: a `step_by` asks for a measure.
+// add_identity counts an index, since the diagonal's entries stand n + 1 apart: a `step_by` asks for a measure.
 // Settings, record and work stay parameters, with a clause on each one's range: the head of crate history says why.
 #![tactic(auto)]
 
@@ -78,10 +77,11 @@ fn difference_column(work: &mut [f64], n: usize, j: usize, fac: f64)
     requires { (j * n + n ≤ n * n) × (work_length n ≤ length work.old) }
     ensures { work.new ≡ difference_of n j fac work.old }
 {
-    for i in 0..n {
-        work[common::MATRIX * n + (i + j * n)] = (work[common::FTEM * n + i]
-            - work[common::SAVF * n + i])
-            * fac;
+    let (vectors, matrix) = work.split_at_mut(common::MATRIX * n);
+    let ftem = &vectors[common::FTEM * n..];
+    let savf = &vectors[common::SAVF * n..];
+    for (i, x) in matrix[j * n..j * n + n].iter_mut().enumerate() {
+        *x = (ftem[i] - savf[i]) * fac;
     }
 }
 
