@@ -106,7 +106,7 @@ fn horner(yi: &mut [f64], column: &[f64], s: f64)
     }
 }
 
-// The polynomial of the columns at s = (xi - tn) / h, by Horner's rule from the last column down: jb counts columns.
+// The polynomial of the columns at s = (xi - tn) / h, by Horner's rule from the last column down.
 fn evaluate(xi: f64, yi: &mut [f64], cont: &[f64], z: Sizes)
     requires { (z.n ≤ max_states) × (z.nq ≤ 12) × (length yi.old ≡ z.n)
         × (6 + (z.nq + 1) * z.n ≤ length cont.now) }
@@ -118,10 +118,9 @@ fn evaluate(xi: f64, yi: &mut [f64], cont: &[f64], z: Sizes)
     let last = common::HEADER + nq * n;
     let end = last + n;
     yi.copy_from_slice(&cont[last..end]);
-    for jb in 1..nq + 1 {
-        let a = common::HEADER + (nq - jb) * n;
-        let e = a + n;
-        horner(yi, &cont[a..e], s);
+    for j in (0..nq).rev() {
+        let a = common::HEADER + j * n;
+        horner(yi, &cont[a..a + n], s);
     }
 }
 

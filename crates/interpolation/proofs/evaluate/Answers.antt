@@ -1,5 +1,5 @@
 use Prim.Native.Nat.{◌+◌, ◌-◌, ◌*◌}
-use mathlib.Core.Path.{◌≡◌, sym, ap, ◌∙◌}
+use mathlib.Core.Path.{◌≡◌, refl, sym, ap, ◌∙◌}
 use native.Mathlib.Omega.{arith}
 use lib.ListN.{length}
 use Rattle.loops.specs.Part.{part}
@@ -8,14 +8,20 @@ use Rattle.interpolation.specs.Evaluate.{last_column_of, evaluate_of}
 use Rattle.interpolation.proofs.Laws.{copied-column}
 use Rattle.interpolation.proofs.evaluate.Goals as goal
 
-pub loop-jb-preserved : goal.loop-jb-preserved
-loop-jb-preserved c =
+pub loop-j-init : goal.loop-j-init
+loop-j-init c =
+    let first : c.args.z.nq + 1 - c.args.z.nq ≡ 1 = omega arith in
+    rw first refl
+
+pub loop-j-preserved : goal.loop-j-preserved
+loop-j-preserved c =
     let b = c.args.z in
-    let j = b.nq - c.loop-jb.jb in
-    let size : 6 + j * b.n + b.n - (6 + j * b.n) ≡ b.n = omega arith in
+    let j = c.loop-j.j in
+    let size : 6 + (j - 1) * b.n + b.n - (6 + (j - 1) * b.n) ≡ b.n = omega arith in
+    let next : b.nq + 1 - (j - 1) ≡ b.nq + 1 - j + 1 = omega arith in
+    let column : b.nq - (b.nq + 1 - j) ≡ j - 1 = omega arith in
     let turned = rw size at c.horner.ensures in
-    let rest = onward _ _ _ _ _ _ (omega arith) (sym turned) c.loop-jb.invariant.3 in
-    (omega arith, omega arith, omega (arith, c.horner.auto.yi), rest)
+    rw next (onward _ _ _ _ _ _ (omega arith) (rw column (sym turned)) c.loop-j.invariant)
 
 pub returns : goal.returns
 unfolding evaluate_of
@@ -27,4 +33,4 @@ returns c =
     let whole : last_column_of column c.args.yi.now ≡ column =
     copied-column column c.args.yi.now (ap length (sym last) ∙ c.copy_from_slice.ensures.len)
     in
-    rw (whole, ← last) (ended _ _ _ _ _ (omega arith) c.loop-jb.invariant.3)
+    rw (whole, ← last) (ended _ _ _ _ _ (omega arith) c.loop-j.invariant)
