@@ -1,7 +1,6 @@
 // Norms and weights: vmnorm, fnorm_dense, ewset, invert_weights, initial_step_size.
-// Loops by index: `largest_rtol` goes by a list that may be 1 long, `row_sum` along a row, which is no slice, and the
-// norms go four entries or rows at a time (`Four`). The two tolerance lists stay two parameters here: crate common's
-// `Problem` is above.
+// Loops by index: `row_sum` goes along a row, which is no slice, and the norms go four entries or rows at a time
+// (`Four`). The two tolerance lists stay two parameters here: crate common's `Problem` is above.
 #![tactic(auto)]
 
 ghost use Rattle.std.specs.Prelude.{◌≡◌, false, ◌+◌, ◌-◌, ◌*◌, ◌≤◌, ◌<◌, length};
@@ -245,16 +244,15 @@ pub fn invert_weights(ewt: &mut [f64]) -> Result<(), NotPositive>
     Ok(())
 }
 
-// The largest relative tolerance of n states.
+// The largest relative tolerance of n states. A list of 1 is met once, which gives the same maximum as n times.
 #[tactic(auto, using(loops::proofs::For::turns), unfolding(crate::specs::FirstStep::largest_rtol_of))]
 fn largest_rtol(rtol: &[f64], n: usize) -> f64
     requires { List1OrN rtol.now (n - 1) }
     ensures { result ≡ largest_rtol_of rtol.now n }
 {
     let mut tol = 0.0;
-    for i in 0..n {
-        #[tactic(auto, using(crate::proofs::Laws::serves))]
-        tol = numbers::max(tol, tolerance(rtol, i));
+    for x in rtol.iter().take(n) {
+        tol = numbers::max(tol, *x);
     }
     tol
 }
