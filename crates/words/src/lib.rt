@@ -3,7 +3,7 @@
 // bytes, since a part cut out for each word would be cut anew at each call.
 #![tactic(auto)]
 
-ghost use Rattle.std.specs.Prelude.{◌≡◌, ℕ, ◌+◌, ◌*◌, ◌≤◌, length, get_or, map};
+ghost use Rattle.std.specs.Prelude.{◌≡◌, ℕ, ◌+◌, ◌*◌, ◌≤◌, length, map};
 ghost use Rattle.std.specs.Float.{binary64};
 ghost use Rattle.std.specs.Float.Ieee.{to_bits, of_bits};
 ghost use Rattle.words.specs.Words.{word_at, put_word, word, row_over, put_row_of};
@@ -96,21 +96,16 @@ pub fn get_row<T: Word>(bytes: &[u8], at: usize, list: &mut [T])
     }
 }
 
-// The word of entry i, 0 beyond the list's end.
-fn slot<T: Word>(list: &[T], i: usize) -> u64
-    ensures { result ≡ get_or (map T.written list.now) i 0 }
-{
-    list.get(i).map_or(0, |x| x.to_word())
-}
-
-// k words from word `at` on: the list, then 0. The slots go beyond the list, and of slices that chunks_exact_mut lends
-// nothing says what the bytes end as, so the loop counts.
+// k words from word `at` on: the list, then 0. Each word is put at its place: of slices that chunks_exact_mut lends
+// nothing says what the bytes end as.
 #[tactic(auto, using(loops::proofs::For::turns))]
 pub fn put_row<T: Word>(bytes: &mut [u8], at: usize, k: usize, list: &[T])
     requires { 8 * (at + k) ≤ length bytes.old }
     ensures { bytes.new ≡ put_row_of at k (map T.written list.now) bytes.old }
 {
-    for i in 0..k {
-        put(bytes, 8 * (at + i), slot(list, i));
+    let m = list.len().min(k);
+    for (i, x) in list[..m].iter().enumerate() {
+        put(bytes, 8 * (at + i), x.to_word());
     }
+    bytes[8 * (at + m)..8 * (at + k)].fill(0);
 }
