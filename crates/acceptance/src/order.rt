@@ -1,6 +1,6 @@
 // The order choice of an accepted step, as in `stoda`: the factors that three orders allow, and the one that is taken.
-// set_raised and set_column count an index: they read one part of the work and write another, and a form without an
-// index would have to split the slice first.
+// set_raised counts an index: it writes a part that stands between the two that it reads, so the slice would have to be
+// split twice first.
 ghost use Rattle.std.specs.Prelude.{◌≡◌, ◌+◌, ◌≤◌, length};
 ghost use Rattle.common.specs.Limits.{max_states};
 ghost use Rattle.common.specs.Layout.{matrix_at};
@@ -97,8 +97,9 @@ fn set_column(work: &mut [f64], n: usize, j: usize, r: f64)
     requires { (j ≤ 12) × (n ≤ max_states) × (matrix_at n ≤ length work.old) }
     ensures { work.new ≡ raise_column_of n j r work.old }
 {
-    for i in 0..n {
-        work[i + j * n] = work[common::ACOR * n + i] * r;
+    let (columns, vectors) = work.split_at_mut(common::ACOR * n);
+    for (i, x) in columns[j * n..j * n + n].iter_mut().enumerate() {
+        *x = vectors[i] * r;
     }
 }
 

@@ -4,7 +4,7 @@
 // the `&mut` no contract is an equation for what work becomes: it is a relation that keeps the reference's name too.
 // Settings and Common stay two values: a rule makes the record anew, so a struct of both would be taken apart in each.
 // A bound on one count, order or index stays a clause: a type for it would be unwrapped wherever it is reckoned with.
-// sweep, add_scaled, copy_part, set_slope count an index: they read one part of a slice and write another part of it.
+// sweep and copy_part count an index: the part that they read and the part that they write may overlap.
 // passes and correct_columns hand on the number of the pass or column that they are at.
 #![tactic(auto)]
 
@@ -108,11 +108,12 @@ pub fn rescale_columns(yh: &mut [f64], n: usize, l: usize, rh: f64)
 // Column j plus e times the vector at `at`.
 #[tactic(auto, using(loops::proofs::For::turns), unfolding(crate::specs::Columns::add_scaled_of))]
 fn add_scaled(work: &mut [f64], n: usize, j: usize, e: f64, at: usize)
-    requires { (j * n + n ≤ length work.old) × (at + n ≤ length work.old) }
+    requires { (j * n + n ≤ at) × (at + n ≤ length work.old) }
     ensures { work.new ≡ add_scaled_of n j e at work.old }
 {
-    for i in 0..n {
-        work[i + j * n] += e * work[at + i];
+    let (columns, vectors) = work.split_at_mut(at);
+    for (i, x) in columns[j * n..j * n + n].iter_mut().enumerate() {
+        *x += e * vectors[i];
     }
 }
 
@@ -146,8 +147,9 @@ pub fn set_slope(work: &mut [f64], n: usize, h: f64)
     requires { matrix_at n ≤ length work.old }
     ensures { work.new ≡ slope_of n h work.old }
 {
-    for i in 0..n {
-        work[n + i] = h * work[common::SAVF * n + i];
+    let (columns, vectors) = work.split_at_mut(common::SAVF * n);
+    for (i, x) in columns[n..n + n].iter_mut().enumerate() {
+        *x = h * vectors[i];
     }
 }
 
