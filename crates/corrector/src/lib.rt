@@ -1,7 +1,7 @@
 // One corrector iteration of each family: what becomes of the correction and of y, and the size of the correction; and
 // the verdict on it: converged, a further derivative, a retry with a new Jacobian, no convergence.
-// The four loops count a state's index: each reads some parts of the one work slice and writes two others, so a form
-// without an index would have to split the slice into five first.
+// Three loops count a state's index: each writes two parts of the work and reads others around them, so a form without
+// an index would have to split the slice into four or five first.
 // Settings, record and work stay parameters, with a clause on each one's range: the head of crate history says why.
 #![tactic(auto)]
 
@@ -79,9 +79,12 @@ fn bdf_residual(work: &mut [f64], n: usize, h: f64)
     requires { matrix_at n ≤ length work.old }
     ensures { work.new ≡ bdf_residual_of n h work.old }
 {
-    for i in 0..n {
-        work[common::Y * n + i] = h * work[common::SAVF * n + i]
-            - (work[n + i] + work[common::ACOR * n + i]);
+    let (before, y) = work.split_at_mut(common::Y * n);
+    let column = &before[n..];
+    let savf = &before[common::SAVF * n..];
+    let acor = &before[common::ACOR * n..];
+    for (i, x) in y[..n].iter_mut().enumerate() {
+        *x = h * savf[i] - (column[i] + acor[i]);
     }
 }
 
