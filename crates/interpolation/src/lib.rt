@@ -113,12 +113,10 @@ fn evaluate(xi: f64, yi: &mut [f64], cont: &[f64], z: Sizes)
     ensures { yi.new ≡ evaluate_of xi cont.now z yi.old }
 {
     let n = z.n;
-    let nq = z.nq;
     let s = (xi - z.tn) / z.h;
-    let last = common::HEADER + nq * n;
-    let end = last + n;
-    yi.copy_from_slice(&cont[last..end]);
-    for j in (0..nq).rev() {
+    let last = common::HEADER + z.nq * n;
+    yi.copy_from_slice(&cont[last..last + n]);
+    for j in (0..z.nq).rev() {
         let a = common::HEADER + j * n;
         horner(yi, &cont[a..a + n], s);
     }

@@ -8,5 +8,5 @@ use Rattle.interpolation.proofs.evaluate.Given as goal
 
 abbrev pub invariant-loop-j : goal.invariant-loop-j
 invariant-loop-j l =
-    for (l.nq + 1 - l.j) (l.nq + 1) (horner_turn l.cont l.n l.nq l.s) l.yi
-    ≡ for 1 (l.nq + 1) (horner_turn l.cont l.n l.nq l.s) l.initial.yi
+    for (l.fn.z.nq + 1 - l.j) (l.fn.z.nq + 1) (horner_turn l.cont l.n l.fn.z.nq l.s) l.yi
+    ≡ for 1 (l.fn.z.nq + 1) (horner_turn l.cont l.n l.fn.z.nq l.s) l.initial.yi
