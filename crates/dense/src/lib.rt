@@ -1,10 +1,10 @@
 // Factoring and solving with a dense matrix of n columns, the entry in row i of column j at i + j·n.
 // The factoring exchanges whole rows, multipliers included; the solve mixes exchanges with elimination.
 // The solve works on one slice that has the right side at b and the matrix at a.
-// Loops by index: `column` and `less` read one part of the slice that they write another of (by `split_at_mut` both were
-// proved: two lines and three ranges more, and the factoring took 1 to 4 percent more instructions), and the others
-// hand on, or answer, the row or column that they are at. A struct of a and n would hold a `&mut` whose name each
-// contract had to keep.
+// Loops by index: `column` and `less` read one part of the slice that they write another of (by `split_at_mut` both
+// prove, with two lines and three ranges more, and the factoring takes 1 to 4 percent more instructions), and the
+// others hand on, or answer, the row or column that they are at. A struct of a and n would hold a `&mut` whose name
+// each contract had to keep.
 #![tactic(auto)]
 
 ghost use Rattle.std.specs.Prelude.{◌≡◌, true, ℕ, ◌+◌, ◌*◌, ◌<◌, ◌≤◌, length, get_or};

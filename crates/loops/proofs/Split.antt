@@ -1,17 +1,17 @@
--- A list cut in two, as `split_at_mut` cuts a slice, with a part of one side lent and back as s: an entry of s is one of
--- the whole, and to store there is to store in s.
---     right-got, right-set   the part is of the right side
---     left-got, left-set, beyond   it is of the left side; `beyond` reads the right one
+-- A list cut in two, as `split_at_mut` cuts a slice, with a part of one side lent and back as s: an entry of s is one
+-- of the whole, and to store there is to store in s.
+--     right-got, right-set, ahead   the part is of the right side; `ahead` reads the left one, lent from a place on
+--     left-got, left-set, beyond    it is of the left side; `beyond` reads the right one
 -- Assumes nothing.
-use mathlib.Core.Path.{◌≡◌, refl, ◌∙◌}
+use mathlib.Core.Path.{◌≡◌, refl, sym, ◌∙◌}
 use mathlib.Core.List.{List, ◌++◌}
 use Prim.Native.Nat.{ℕ, ◌+◌, ◌-◌, ◌≤◌, ◌<◌}
 use native.Mathlib.Omega.{arith}
 use lib.ListN.{length, get_or, set, take, drop}
 use Rattle.std.proofs.lemmas.List.{length-take-le, set-append_left, set-append_right}
 use Rattle.std.proofs.lemmas.List.{get_or_append_left, get_or-append_right}
-use Rattle.loops.specs.Part.{put_part}
-use Rattle.loops.proofs.Part.{length-put_part}
+use Rattle.loops.specs.Part.{part, put_part}
+use Rattle.loops.proofs.Part.{length-put_part, get_d_part}
 
 -- entry j of a part is entry p of its list
 module _ {A : Type 0} (l s : List A) (first m j p : ℕ) (place : p ≡ first + j) (room : first ≤ length l)
@@ -53,6 +53,12 @@ module _ {A : Type 0} (left right s : List A) (first m j p : ℕ) (place : p ≡
         part-set right s first m j (p - length left) inner room h x,
       )
       refl
+
+pub ahead : {A : Type 0} (left right : List A) (at i : ℕ) (d : A) → at + i < length left
+    → get_or (part at (length left - at) left) i d ≡ get_or (left ++ right) (at + i) d
+ahead left right at i d h =
+    get_d_part at (length left - at) left (omega arith) i d (omega arith)
+    ∙ sym (get_or_append_left left right d (at + i) h)
 
 module _ {A : Type 0} (left right s : List A) (first m : ℕ) (room : first + m ≤ length left) (e : length s ≡ m) where
   all : length (put_part first m left s) ≡ length left

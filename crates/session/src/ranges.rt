@@ -70,8 +70,8 @@ pub fn fields(u: &[usize; common::COUNT_WORDS], s: Settings, c: Common) -> bool
     words(u) && lists(s) && orders(s, c) && counters(s, c)
 }
 
-// Whether none of the k tolerances from word `at` on is below 0; a NaN passes. They are words of a stored session, and no
-// list of floats until they are read: so a place and a count.
+// Whether none of the k tolerances from word `at` on is below 0; a NaN passes. They are words of a stored session, and
+// no list of floats until they are read: so a place and a count.
 fn not_negative(bytes: &[u8], at: usize, k: usize) -> bool
     requires { 8 * (at + k) ≤ length bytes.now }
     ensures { result ≡ not_negative bytes.now at k }

@@ -1,5 +1,5 @@
--- `ewset` meets its contract. The invariant: with the part back in its place, the states that are left give all weights.
--- Assumes nothing.
+-- `ewset` meets its contract. The invariant: with the part back in its place, the states that are left give all
+-- weights. Assumes nothing.
 use mathlib.Core.Path.{◌≡◌}
 use mathlib.Core.List.{◌++◌}
 use lib.ListN.{drop}

@@ -2,7 +2,8 @@ use mathlib.Core.List.{List, ◌++◌, append_assoc, map}
 use mathlib.Core.Path.{◌≡◌, refl, sym, ap, ◌∙◌}
 use Prim.Native.Nat.{ℕ, zero, suc, ◌+◌, ◌*◌, ◌-◌, ◌≤◌, ◌<◌, min}
 use native.Mathlib.Omega.{arith}
-use lib.ListN.{length, get_or, take, drop, replicate, length-append, length-map, length-take, take-append-drop, replicate-append-replicate}
+use lib.ListN.{length, get_or, take, drop, replicate, length-append, length-map, length-take, take-append-drop}
+use lib.ListN.{replicate-append-replicate}
 use lib.Seq.{length-take-le, take_at, drop_at, drop-drop, get_or-take}
 use Rattle.std.proofs.lemmas.List.{get_or_past, get_or-map}
 use Rattle.loops.specs.For.{times}
@@ -17,7 +18,8 @@ use Rattle.words.proofs.put_row.Goals as goal
 put-two : (a p q : ℕ) (l s t : List ℕ) → a + p + q ≤ length l → length s ≡ p
     → put_part (a + p) q (put_part a p l s) t ≡ put_part a (p + q) l (s ++ t)
 put-two a p q l s t h e =
-    let whole : put_part a p l s ≡ (take a l ++ s) ++ drop p (drop a l) = sym (append_assoc (take a l) s (drop p (drop a l))) in
+    let whole : put_part a p l s ≡ (take a l ++ s) ++ drop p (drop a l) =
+    sym (append_assoc (take a l) s (drop p (drop a l))) in
     let first : length (take a l ++ s) ≡ a + p =
     length-append (take a l) s ∙ rw (length-take-le a l (omega arith), e) refl
     in
@@ -42,7 +44,8 @@ module _ (at : ℕ) (words : List ℕ) where
       let next : 8 * (at + (i + 1)) ≡ a + 8 = omega arith in
       let more : 8 * suc n ≡ 8 + 8 * n = omega arith in
       let first : put_part a 8 b (replicate 8 0) ≡ put_word b a 0 = eight-put b a 0 (omega arith) in
-      let rest = zeros n (i + 1) (put_word b a 0) (λ m. omega (arith, h (omega arith))) (omega (arith, length-put b a 0)) in
+      let rest =
+      zeros n (i + 1) (put_word b a 0) (λ m. omega (arith, h (omega arith))) (omega (arith, length-put b a 0)) in
       let both = put-two a 8 (8 * n) b (replicate 8 0) (replicate (8 * n) 0) (omega arith) refl in
       rw (get_or_past words i 0 (h (omega arith)), more, ← replicate-append-replicate, ← both, first, ← next) rest
 

@@ -13,5 +13,6 @@ use Rattle.acceptance.proofs.order.set_column.Given as goal
 abbrev pub invariant-loop-i : goal.invariant-loop-i
 invariant-loop-i l =
     for l.i l.n (raise_column_at l.n l.j l.r)
-    (put_part (l.j * l.n) (l.j * l.n + l.n - l.j * l.n) (take (acor_at l.n) l.fn.work) l.x-items ++ drop (acor_at l.n) l.fn.work)
+    (put_part (l.j * l.n) (l.j * l.n + l.n - l.j * l.n) (take (acor_at l.n) l.fn.work) l.x-items
+    ++ drop (acor_at l.n) l.fn.work)
     ≡ raise_column_of l.n l.j l.r l.fn.work
