@@ -44,7 +44,7 @@ fn raised_size(s: Settings, c: Common, work: &mut [f64]) -> f64
     family::size(1.4, 1.4e-6, dup, l + 1)
 }
 
-// The factor at the next lower order, 0 if there is none.
+// The factor at the next lower order, 0 if there is none, as above.
 #[tactic(auto, unfolding(crate::specs::Order::lowered_size_of))]
 fn lowered_size(s: Settings, c: Common, work: &[f64]) -> f64
     requires step_in_range { StepInRange s c }

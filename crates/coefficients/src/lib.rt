@@ -1,7 +1,7 @@
 // The coefficients of both families, as `cfode` computes them, and the stability limits SM1.
 // One table of 384 numbers: for each family 12 orders of 13 numbers (elco) and 12 of 3 (tesco). Unset ones are 0.
-// A table is a number, 0 none yet, 1 Adams, 2 BDF, since it is a word of a stored session (docs/SESSION.md). Table and
-// order stay two parameters, and their bounds clauses: each caller has them as two fields of a larger record.
+// A table is a number, 0 none yet, 1 Adams, 2 BDF: `MethodFamily` stands in common, above. Table and order stay two
+// parameters, and their bounds clauses: each caller has them as two fields of a larger record.
 #![tactic(auto)]
 
 ghost use Rattle.std.specs.Prelude.{◌≡◌, ◌+◌, ◌-◌, ◌*◌, ◌≤◌, ◌<◌, cond, eqb, get_or};
@@ -479,8 +479,7 @@ pub fn tesco(table: usize, order: usize, i: usize) -> f64
     number::<3>(table, 156 + i, order)
 }
 
-// The error constant of a family's method of the given order; 0 before the first setup. The family is the number of its
-// table: `MethodFamily` stands in common, above.
+// The error constant of a family's method of the given order; 0 before the first setup. Its table says the family.
 fn error_constant(table: usize, family: usize, order: usize) -> f64
     requires { (1 ≤ family) × (family ≤ 2) × (1 ≤ order) × (order ≤ 12) }
     ensures { result ≡ cond (eqb table 0) zero_f (tesco_of family order 1 ⊗ elco_of family order order) }

@@ -82,7 +82,8 @@ pub enum MethodFamily {
     Bdf = 2,
 }
 
-// `given` is a flag beside the record's h, and the record's `table` a number: both are words of a stored session.
+// `given` is a flag: h beside it is the running step, with or without it. The record's `table` is a number, as
+// coefficients, where `MethodFamily` is not known, has its tables.
 #[derive(Clone, Copy)]
 pub struct Settings {
     pub n: usize, // states, 1 to 64

@@ -1,7 +1,8 @@
 // What the host calls; crates/raimsklo_c exports it by C's rules. Nothing is asked of the host: each function answers
 // at every argument, and its contract is one equation for the answer and for the whole contents of every lent slice,
-// refused calls included. The four lent slices stay apart, as C lends each by itself: a struct of them would have to
-// name a ghost for each in every clause.
+// refused calls included. Answers and kinds are numbers and no enums, since C has them, and there is one function for
+// each exported name. The four lent slices stay apart, as C lends each by itself: a struct of them would have to name
+// a ghost for each in every clause.
 #![tactic(auto)]
 
 ghost use Rattle.std.specs.Prelude.{◌≡◌, true, ℕ, length};

@@ -161,7 +161,8 @@ fn leaf(h: Call, a: &mut [f64], b: &mut [f64], m: &mut [usize]) -> u64
     }
 }
 
-// Number i, and 0 behind the list's end; replay_runs has its own: a library for one line of std would be no plainer.
+// Number i, and 0 behind the list's end. replay_runs has its own, and its own limited counts and floats: a library of
+// functions of one line each would be no plainer.
 fn word(list: &[u64], i: usize) -> u64
     ensures { result ≡ get_or list.now i 0 }
 {

@@ -1,4 +1,5 @@
-// A stored answer beside the one that a call gave. How it is read follows from the stored number alone.
+// A stored answer beside the one that a call gave. How it is read follows from the stored number alone: an enum for the
+// four forms would be made and matched again in the two functions that match the number, and in their definitions.
 ghost use Rattle.std.specs.Prelude.{◌+◌, ◌*◌, ◌≤◌, ◌≡◌, length};
 ghost use Rattle.common.specs.Layout.{question_length};
 ghost use Rattle.common.specs.Limits.{max_states};

@@ -119,8 +119,10 @@ fn frames(rt: &impl Print, r: &Reply, question: &[f64; common::QUESTION_LENGTH])
         if r.previous < t && t <= r.time && r.order <= 12 {
             let end = STATES + common::HEADER + STATES * (r.order + 1);
             let mut pose = [0.0; STATES];
-            let refused = raimsklo::raimsklo_interpolate(t, &mut pose, &question[STATES..end]);
-            show::frame(rt, t, refused, &pose)?;
+            match raimsklo::raimsklo_interpolate(t, &mut pose, &question[STATES..end]) {
+                0 => show::frame(rt, t, &pose)?,
+                number => show::refused(rt, t, number)?,
+            }
         }
     }
     Ok(())

@@ -9,17 +9,17 @@ fn millionths(x: f64) -> i64 {
     std::num::saturating_f64_to_i64(x * 1000000.0)
 }
 
-// The angles of the links 1, 16 and 32 at time t, or the number of the refusal.
-pub fn frame(rt: &impl Print, t: f64, refused: usize, y: &[f64]) -> io::Result<()>
+// The angles of the links 1, 16 and 32 at time t.
+pub fn frame(rt: &impl Print, t: f64, y: &[f64]) -> io::Result<()>
     requires { max_states ≤ length y.now }
 {
-    let time = millionths(t);
-    if refused != 0 {
-        println!(rt; "at {time} refused by {refused}")
-    } else {
-        let [first, middle, last] = [y[0], y[15], y[31]].map(millionths);
-        println!(rt; "at {time}: {first} {middle} {last}")
-    }
+    let [first, middle, last] = [y[0], y[15], y[31]].map(millionths);
+    println!(rt; "at {}: {first} {middle} {last}", millionths(t))
+}
+
+// No pose at time t, but the number of a refusal.
+pub fn refused(rt: &impl Print, t: f64, number: usize) -> io::Result<()> {
+    println!(rt; "at {} refused by {number}", millionths(t))
 }
 
 // Four patterns to a line.
