@@ -479,7 +479,7 @@ pub fn tesco(table: usize, order: usize, i: usize) -> f64
     number::<3>(table, 156 + i, order)
 }
 
-// The error constant of a family's method of the given order; 0 before the first setup. Its table says the family.
+// The error constant of a family's method of the given order; 0 before the first setup. A family is a table's number.
 fn error_constant(table: usize, family: usize, order: usize) -> f64
     requires { (1 ≤ family) × (family ≤ 2) × (1 ≤ order) × (order ≤ 12) }
     ensures { result ≡ cond (eqb table 0) zero_f (tesco_of family order 1 ⊗ elco_of family order order) }

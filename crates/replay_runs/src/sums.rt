@@ -33,8 +33,8 @@ impl Wanted {
     }
 }
 
-// What the host lends to each call of a run with one state. (rig's has other lengths and lends another problem: a library
-// for both would hand on every argument of the two calls, and be no shorter.)
+// What the host lends to each call of a run with one state. (rig's has other lengths: a library for both would hand on
+// every argument of the two calls, and be no shorter.)
 #[derive(Drop)]
 struct Lent {
     work: [f64; 20],
