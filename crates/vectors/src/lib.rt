@@ -71,18 +71,17 @@ const ZEROS: Four = Four {
 };
 
 impl Four {
-    // The entries i to i + 3, each to its maximum.
-    fn with_entries(self, v: &[f64], w: &[f64], i: usize) -> Four
-        requires i_in_bounds { (i + 4 ≤ length v.now) × (length v.now ≤ length w.now) }
+    // Four entries, each to its maximum.
+    fn with_entries(self, v: &[f64; 4], w: &[f64; 4]) -> Four
         requires a_value { (Ieee.ne self.a self.a ≡ false) × (Ieee.ne self.b self.b ≡ false) }
         requires c_value { (Ieee.ne self.c self.c ≡ false) × (Ieee.ne self.d self.d ≡ false) }
-        ensures { result ≡ four_at v.now w.now i self }
+        ensures { result ≡ four_at v.now w.now 0 self }
     {
         Four {
-            a: larger(self.a, entry(v, w, i)),
-            b: larger(self.b, entry(v, w, i + 1)),
-            c: larger(self.c, entry(v, w, i + 2)),
-            d: larger(self.d, entry(v, w, i + 3)),
+            a: larger(self.a, entry(v, w, 0)),
+            b: larger(self.b, entry(v, w, 1)),
+            c: larger(self.c, entry(v, w, 2)),
+            d: larger(self.d, entry(v, w, 3)),
         }
     }
 
@@ -114,13 +113,14 @@ pub fn vmnorm(v: &[f64], w: &[f64]) -> Norm
     requires { length v.now ≤ length w.now }
     ensures { result ≡ vmnorm_of v.now w.now }
 {
-    let n = v.len();
+    let (fours, rest) = v.as_chunks::<4>();
+    let (weights, _) = w.as_chunks::<4>();
     let mut m = ZEROS;
-    for k in 0..n / 4 {
-        m = m.with_entries(v, w, 4 * k);
+    for (k, four) in fours.iter().enumerate() {
+        m = m.with_entries(four, &weights[k]);
     }
     let mut value = m.largest();
-    for i in n / 4 * 4..n {
+    for i in v.len() - rest.len()..v.len() {
         value = larger(value, entry(v, w, i));
     }
     Norm { value }

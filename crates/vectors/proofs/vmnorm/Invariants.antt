@@ -1,6 +1,6 @@
 -- `vmnorm` meets its contract. The invariants: the entries that are left give the whole norm, from the largest of the
 -- four and then from the one maximum. Assumes nothing.
-use Prim.Native.Nat.{◌*◌, ◌/◌, ◌≤◌}
+use Prim.Native.Nat.{◌*◌}
 use mathlib.Core.Path.{◌≡◌}
 use lib.ListN.{length}
 use Rattle.loops.specs.For.{for}
@@ -12,8 +12,7 @@ use Rattle.vectors.proofs.vmnorm.Given as goal
 
 abbrev pub invariant-loop-k : goal.invariant-loop-k
 invariant-loop-k l =
-    (l.k ≤ length l.v / 4) × AllClean l.m
-    × (for (4 * l.k) (length l.v) (norm_turn l.v l.w) (top_of l.m) ≡ (vmnorm_of l.v l.w).value)
+    AllClean l.m × (for (4 * l.k) (length l.v) (norm_turn l.v l.w) (top_of l.m) ≡ (vmnorm_of l.v l.w).value)
 
 abbrev pub invariant-loop-i : goal.invariant-loop-i
 invariant-loop-i l =
