@@ -15,6 +15,7 @@ mod sums;
 use raimsklo::Reply;
 use refusals::Options;
 use std::io;
+use stored_words::Place;
 
 // What was found so far.
 #[derive(Clone, Copy)]
@@ -26,55 +27,50 @@ struct Found {
 
 // A run's head: where it stands, n, and the lengths of rtol and atol.
 #[derive(Clone, Copy)]
-struct Head {
-    at: usize,
+struct Head<'a> {
+    place: Place<'a>,
     n: usize,
     nrtol: usize,
     natol: usize,
     ghost few: { n ≤ max_states },
     ghost few_rtol: { nrtol ≤ max_states },
     ghost few_atol: { natol ≤ max_states },
-    ghost place: { at ≤ 1000000 },
 }
 
-impl Head {
-    fn read(stored: &[u64], at: usize) -> Head
-        requires { at ≤ 1000000 }
-    {
+impl<'a> Head<'a> {
+    fn read(place: Place<'a>) -> Head<'a> {
         Head {
-            at,
-            n: stored_words::limited(stored, at, common::MAX_STATES),
-            nrtol: stored_words::limited(stored, at + 1, common::MAX_STATES),
-            natol: stored_words::limited(stored, at + 2, common::MAX_STATES),
+            place,
+            n: place.limited(0, common::MAX_STATES),
+            nrtol: place.limited(1, common::MAX_STATES),
+            natol: place.limited(2, common::MAX_STATES),
         }
     }
 
     // Behind the lengths stand the options, in the struct's order.
-    fn options(&self, stored: &[u64]) -> Options {
-        let at = self.at;
+    fn options(&self) -> Options {
+        let place = &self.place;
         Options {
-            max_steps: stored_words::count(stored, at + 3),
-            mxordn: stored_words::count(stored, at + 4),
-            mxords: stored_words::count(stored, at + 5),
-            maxcor: stored_words::count(stored, at + 6),
-            msbp: stored_words::count(stored, at + 7),
-            mxncf: stored_words::count(stored, at + 8),
-            banded: stored_words::count(stored, at + 9),
-            supplied: stored_words::count(stored, at + 10),
-            has_max_step: stored_words::count(stored, at + 11),
-            has_min_step: stored_words::count(stored, at + 12),
-            has_first_step: stored_words::count(stored, at + 13),
-            max_step: stored_words::float(stored, at + 14),
-            min_step: stored_words::float(stored, at + 15),
-            first_step: stored_words::float(stored, at + 16),
+            max_steps: place.count(3),
+            mxordn: place.count(4),
+            mxords: place.count(5),
+            maxcor: place.count(6),
+            msbp: place.count(7),
+            mxncf: place.count(8),
+            banded: place.count(9),
+            supplied: place.count(10),
+            has_max_step: place.count(11),
+            has_min_step: place.count(12),
+            has_first_step: place.count(13),
+            max_step: place.float(14),
+            min_step: place.float(15),
+            first_step: place.float(16),
         }
     }
 
     // The answer to the start stands behind x0, xend, y0, rtol and atol.
-    fn answer_at(&self) -> usize
-        ensures { result ≤ 1001000 }
-    {
-        self.at + 19 + self.n + self.nrtol + self.natol
+    fn answer(&self) -> Place<'a> {
+        self.place.after(19 + self.n + self.nrtol + self.natol)
     }
 }
 
@@ -98,7 +94,6 @@ fn reply_size(kind: usize, n: usize) -> usize
 
 // Behind the options stand x0, xend, y0, rtol and atol.
 fn start(
-    stored: &[u64],
     head: &Head,
     work: &mut [f64],
     pivots: &mut [usize],
@@ -108,15 +103,14 @@ fn start(
     let n = head.n;
     let rtol = n + head.nrtol;
     let atol = rtol + head.natol;
-    let at = head.at + 17;
-    let lists = stored_words::floats(stored, at + 2);
+    let lists = head.place.floats(19);
     raimsklo::raimsklo_start(
-        stored_words::float(stored, at),
-        stored_words::float(stored, at + 1),
+        head.place.float(17),
+        head.place.float(18),
         &lists[..n],
         &lists[n..rtol],
         &lists[rtol..atol],
-        head.options(stored),
+        head.options(),
         work,
         pivots,
         session,
@@ -126,23 +120,22 @@ fn start(
 
 // The answer to the stored reply: its kind, its time and its numbers.
 fn reply(
-    stored: &[u64],
-    at: usize,
+    place: &Place,
     n: usize,
     work: &mut [f64],
     pivots: &mut [usize],
     session: &mut [u8],
     question: &mut [f64],
 ) -> Reply
-    requires { (at ≤ 1000000) × (n ≤ max_states) }
+    requires { n ≤ max_states }
 {
-    let kind = stored_words::count(stored, at);
-    let numbers = stored_words::floats(stored, at + 2);
+    let kind = place.count(0);
+    let numbers = place.floats(2);
     let end = reply_size(kind, n);
     raimsklo::raimsklo_reply(
         kind,
         &numbers[..end],
-        stored_words::float(stored, at + 1),
+        place.float(1),
         work,
         pivots,
         session,
@@ -151,43 +144,39 @@ fn reply(
 }
 
 // One run, from its start to its last stored answer. The next one stands where the result says.
-fn replay(
-    stored: &[u64],
-    head: &Head,
+fn replay<'a>(
+    head: &Head<'a>,
     found: &mut Found,
     work: &mut [f64],
     pivots: &mut [usize],
     session: &mut [u8],
     question: &mut [f64],
-) -> usize
-    requires { (length stored.now ≤ 1000000) × (question_length head.now.n ≤ length question.old) }
-    ensures { result ≤ 1020000 }
+) -> Place<'a>
+    requires { question_length head.now.n ≤ length question.old }
 {
     let n = head.n;
-    let mut r = start(stored, head, work, pivots, session, question);
-    let mut at = head.answer_at();
-    for _ in 0..stored.len() {
+    let mut r = start(head, work, pivots, session, question);
+    let mut place = head.answer();
+    // Counted by turns: the number indexes nothing.
+    for _ in 0..place.words.len() {
         found.answers = found.answers.saturating_add(1);
-        if !answer::is_stored(stored, at, n, r, question) {
+        if !answer::is_stored(&place, n, r, question) {
             found.differ = found.differ.saturating_add(1);
         }
-        let asked = answer::is_asked(stored, at);
-        at += answer::size(stored, at, n);
-        if !asked || at >= stored.len() {
+        let asked = answer::is_asked(&place);
+        place = place.after(answer::size(&place, n));
+        if !asked || place.is_end() {
             break;
         }
-        r = reply(stored, at, n, work, pivots, session, question);
-        at += 2 + reply_size(stored_words::count(stored, at), n);
+        r = reply(&place, n, work, pivots, session, question);
+        place = place.after(2 + reply_size(place.count(0), n));
     }
-    at
+    place
 }
 
 // The run that stands there, in buffers of its lengths.
-fn run(stored: &[u64], at: usize, found: &mut Found) -> usize
-    requires { (at ≤ 1000000) × (length stored.now ≤ 1000000) }
-    ensures { result ≤ 1020000 }
-{
-    let head = Head::read(stored, at);
+fn run<'a>(place: Place<'a>, found: &mut Found) -> Place<'a> {
+    let head = Head::read(place);
     let n = head.n;
     let works = common::work_length(n);
     let asked = common::question_length(n);
@@ -196,7 +185,6 @@ fn run(stored: &[u64], at: usize, found: &mut Found) -> usize
     let mut session = [0u8; common::SESSION_LENGTH];
     let mut question = [0.0; common::QUESTION_LENGTH];
     replay(
-        stored,
         &head,
         found,
         &mut work[..works],
@@ -206,20 +194,19 @@ fn run(stored: &[u64], at: usize, found: &mut Found) -> usize
     )
 }
 
-fn all(stored: &[u64]) -> Found
-    requires { length stored.now ≤ 1000000 }
-{
+fn all(stored: &[u64]) -> Found {
     let mut found = Found {
         runs: 0,
         answers: 0,
         differ: 0,
     };
-    let mut at = 0;
+    let mut place = Place::first(stored);
+    // Counted by turns: the number indexes nothing.
     for _ in 0..stored.len() {
-        if at >= stored.len() {
+        if place.is_end() {
             break;
         }
-        at = run(stored, at, &mut found);
+        place = run(place, &mut found);
         found.runs = found.runs.saturating_add(1);
     }
     found

@@ -1,79 +1,113 @@
-// The stored words: counts, and floats by their patterns. Behind the end every word is 0. A place stands beside the
-// words in every function: a part cut out for each number would be cut anew at each call.
-ghost use Rattle.std.specs.Prelude.{◌≤◌, ◌≡◌, length};
+// The stored words: counts, and floats by their patterns. Behind the end every word is 0.
+ghost use Rattle.std.specs.Prelude.{◌+◌, ◌≤◌, ◌≡◌, length};
 ghost use Rattle.replay_runs.specs.Words.{word_of, limited_word, float_of, is_stored_count, is_stored_float};
 ghost use Rattle.replay_runs.specs.Words.{are_stored_three, are_stored_floats, most_numbers};
 
 // As many as a reply can have: those of a Jacobian.
 const MOST_NUMBERS: usize = common::MAX_STATES * common::MAX_STATES;
 
-pub fn word(words: &[u64], at: usize) -> u64
-    ensures { result ≡ word_of words.now at }
-{
-    words.get(at).copied().unwrap_or(0)
+// Where reading stands among the words, at most at their end. Each method reads so many words behind. It is the whole
+// slice with a number, since the definitions count from the slice's beginning.
+#[derive(Clone, Copy)]
+pub struct Place<'a> {
+    pub words: &'a [u64],
+    pub at: usize,
+    ghost within: { at ≤ length words.now },
 }
 
-pub fn count(words: &[u64], at: usize) -> usize
-    ensures { result ≡ word_of words.now at }
-{
-    word(words, at) as usize
-}
-
-// A count that is at most so much.
-#[tactic(auto, unfolding(crate::specs::Words::limited_word))]
-pub fn limited(words: &[u64], at: usize, most: usize) -> usize
-    ensures { (result ≡ limited_word words.now at most) × (result ≤ most) }
-{
-    count(words, at).min(most)
-}
-
-pub fn float(words: &[u64], at: usize) -> f64
-    ensures { result ≡ float_of words.now at }
-{
-    numbers::from_bits(word(words, at))
-}
-
-// The floats from there on, as many as a reply can have.
-pub fn floats(words: &[u64], at: usize) -> [f64; MOST_NUMBERS]
-    requires { at ≤ 2000000 }
-    ensures { length result ≡ most_numbers }
-{
-    let mut out = [0.0; MOST_NUMBERS];
-    for (i, x) in out.iter_mut().enumerate() {
-        *x = float(words, at + i);
+impl<'a> Place<'a> {
+    pub fn first(words: &'a [u64]) -> Place<'a> {
+        Place { words, at: 0 }
     }
-    out
-}
 
-#[tactic(auto, unfolding(crate::specs::Words::is_stored_count))]
-pub fn is_count(words: &[u64], at: usize, n: usize) -> bool
-    ensures { result ≡ is_stored_count words.now at n }
-{
-    word(words, at) == n as u64
-}
+    // So many words further, or the end.
+    pub fn after(&self, k: usize) -> Place<'a>
+        requires { k ≤ 10000 }
+    {
+        Place {
+            words: self.words,
+            at: (self.at + k).min(self.words.len()),
+        }
+    }
 
-#[tactic(auto, unfolding(crate::specs::Words::is_stored_float))]
-pub fn is_float(words: &[u64], at: usize, x: f64) -> bool
-    ensures { result ≡ is_stored_float words.now at x }
-{
-    word(words, at) == numbers::to_bits(x)
-}
+    pub fn is_end(&self) -> bool {
+        self.at == self.words.len()
+    }
 
-// Three counts in a row.
-#[tactic(auto, unfolding(crate::specs::Words::are_stored_three))]
-pub fn are_three(words: &[u64], at: usize, a: usize, b: usize, c: usize) -> bool
-    requires { at ≤ 2000000 }
-    ensures { result ≡ are_stored_three words.now at a b c }
-{
-    is_count(words, at, a) && is_count(words, at + 1, b) && is_count(words, at + 2, c)
-}
+    pub fn word(&self, k: usize) -> u64
+        requires { k ≤ 10000 }
+        ensures { result ≡ word_of self.now.words.now (self.now.at + k) }
+    {
+        self.words.get(self.at + k).copied().unwrap_or(0)
+    }
 
-#[tactic(auto, unfolding(crate::specs::Words::are_stored_floats))]
-pub fn are_floats(words: &[u64], at: usize, list: &[f64]) -> bool
-    requires { (at ≤ 2000000) × (length list.now ≤ 5000) }
-    ensures { result ≡ are_stored_floats words.now at list.now }
-{
-    list.iter()
-        .enumerate()
-        .all(|(i, x)| is_float(words, at + i, *x))
+    pub fn count(&self, k: usize) -> usize
+        requires { k ≤ 10000 }
+        ensures { result ≡ word_of self.now.words.now (self.now.at + k) }
+    {
+        self.word(k) as usize
+    }
+
+    // A count that is at most so much.
+    #[tactic(auto, unfolding(crate::specs::Words::limited_word))]
+    pub fn limited(&self, k: usize, most: usize) -> usize
+        requires { k ≤ 10000 }
+        ensures { (result ≡ limited_word self.now.words.now (self.now.at + k) most) × (result ≤ most) }
+    {
+        self.count(k).min(most)
+    }
+
+    pub fn float(&self, k: usize) -> f64
+        requires { k ≤ 10000 }
+        ensures { result ≡ float_of self.now.words.now (self.now.at + k) }
+    {
+        numbers::from_bits(self.word(k))
+    }
+
+    // The floats from there on, as many as a reply can have.
+    pub fn floats(&self, k: usize) -> [f64; MOST_NUMBERS]
+        requires { k ≤ 1000 }
+        ensures { length result ≡ most_numbers }
+    {
+        let mut out = [0.0; MOST_NUMBERS];
+        for (i, x) in out.iter_mut().enumerate() {
+            *x = self.float(k + i);
+        }
+        out
+    }
+
+    #[tactic(auto, unfolding(crate::specs::Words::is_stored_count))]
+    pub fn is_count(&self, k: usize, n: usize) -> bool
+        requires { k ≤ 10000 }
+        ensures { result ≡ is_stored_count self.now.words.now (self.now.at + k) n }
+    {
+        self.word(k) == n as u64
+    }
+
+    #[tactic(auto, unfolding(crate::specs::Words::is_stored_float))]
+    pub fn is_float(&self, k: usize, x: f64) -> bool
+        requires { k ≤ 10000 }
+        ensures { result ≡ is_stored_float self.now.words.now (self.now.at + k) x }
+    {
+        self.word(k) == numbers::to_bits(x)
+    }
+
+    // Three counts in a row.
+    #[tactic(auto, unfolding(crate::specs::Words::are_stored_three))]
+    pub fn are_three(&self, k: usize, a: usize, b: usize, c: usize) -> bool
+        requires { k ≤ 1000 }
+        ensures { result ≡ are_stored_three self.now.words.now (self.now.at + k) a b c }
+    {
+        self.is_count(k, a) && self.is_count(k + 1, b) && self.is_count(k + 2, c)
+    }
+
+    #[tactic(auto, unfolding(crate::specs::Words::are_stored_floats))]
+    pub fn are_floats(&self, k: usize, list: &[f64]) -> bool
+        requires { (k ≤ 1000) × (length list.now ≤ 5000) }
+        ensures { result ≡ are_stored_floats self.now.words.now (self.now.at + k) list.now }
+    {
+        list.iter()
+            .enumerate()
+            .all(|(i, x)| self.is_float(k + i, *x))
+    }
 }
