@@ -4,9 +4,10 @@
 use mathlib.Core.Bool.{Bool, true, false, cond, ◌&&◌, ◌||◌}
 use mathlib.Core.List.{List, [], ◌∷◌, map}
 use mathlib.Core.Path.{◌≡◌, refl, sym, ap, ◌∙◌}
-use Prim.Native.Nat.{ℕ, suc}
+use Prim.Native.Nat.{ℕ}
 use native.Mathlib.Omega.{arith}
-use lib.ListN.{length}
+use Rattle.std.proofs.Math.Bool.{or-true}
+use Rattle.std.proofs.lemmas.List.{length-map}
 use Rattle.loops.proofs.Test.{differs, both}
 use Rattle.numbers.specs.Float.{zero_f}
 use Rattle.questions.specs.declared.Question.TheVariants as Question
@@ -72,10 +73,6 @@ module _ (n : ℕ) where
   fed-one (tell p x k) xs r rs h = (xs, rw h)
   fed-one (say e p) xs r rs h = fed-one p (marked e xs) r rs h
 
-or_right : (b : Bool) → b || true ≡ true
-or_right true = refl
-or_right false = refl
-
 module _ (g : Given) (a : Start) (run : Runs g a) where
   abbrev n : ℕ
   n = g.s.n
@@ -126,7 +123,7 @@ module _ (g : Given) (a : Start) (run : Runs g a) where
         asked-one n t (fed_as r) (feds rs) o.0 on.0,
         λ xs h.
             let y = fed-one n t xs (fed_as r) (feds rs) o.0 in
-            rw (on.1 y.0 (rw y.1 at h)) (or_right (is_end x.reply)),
+            rw (on.1 y.0 (rw y.1 at h)) (or-true (is_end x.reply)),
       )
 
   asked-all : (rs : List ReplyCall) → TimesF64 rs → (t : Play) (l : RunState) (x : Called) → At g a run t l x
@@ -188,10 +185,6 @@ begun-spoken p b begins = record {
   answer = ap (λ (y : Called). y.reply) (begun-is p b begins.formed);
 }
 
-length-map : {A B : Type 0} (f : A → B) (l : List A) → length (map f l) ≡ length l
-length-map f [] = refl
-length-map f (x ∷ l) = ap suc (length-map f l)
-
 pub calls-end : (p : Problem) (b : Buffers) → Begins p b → CallsEnd p b
 unfolding accepted_settings
 calls-end p b begins =
@@ -203,7 +196,7 @@ calls-end p b begins =
     record {
       ends = λ rs f w m.
           let z = asked-all g a run rs f (tree_of p b) (started_at g a) (start_of p b) at k w in
-          let e = length-map fed_as rs in
+          let e = length-map rs fed_as in
           let h = z.1 [] (demand-1 g a run.ok.settings (map fed_as rs) z.0 (omega (arith, e, m))) in
           let first : is_end (start_of p b).reply ≡ false =
           ap (λ (y : Called). is_end y.reply) (begun-is p b begins.formed) in

@@ -1,12 +1,13 @@
 -- Demand 2 for every list of calls of a run, by induction over the list.
 --     calls-follow
 -- Assumes nothing.
-use mathlib.Core.Bool.{Bool, true, false, cond, not}
+use mathlib.Core.Bool.{Bool, true, false, cond}
 use mathlib.Core.List.{List, [], ◌∷◌, map}
 use mathlib.Core.Logic.{◌⊎◌, inl, inr}
 use mathlib.Core.Path.{◌≡◌, refl, sym, ap, ◌∙◌}
 use Prim.Native.Nat.{ℕ}
 use native.Mathlib.Omega.{arith}
+use Rattle.std.proofs.lemmas.Bool.{not-true}
 use Rattle.loops.proofs.Test.{differs}
 use Rattle.questions.specs.declared.Session.{Session}
 use Rattle.questions.specs.Turns.{RunState}
@@ -92,11 +93,7 @@ module _ (g : Given) (a : Start) (run : Runs g a) where
   refused-so : (t : Play) (l : RunState) (x : Called) (r : ReplyCall) → Outcome g a run t l x r
       → is_refusal (replied x r).reply ≡ true → Refused x r
   refused-so t l x r o i =
-      (refused-one t l x r o (off (is_fitting g a run t r) (sym (is-refusal g a run t l x r o) ∙ i))).0
-    where
-      off : (b : Bool) → not b ≡ true → b ≡ false
-      off true e = differs e
-      off false e = refl
+      (refused-one t l x r o (not-true (is_fitting g a run t r) (sym (is-refusal g a run t l x r o) ∙ i))).0
 
   no-13 : (t : Play) (l : RunState) (x : Called) (r : ReplyCall) → Outcome g a run t l x r
       → (replied x r).reply.number ≡ 13 → ⊥

@@ -14,7 +14,7 @@ use lib.Dec.{eqb, ltb, lit<}
 use lib.Ieee.{Float}
 use lib.ListN.{length}
 use borrow.Author.Tests.{eqb-true, eqb-false, lt-leb}
-use Rattle.loops.proofs.Test.{differs, both, one_of}
+use Rattle.loops.proofs.Test.{differs, both, one_of, chosen}
 use Rattle.numbers.specs.Float.{zero_f}
 use Rattle.common.specs.Limits.{max_states}
 use Rattle.common.specs.SessionWords.{count_words, session_length}
@@ -42,7 +42,6 @@ use Rattle.answers.specs.Called.{Buffers, Called}
 use Rattle.replies.specs.Replies.{is_kind, kind_of, lengths_refusal, stored_refusal, reply_refusal_of, is_unasked}
 use Rattle.replies.specs.Replies.{TurnWritten, turn_written_of, turned, accepted_reply_of}
 use Rattle.raimsklo.specs.Calls.{reply_at, reply_of}
-use Rattle.invariants.proofs.Floats.{either}
 use Rattle.calls.specs.Run.{is_refusal}
 use Rattle.calls.specs.ReplyRefused.{awaits, Asked, derivative, jacobian, answer, phase_in, reply_rows}
 use Rattle.calls.specs.ReplyRefused.{ReplyRefused}
@@ -317,7 +316,7 @@ module _ (kind : ℕ) (numbers : List Float) (time : Float) (b : Buffers) where
       → (turn_written_of s t work b.session b.question).reply ≡ question_reply t.question
   unfolding turn_written_of
   settled-reply s t work =
-      either (λ (y : TurnWritten). y.reply ≡ question_reply t.question) (is_unasked t.question) _ _ refl refl
+      chosen (λ (y : TurnWritten). y.reply ≡ question_reply t.question) (is_unasked t.question) refl refl
 
   pub gone : NoneHolds (reply_rows kind numbers b) → reply_of kind numbers time b ≡ go
   gone h = by outcome

@@ -6,6 +6,7 @@ use Prim.Native.Nat.{ℕ, ◌+◌, ◌-◌}
 use lib.Dec.{eqb, ltb}
 use lib.Ieee as Ieee
 use lib.Ieee.{Float}
+use Rattle.loops.proofs.Test.{chosen}
 use Rattle.numbers.specs.Float.{zero_f, d1_1}
 use Rattle.common.specs.declared.Settings.{Settings}
 use Rattle.common.specs.declared.Common.{Common}
@@ -22,7 +23,7 @@ use Rattle.acceptance.specs.Order.{Settled, held_of, at_order, settle_of, raise_
 use Rattle.acceptance.specs.Order.{forgotten_of, factors_of, limited_factors_of, raised_left_of, choose_order_of}
 use Rattle.acceptance.specs.Accept.{corrected_of, counted_down, keep_family_of, tested_of, test_family_of, accept_of}
 use Rattle.session.proofs.Fits.{Fit}
-use Rattle.invariants.proofs.Floats.{either, literal}
+use Rattle.invariants.proofs.Floats.{literal}
 use Rattle.invariants.proofs.Records.{CommonFits, put-hu, put-pdest, put-pdlast}
 use Rattle.invariants.proofs.Steps.{reset-fits, adjust-fits}
 
@@ -31,42 +32,42 @@ SettledFits x = CommonFits x.common
 
 module _ (s : Settings) where
   at-order : (c : Common) (q : ℕ) → CommonFits c → CommonFits (at_order s c q)
-  at-order c q f = either CommonFits (eqb q c.nq) c (reset_of s (with_nq q c)) f (reset-fits s (with_nq q c) f)
+  at-order c q f = chosen CommonFits (eqb q c.nq) f (reset-fits s (with_nq q c) f)
 
   settled-fits : (c : Common) (p : Proposal) (branch : Branch) (work : List Float) → CommonFits c
       → SettledFits (settle_of s c p branch work)
   unfolding settle_of
   settled-fits c p branch work f =
-      either SettledFits (held_of c p) _ _ f
-      (either SettledFits (Ieee.lt p.rh d1_1) _ _ f (adjust-fits s _ _ (at-order c p.order f)))
+      chosen SettledFits (held_of c p) f
+      (chosen SettledFits (Ieee.lt p.rh d1_1) f (adjust-fits s _ _ (at-order c p.order f)))
 
   raise-fits : (c : Common) (up : Float) (work : List Float) → CommonFits c → SettledFits (raise_of s c up work)
   unfolding raise_of
   raise-fits c up work f =
-      either SettledFits (eqb (c.nq + 1) c.lmax || Ieee.lt up d1_1) _ _ f (settled-fits c _ _ _ f)
+      chosen SettledFits (eqb (c.nq + 1) c.lmax || Ieee.lt up d1_1) f (settled-fits c _ _ _ f)
 
   lower-fits : (c : Common) (down : Float) (work : List Float) → CommonFits c → SettledFits (lower_of s c down work)
   unfolding lower_of
-  lower-fits c down work f = either SettledFits (eqb c.nq 1) _ _ f (settled-fits c _ _ work f)
+  lower-fits c down work f = chosen SettledFits (eqb c.nq 1) f (settled-fits c _ _ work f)
 
   choose-fits : (c : Common) (x : Factors) (work : List Float) → CommonFits c → SettledFits (choose_of s c x work)
   unfolding choose_of
   choose-fits c x work f =
-      either SettledFits (same_largest x) _ _ (settled-fits c _ _ work f)
-      (either SettledFits (Ieee.lt x.down x.up) _ _ (raise-fits c x.up work f) (lower-fits c x.down work f))
+      chosen SettledFits (same_largest x) (settled-fits c _ _ work f)
+      (chosen SettledFits (Ieee.lt x.down x.up) (raise-fits c x.up work f) (lower-fits c x.down work f))
 
   choose-order : (c : Common) (dsm : Float) (work : List Float) → CommonFits c
       → SettledFits (choose_order_of s c dsm work)
   unfolding choose_order_of
   choose-order c dsm work f =
       choose-fits (forgotten_of c) (limited_factors_of c (factors_of s c dsm work)) (raised_left_of s c work)
-      (put-pdest (either Fit (is_bdf c.meth) c.pdest zero_f f.pdest (literal _)) f)
+      (put-pdest (chosen Fit (is_bdf c.meth) f.pdest (literal _)) f)
 
   keep-family : (c : Common) (dsm : Float) (work : List Float) → CommonFits c
       → SettledFits (keep_family_of s c dsm work)
   unfolding keep_family_of
   keep-family c dsm work f =
-      either SettledFits (eqb (c.ialth - 1) 0) _ _ (choose-order (counted_down c) dsm work f) f
+      chosen SettledFits (eqb (c.ialth - 1) 0) (choose-order (counted_down c) dsm work f) f
 
   changed-fits : (c : Common) (to : Proposal) (work : List Float) → CommonFits c
       → CommonFits (changed_of s c to work).common
@@ -84,7 +85,7 @@ module _ (s : Settings) where
       → SettledFits (test_family_of s c dsm work)
   unfolding test_family_of
   test-family c dsm work f =
-      either SettledFits (ltb c.icount 1000000) _ _
+      chosen SettledFits (ltb c.icount 1000000)
       (tested-fits c dsm work (change_of s c dsm work) f) (keep-family c dsm work f)
 
   pub accept-fits : (c : Common) (dsm : Float) (work : List Float) → CommonFits c

@@ -7,6 +7,7 @@ use Prim.Native.Nat.{ℕ}
 use lib.Dec.{eqb}
 use lib.Ieee as Ieee
 use lib.Ieee.{Float}
+use Rattle.loops.proofs.Test.{chosen}
 use Rattle.common.specs.Layout.{y_at, matrix_at}
 use Rattle.numbers.specs.Float.{◌⊗◌, zero_f, one_f, uround, d100, d1024}
 use Rattle.dense.specs.Solve.{solve_of}
@@ -23,7 +24,7 @@ use Rattle.corrector.specs.Verdict.{strays}
 use Rattle.corrector.specs.Verdict.{judged_further, judged_tested, rated_verdict, solved_verdict, judge_of}
 use Rattle.corrector.specs.Iterate.{open_of, Corrected, adams_of, bdf_of, bdf_residual_of, correct_in, correct_of}
 use Rattle.session.proofs.Fits.{Fit}
-use Rattle.invariants.proofs.Floats.{either, literal, product, quotient, maximum}
+use Rattle.invariants.proofs.Floats.{literal, product, quotient, maximum}
 use Rattle.invariants.proofs.Sizes.{norm}
 use Rattle.invariants.proofs.Records.{CommonFits, put-rc, put-pdest, put-pdlast, put-pdnorm, put-convrate}
 use Rattle.invariants.proofs.Records.{put-rate, put-delp}
@@ -52,7 +53,7 @@ unfolding adams_of bdf_of
 correct-in Adams s c ipiv work = norm _ _
 correct-in Bdf s c ipiv work =
     let x = solve_of s.n (matrix_at s.n) ipiv (y_at s.n) (bdf_residual_of s.n c.h work) in
-    either (λ (r : Corrected). Fit r.del) x.ok _ _ (norm _ _) (literal _)
+    chosen (λ (r : Corrected). Fit r.del) x.ok (norm _ _) (literal _)
 
 pub size_fits : (s : Settings) (c : Common) (ipiv : List ℕ) (work : List Float) → Fit (correct_of s c ipiv work).del
 unfolding correct_of
@@ -64,7 +65,7 @@ abbrev VerdictFits : Verdict → Type 0
 VerdictFits v = CommonFits v.common
 
 rm_fits : (c : Common) (del : Float) → Fit (rm_of c del)
-rm_fits c del = either Fit (Ieee.le del (d1024 ⊗ c.delp)) _ _ (quotient del c.delp) (literal _)
+rm_fits c del = chosen Fit (Ieee.le del (d1024 ⊗ c.delp)) (quotient del c.delp) (literal _)
 
 rated-fits : (c : Common) (del : Float) → CommonFits c → CommonFits (rated_of c del)
 unfolding rated_of
@@ -75,7 +76,7 @@ estimated-fits : (s : Settings) (c : Common) → CommonFits c → CommonFits (es
 unfolding estimated_of
 estimated-fits s c f =
     let p : Fit (pdest_of s c) = maximum _ _ f.pdest (quotient _ _) in
-    put-pdest p (put-pdlast (either Fit (Ieee.ne (pdest_of s c) zero_f) _ _ p f.pdlast) f)
+    put-pdest p (put-pdlast (chosen Fit (Ieee.ne (pdest_of s c) zero_f) p f.pdlast) f)
 
 give-up-fits : (c : Common) → CommonFits c → VerdictFits (give_up_of c)
 unfolding give_up_of
@@ -84,11 +85,11 @@ give-up-fits c f = f
 module _ (s : Settings) (del : Float) (size : Fit del) where
   further-fits : (c : Common) → CommonFits c → VerdictFits (judged_further s c del)
   unfolding judged_further
-  further-fits c f = either VerdictFits (strays s c del) _ _ (give-up-fits c f) (put-delp size f)
+  further-fits c f = chosen VerdictFits (strays s c del) (give-up-fits c f) (put-delp size f)
 
   tested-fits : (c : Common) → CommonFits c → VerdictFits (judged_tested s c del)
   unfolding judged_tested judged_converged
-  tested-fits c f = either VerdictFits (Ieee.le (dcon_of c del) one_f) _ _ (estimated-fits s c f) (further-fits c f)
+  tested-fits c f = chosen VerdictFits (Ieee.le (dcon_of c del) one_f) (estimated-fits s c f) (further-fits c f)
 
   rated-verdict : (first bdf : Bool) (c : Common) → CommonFits c → VerdictFits (rated_verdict s c del first bdf)
   rated-verdict true true c f = tested-fits c f
@@ -98,11 +99,11 @@ module _ (s : Settings) (del : Float) (size : Fit del) where
   solved-fits : (c : Common) (pnorm : Float) → CommonFits c → VerdictFits (solved_verdict s c del pnorm)
   unfolding judged_converged
   solved-fits c pnorm f =
-      either VerdictFits (Ieee.le del (d100 ⊗ pnorm ⊗ uround)) _ _ f
+      chosen VerdictFits (Ieee.le del (d100 ⊗ pnorm ⊗ uround)) f
       (rated-verdict (eqb c.m 0) (is_bdf c.meth) c f)
 
 pub judge-fits : (s : Settings) (c : Common) (x : Correction) (pnorm : Float) → Fit x.del → CommonFits c
     → VerdictFits (judge_of s c x pnorm)
 unfolding judge_of
 judge-fits s c x pnorm size f =
-    either VerdictFits x.solved _ _ (solved-fits s x.del size c pnorm f) (give-up-fits c f)
+    chosen VerdictFits x.solved (solved-fits s x.del size c pnorm f) (give-up-fits c f)

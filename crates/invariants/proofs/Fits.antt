@@ -7,6 +7,7 @@ use mathlib.Core.List.{List}
 use lib.Dec.{eqb}
 use lib.Ieee as Ieee
 use lib.Ieee.{Float}
+use Rattle.loops.proofs.Test.{chosen}
 use Rattle.numbers.specs.Float.{◌⊖◌, zero_f, one_f}
 use Rattle.common.specs.declared.Settings.{Settings}
 use Rattle.common.specs.declared.Common.{Common}
@@ -28,7 +29,7 @@ use Rattle.session.proofs.Fits.{Fit, FloatsFit}
 use Rattle.invariants.specs.Next.{started_session, session_found}
 use Rattle.invariants.proofs.Keeps.{Invariant, each, any, after-pass, Keeps}
 use Rattle.invariants.proofs.Walk.{resume-keeps}
-use Rattle.invariants.proofs.Floats.{either, literal, sum, quotient, absolute, signum}
+use Rattle.invariants.proofs.Floats.{literal, sum, quotient, absolute, signum}
 use Rattle.invariants.proofs.Sizes.{norm, initial-step, first-size}
 use Rattle.invariants.proofs.Records.{CommonFits, put-tn, put-h, put-told, put-pnorm, commons, floats}
 use Rattle.invariants.proofs.Records.{initial-fits}
@@ -64,7 +65,7 @@ module _ (s : Settings) where
 
   first_step : (rtol atol : List Float) (c : Common) (work : List Float) → CommonFits c
       → Fit (step_of s c rtol atol work)
-  first_step rtol atol c work f = either Fit s.given c.h _ f.h (initial-step _ _ _ _ _ _ _)
+  first_step rtol atol c work f = chosen Fit s.given f.h (initial-step _ _ _ _ _ _ _)
 
 floats-keep : (g : Given) (time : Float) → Fit time → Keeps g time Fitting Fitting Fitting
 floats-keep g time t = record {
@@ -110,11 +111,11 @@ floats-kept g l kind reply time f t =
 
 smallest-fits : (o : Options) → Fit o.min_step → Fit (smallest_of o)
 unfolding smallest_of
-smallest-fits o p = either Fit (eqb o.has_min_step 0) zero_f _ (literal _) (absolute _ p)
+smallest-fits o p = chosen Fit (eqb o.has_min_step 0) (literal _) (absolute _ p)
 
 inverse-fits : (hmax : Float) → Fit (inverse_of hmax)
 unfolding inverse_of
-inverse-fits hmax = either Fit (Ieee.lt zero_f hmax) _ zero_f (quotient one_f hmax) (literal _)
+inverse-fits hmax = chosen Fit (Ieee.lt zero_f hmax) (quotient one_f hmax) (literal _)
 
 inverse-largest-fits : (x0 xend : Float) (o : Options) → Fit (inverse_largest_of x0 xend o)
 unfolding inverse_largest_of
@@ -122,7 +123,7 @@ inverse-largest-fits x0 xend o = inverse-fits (largest_of o (xend ⊖ x0))
 
 first-step-fits : (o : Options) → Fit o.first_step → Fit (given_step_of o)
 unfolding given_step_of
-first-step-fits o p = either Fit (eqb o.has_first_step 0) zero_f _ (literal _) p
+first-step-fits o p = chosen Fit (eqb o.has_first_step 0) (literal _) p
 
 pub start_fits : (x0 xend : Float) (o : Options) (l : Lengths) → Fit x0 → Fit xend → Fit o.min_step
     → Fit o.first_step → FloatsFit (started_session x0 xend o l)

@@ -1,21 +1,16 @@
 -- Floats of the format binary64: literals and counts are, results of operations are (lib.Ieee.Fits), and what absolute
 -- value, sign, maximum and minimum make of such floats is.
 -- Assumes nothing.
-use mathlib.Core.Bool.{Bool, true, false, cond}
 use Prim.Native.Nat.{ℕ, zero, suc}
 use lib.Ieee as Ieee
 use lib.Ieee.{Float, nan, inf, fin, binary64, fits}
 use lib.Ieee.Fits as Fits
 use lib.Ieee.Bits.{of_bits-fits}
+use Rattle.loops.proofs.Test.{chosen}
 use Rattle.numbers.specs.Float.{◌⊕◌, ◌⊖◌, ◌⊗◌, ◌⊘◌, lit}
 use Rattle.numbers.specs.Sign.{abs_of, signum_of, copysign_of}
 use Rattle.numbers.specs.Order.{max_of, min_of}
 use Rattle.session.proofs.Fits.{Fit}
-
--- what holds of both holds of the one that a test chooses
-pub either : {A : Type 0} (P : A → Type 0) (b : Bool) (x y : A) → P x → P y → P (cond b x y)
-either P true x y p q = p
-either P false x y p q = q
 
 pub literal : (b : ℕ) → Fit (lit b)
 literal b = of_bits-fits binary64 b
@@ -54,8 +49,8 @@ copysign (fin s (suc m) e) y p = p
 
 pub maximum : (a b : Float) → Fit a → Fit b → Fit (max_of a b)
 unfolding max_of
-maximum a b p q = either Fit (Ieee.lt a b) b _ q (either Fit (Ieee.ne a a) b a q p)
+maximum a b p q = chosen Fit (Ieee.lt a b) q (chosen Fit (Ieee.ne a a) q p)
 
 pub minimum : (a b : Float) → Fit a → Fit b → Fit (min_of a b)
 unfolding min_of
-minimum a b p q = either Fit (Ieee.lt b a) b _ q (either Fit (Ieee.ne a a) b a q p)
+minimum a b p q = chosen Fit (Ieee.lt b a) q (chosen Fit (Ieee.ne a a) q p)

@@ -9,6 +9,7 @@ use lib.Ieee as Ieee
 use lib.Ieee.{Float, nan, binary64, of_bits, fits}
 use lib.Ieee.Fits.{and_l, and_r, nan-fits}
 use Rattle.loops.proofs.For.{keeps}
+use Rattle.loops.proofs.Test.{chosen}
 use Rattle.numbers.specs.Float.{◌⊖◌, ◌⊗◌, ◌⊘◌, zero_f, one_f}
 use Rattle.numbers.specs.Sign.{abs_of}
 use Rattle.numbers.specs.Order.{max_of}
@@ -20,7 +21,7 @@ use Rattle.common.specs.declared.Settings.{Settings}
 use Rattle.common.specs.declared.Common.{Common}
 use Rattle.between_steps.specs.Start.{first_size_of}
 use Rattle.session.proofs.Fits.{Fit}
-use Rattle.invariants.proofs.Floats.{either, literal, difference, product, quotient, absolute, copysign}
+use Rattle.invariants.proofs.Floats.{literal, difference, product, quotient, absolute, copysign}
 use Rattle.invariants.proofs.Floats.{maximum, minimum}
 
 -- a maximum of products, from 0
@@ -63,6 +64,6 @@ first-size s c h p =
     let d = s.xend ⊖ c.tn in
     let h1 = cond (Ieee.ne c.hmxi zero_f) (h ⊘ max_of (abs_of h ⊗ c.hmxi) one_f) h in
     let h2 = cond (Ieee.lt (abs_of d) (abs_of h1)) d h1 in
-    either Fit (Ieee.lt (abs_of h2) c.hmin) _ h2 (product c.hmin s.direction)
-    (either Fit (Ieee.lt (abs_of d) (abs_of h1)) d h1 (difference s.xend c.tn)
-    (either Fit (Ieee.ne c.hmxi zero_f) _ h (quotient h _) p))
+    chosen Fit (Ieee.lt (abs_of h2) c.hmin) (product c.hmin s.direction)
+    (chosen Fit (Ieee.lt (abs_of d) (abs_of h1)) (difference s.xend c.tn)
+    (chosen Fit (Ieee.ne c.hmxi zero_f) (quotient h _) p))
