@@ -69,7 +69,7 @@ impl<'a> Head<'a> {
     }
 
     // The answer to the start stands behind x0, xend, y0, rtol and atol.
-    fn answer(&self) -> Place<'a> {
+    fn first_answer(&self) -> Place<'a> {
         self.place.after(19 + self.n + self.nrtol + self.natol)
     }
 }
@@ -89,78 +89,83 @@ fn reply_size(kind: usize, n: usize) -> usize
     if kind == 2 { square(n) } else { n }
 }
 
-// What a run lends to each call is four slices side by side, and no struct of arrays with methods: the calls ask for
-// the exact lengths of n states, and a part of a field behind `&mut self` cannot be lent beside another field.
-
-// Behind the options stand x0, xend, y0, rtol and atol.
-fn start(
-    head: &Head,
-    work: &mut [f64],
-    pivots: &mut [usize],
-    session: &mut [u8],
-    question: &mut [f64],
-) -> Reply {
-    let n = head.n;
-    let rtol = n + head.nrtol;
-    let atol = rtol + head.natol;
-    let lists = head.place.floats(19);
-    raimsklo::raimsklo_start(
-        head.place.float(17),
-        head.place.float(18),
-        &lists[..n],
-        &lists[n..rtol],
-        &lists[rtol..atol],
-        head.options(),
-        work,
-        pivots,
-        session,
-        question,
-    )
-}
-
-// The answer to the stored reply: its kind, its time and its numbers.
-fn reply(
-    place: &Place,
+// What the host lends to each call of a run: the parts that n states have, for the calls ask for the exact lengths. They
+// are slices: of an array in the struct no part can be lent behind `&mut self` beside another field.
+#[derive(Drop)]
+struct Lent<'a> {
     n: usize,
-    work: &mut [f64],
-    pivots: &mut [usize],
-    session: &mut [u8],
-    question: &mut [f64],
-) -> Reply
-    requires { n ≤ max_states }
-{
-    let kind = place.count(0);
-    let numbers = place.floats(2);
-    let end = reply_size(kind, n);
-    raimsklo::raimsklo_reply(
-        kind,
-        &numbers[..end],
-        place.float(1),
-        work,
-        pivots,
-        session,
-        question,
-    )
+    work: &'a mut [f64],
+    pivots: &'a mut [usize],
+    session: &'a mut [u8],
+    question: &'a mut [f64],
+    ghost few: { n ≤ max_states },
+    ghost asked: { question_length n ≤ length question.now },
 }
 
-// One run, from its start to its last stored answer. The next one stands where the result says.
-fn replay<'a>(
-    head: &Head<'a>,
-    found: &mut Found,
-    work: &mut [f64],
-    pivots: &mut [usize],
-    session: &mut [u8],
-    question: &mut [f64],
-) -> Place<'a>
-    requires { question_length head.now.n ≤ length question.old }
-{
+impl<'a> Lent<'a> {
+    // Behind the options stand x0, xend, y0, rtol and atol.
+    fn start(&mut self, head: &Head) -> Reply {
+        let n = head.n;
+        let rtol = n + head.nrtol;
+        let atol = rtol + head.natol;
+        let lists = head.place.floats(19);
+        raimsklo::raimsklo_start(
+            head.place.float(17),
+            head.place.float(18),
+            &lists[..n],
+            &lists[n..rtol],
+            &lists[rtol..atol],
+            head.options(),
+            self.work,
+            self.pivots,
+            self.session,
+            self.question,
+        )
+    }
+
+    // The answer to the stored reply: its kind, its time and its numbers.
+    fn reply(&mut self, place: &Place) -> Reply {
+        let kind = place.count(0);
+        let numbers = place.floats(2);
+        let end = reply_size(kind, self.n);
+        raimsklo::raimsklo_reply(
+            kind,
+            &numbers[..end],
+            place.float(1),
+            self.work,
+            self.pivots,
+            self.session,
+            self.question,
+        )
+    }
+
+    // Whether this answer is the stored one.
+    fn is_stored(&self, place: &Place, r: Reply) -> bool {
+        answer::is_stored(place, self.n, r, self.question)
+    }
+}
+
+// The run that stands there, from its start to its last stored answer. The next one stands where the result says.
+fn run<'a>(place: Place<'a>, found: &mut Found) -> Place<'a> {
+    let head = Head::read(place);
     let n = head.n;
-    let mut r = start(head, work, pivots, session, question);
-    let mut place = head.answer();
+    let mut work = [0.0; common::WORK_LENGTH];
+    let mut pivots = [0usize; common::MAX_STATES];
+    let mut session = [0u8; common::SESSION_LENGTH];
+    let mut question = [0.0; common::QUESTION_LENGTH];
+    let mut lent = Lent {
+        n,
+        work: &mut work[..common::work_length(n)],
+        pivots: &mut pivots[..n],
+        session: &mut session,
+        question: &mut question[..common::question_length(n)],
+    };
+    let mut r = lent.start(&head);
+    let mut place = head.first_answer();
     // Counted by turns: the number indexes nothing.
     for _ in 0..place.words.len() {
         found.answers = found.answers.saturating_add(1);
-        if !answer::is_stored(&place, n, r, question) {
+        if !lent.is_stored(&place, r) {
             found.differ = found.differ.saturating_add(1);
         }
         let asked = answer::is_asked(&place);
@@ -168,30 +173,10 @@ fn replay<'a>(
         if !asked || place.is_end() {
             break;
         }
-        r = reply(&place, n, work, pivots, session, question);
+        r = lent.reply(&place);
         place = place.after(2 + reply_size(place.count(0), n));
     }
     place
-}
-
-// The run that stands there, in buffers of its lengths.
-fn run<'a>(place: Place<'a>, found: &mut Found) -> Place<'a> {
-    let head = Head::read(place);
-    let n = head.n;
-    let works = common::work_length(n);
-    let asked = common::question_length(n);
-    let mut work = [0.0; common::WORK_LENGTH];
-    let mut pivots = [0usize; common::MAX_STATES];
-    let mut session = [0u8; common::SESSION_LENGTH];
-    let mut question = [0.0; common::QUESTION_LENGTH];
-    replay(
-        &head,
-        found,
-        &mut work[..works],
-        &mut pivots[..n],
-        &mut session,
-        &mut question[..asked],
-    )
 }
 
 fn all(stored: &[u64]) -> Found {

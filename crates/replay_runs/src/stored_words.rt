@@ -35,14 +35,12 @@ impl<'a> Place<'a> {
     }
 
     pub fn word(&self, k: usize) -> u64
-        requires { k ≤ 10000 }
         ensures { result ≡ word_of self.now.words.now (self.now.at + k) }
     {
-        self.words.get(self.at + k).copied().unwrap_or(0)
+        self.words[self.at..].get(k).copied().unwrap_or(0)
     }
 
     pub fn count(&self, k: usize) -> usize
-        requires { k ≤ 10000 }
         ensures { result ≡ word_of self.now.words.now (self.now.at + k) }
     {
         self.word(k) as usize
@@ -51,14 +49,12 @@ impl<'a> Place<'a> {
     // A count that is at most so much.
     #[tactic(auto, unfolding(crate::specs::Words::limited_word))]
     pub fn limited(&self, k: usize, most: usize) -> usize
-        requires { k ≤ 10000 }
         ensures { (result ≡ limited_word self.now.words.now (self.now.at + k) most) × (result ≤ most) }
     {
         self.count(k).min(most)
     }
 
     pub fn float(&self, k: usize) -> f64
-        requires { k ≤ 10000 }
         ensures { result ≡ float_of self.now.words.now (self.now.at + k) }
     {
         numbers::from_bits(self.word(k))
@@ -78,7 +74,6 @@ impl<'a> Place<'a> {
 
     #[tactic(auto, unfolding(crate::specs::Words::is_stored_count))]
     pub fn is_count(&self, k: usize, n: usize) -> bool
-        requires { k ≤ 10000 }
         ensures { result ≡ is_stored_count self.now.words.now (self.now.at + k) n }
     {
         self.word(k) == n as u64
@@ -86,7 +81,6 @@ impl<'a> Place<'a> {
 
     #[tactic(auto, unfolding(crate::specs::Words::is_stored_float))]
     pub fn is_float(&self, k: usize, x: f64) -> bool
-        requires { k ≤ 10000 }
         ensures { result ≡ is_stored_float self.now.words.now (self.now.at + k) x }
     {
         self.word(k) == numbers::to_bits(x)
