@@ -99,9 +99,10 @@ pub fn jacobian(y: &[f64]) -> [f64; STATES * STATES]
     requires { max_states ≤ length y.now }
 {
     let mut j = [0.0; STATES * STATES];
-    // By number: over `y[..LINKS].iter().enumerate()` the bound of i stays unproved.
-    for i in 0..LINKS {
-        link(i, y[i], &mut j);
+    // By `split_at`: of `y[..LINKS]` the length stays unproved, and with it the bound of i.
+    let (angles, _) = y.split_at(LINKS);
+    for (i, a) in angles.iter().enumerate() {
+        link(i, *a, &mut j);
     }
     j
 }

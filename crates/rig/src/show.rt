@@ -1,4 +1,5 @@
-// What the program prints: times and angles in millionths, and a pose bit by bit.
+// What the program prints: times and angles in millionths, and a pose bit by bit. A pose is a slice, as chain.rt says;
+// `frame` has the clause on its length.
 ghost use Rattle.std.specs.Prelude.{◌≤◌, length};
 ghost use Rattle.common.specs.Limits.{max_states};
 

@@ -1,6 +1,6 @@
 // What was seen of a run: its requests one by one, and each report held to them. A report's count is that of the
 // derivatives asked for since the one before, and within the cap of a step with as many Jacobians as were begun in it;
-// a report that is not so is counted as wrong.
+// a report that is not so is counted as wrong. A pose is a slice with a clause on its length, as chain.rt says.
 ghost use Rattle.std.specs.Prelude.{◌≤◌, length};
 ghost use Rattle.common.specs.Limits.{max_states};
 
