@@ -89,8 +89,8 @@ fn reply_size(kind: usize, n: usize) -> usize
     if kind == 2 { square(n) } else { n }
 }
 
-// What the host lends to each call of a run: the parts that n states have, for the calls ask for the exact lengths. They
-// are slices: of an array in the struct no part can be lent behind `&mut self` beside another field.
+// What the host lends to each call of a run: the parts that n states have, since the calls ask for the exact lengths.
+// Slices: of an array in the struct no part can be lent behind `&mut self` beside another field.
 #[derive(Drop)]
 struct Lent<'a> {
     n: usize,
