@@ -76,7 +76,7 @@ fn correct_adams(s: Settings, c: Common, work: &mut [f64]) -> f64
 }
 
 // BDF: y = h·savf - (column 1 + acor).
-#[tactic(auto, using(loops::proofs::For::turns), unfolding(crate::specs::Iterate::bdf_residual_of))]
+#[tactic(auto, using(loops::proofs::Split::right_turns), unfolding(crate::specs::Iterate::bdf_residual_of))]
 fn bdf_residual(work: &mut [f64], n: usize, h: f64)
     requires { matrix_at n ≤ length work.old }
     ensures { work.new ≡ bdf_residual_of n h work.old }

@@ -56,7 +56,7 @@ fn exchange(a: &mut [f64], n: usize, k: usize, p: usize)
 }
 
 // Column k below the diagonal, divided by the diagonal's entry.
-#[tactic(auto, using(loops::proofs::For::turns), unfolding(crate::specs::Factor::scale_of))]
+#[tactic(auto, using(loops::proofs::Split::part_turns), unfolding(crate::specs::Factor::scale_of))]
 fn scale(a: &mut [f64], n: usize, k: usize)
     requires { (k < n) × (k * n + n ≤ length a.old) }
     ensures { a.new ≡ scale_of n k a.old }

@@ -72,7 +72,7 @@ pub fn perturb(s: Settings, c: Common, work: &mut [f64], j: usize)
 }
 
 // Column j of the matrix from the derivative in ftem at the moved state.
-#[tactic(auto, using(loops::proofs::For::turns), unfolding(crate::specs::Jacobian::difference_of))]
+#[tactic(auto, using(loops::proofs::Split::right_turns), unfolding(crate::specs::Jacobian::difference_of))]
 fn difference_column(work: &mut [f64], n: usize, j: usize, fac: f64)
     requires { (j * n + n ≤ n * n) × (work_length n ≤ length work.old) }
     ensures { work.new ≡ difference_of n j fac work.old }
