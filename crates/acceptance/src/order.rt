@@ -1,9 +1,9 @@
 // The order choice of an accepted step, as in `stoda`: the factors that three orders allow, and the one that is taken.
 // set_raised counts an index: it writes a part that stands between the two that it reads, so the slice would have to be
 // split twice first.
-ghost use Rattle.std.specs.Prelude.{◌≡◌, ◌+◌, ◌≤◌, length};
+ghost use Rattle.std.specs.Prelude.{◌≡◌, ◌+◌, ◌*◌, ◌≤◌, length};
 ghost use Rattle.common.specs.Limits.{max_states};
-ghost use Rattle.common.specs.Layout.{matrix_at};
+ghost use Rattle.common.specs.Layout.{matrix_at, acor_at};
 ghost use Rattle.common.specs.Ranges.{StepInRange};
 ghost use Rattle.common.specs.Record.{with_ialth};
 ghost use Rattle.acceptance.specs.Order.{Settled, raised_work_of, raised_left_of, raised_size_of, lowered_size_of};
@@ -92,9 +92,9 @@ fn limited_factors(c: Common, f: Factors) -> Factors
 }
 
 // The column of the order that is raised to: the correction times el[nq] / l.
-#[tactic(auto, using(loops::proofs::For::turns), unfolding(crate::specs::Order::raise_column_of))]
+#[tactic(auto, using(loops::proofs::Split::left_turns), unfolding(crate::specs::Order::raise_column_of))]
 fn set_column(work: &mut [f64], n: usize, j: usize, r: f64)
-    requires { (j ≤ 12) × (n ≤ max_states) × (matrix_at n ≤ length work.old) }
+    requires { (j * n + n ≤ acor_at n) × (matrix_at n ≤ length work.old) }
     ensures { work.new ≡ raise_column_of n j r work.old }
 {
     let (columns, vectors) = work.split_at_mut(common::ACOR * n);
@@ -160,6 +160,7 @@ fn raise(s: Settings, c: Common, up: f64, work: &mut [f64]) -> Chosen
         return wait(Branch::SmallGain, c);
     }
     let r = c.el(s, c.nq) / l as u32 as f64;
+    #[tactic(auto, using(loops::proofs::For::within))]
     set_column(work, s.n, l, r);
     settle(s, c, Proposal { order: l, rh: up }, Branch::Raised, work)
 }

@@ -106,7 +106,7 @@ pub fn rescale_columns(yh: &mut [f64], n: usize, l: usize, rh: f64)
 }
 
 // Column j plus e times the vector at `at`.
-#[tactic(auto, using(loops::proofs::For::turns), unfolding(crate::specs::Columns::add_scaled_of))]
+#[tactic(auto, using(loops::proofs::Split::left_turns), unfolding(crate::specs::Columns::add_scaled_of))]
 fn add_scaled(work: &mut [f64], n: usize, j: usize, e: f64, at: usize)
     requires { (j * n + n ≤ at) × (at + n ≤ length work.old) }
     ensures { work.new ≡ add_scaled_of n j e at work.old }
@@ -142,7 +142,7 @@ pub fn copy_part(work: &mut [f64], n: usize, to: usize, from: usize)
 }
 
 // Column 1 becomes h times the derivative savf.
-#[tactic(auto, using(loops::proofs::For::turns), unfolding(crate::specs::Columns::slope_of))]
+#[tactic(auto, using(loops::proofs::Split::left_turns), unfolding(crate::specs::Columns::slope_of))]
 pub fn set_slope(work: &mut [f64], n: usize, h: f64)
     requires { matrix_at n ≤ length work.old }
     ensures { work.new ≡ slope_of n h work.old }
