@@ -123,48 +123,59 @@ pub fn dense_lu_factor(a: &mut [f64], n: usize, ipiv: &mut [usize]) -> Result<()
     Ok(())
 }
 
-// Rows lo..hi of the right side, less their multiples of row k, whose entry bk is read once: the published code reads
-// it in every turn of the loop, where it does not change.
-#[tactic(auto, using(loops::proofs::For::turns), unfolding(crate::specs::Solve::less_of))]
-fn less(work: &mut [f64], n: usize, a: usize, b: usize, k: usize, bk: f64, lo: usize, hi: usize)
-    requires { (hi ≤ n) × (b + n ≤ a) × (a + (k * n + n) ≤ length work.old) }
-    ensures { work.new ≡ less_of n a b k bk lo hi work.old }
-{
-    for i in lo..hi {
-        work[b + i] -= work[a + (i + k * n)] * bk;
-    }
+// The equations that are solved: the right side is the n numbers at b, and the factors begin at a, behind it.
+#[derive(Clone, Copy)]
+struct System {
+    n: usize,
+    a: usize,
+    b: usize,
+    ghost behind: { b + n ≤ a },
 }
 
-// Each row's exchange, then its elimination.
-#[tactic(auto, using(loops::proofs::For::turns), unfolding(crate::specs::Solve::forward_all_of))]
-fn forward_all(work: &mut [f64], n: usize, a: usize, ipiv: &[usize], b: usize)
-    requires n_bound { (b + n ≤ a) × (a + n * n ≤ length work.old) × (n ≤ length ipiv.now) }
-    requires by_index { (k : ℕ) → k < n → get_or ipiv.now k 0 < n }
-    ensures { work.new ≡ forward_all_of n a ipiv.now b work.old }
-{
-    for k in 0..n {
-        work.swap(b + k, b + ipiv[k]);
-        let bk = work[b + k];
-        less(work, n, a, b, k, bk, k + 1, n);
+impl System {
+    // Rows lo..hi of the right side, less their multiples of row k, whose entry bk is read once: the published code
+    // reads it in every turn of the loop, where it does not change.
+    #[tactic(auto, using(loops::proofs::For::turns), unfolding(crate::specs::Solve::less_of))]
+    fn less(self, work: &mut [f64], k: usize, bk: f64, lo: usize, hi: usize)
+        requires { (hi ≤ self.n) × (self.a + (k * self.n + self.n) ≤ length work.old) }
+        ensures { work.new ≡ less_of self.n self.a self.b k bk lo hi work.old }
+    {
+        for i in lo..hi {
+            work[self.b + i] -= work[self.a + (i + k * self.n)] * bk;
+        }
     }
-}
 
-// Row k divided by its diagonal entry, and the rows above it less their multiples. Where the diagonal is zero nothing
-// has changed.
-#[tactic(auto, unfolding(crate::specs::Solve::backward_of))]
-fn backward_step(work: &mut [f64], n: usize, a: usize, b: usize, k: usize) -> Result<(), Singular>
-    requires { (k < n) × (b + n ≤ a) × (a + n * n ≤ length work.old) }
-    ensures { let next = backward_at n a b k (record { work = work.old; ok = true }) in
-        (work.new ≡ next.work) × (result ≡ outcome_of next.ok) }
-{
-    let diag = work[a + (k + k * n)];
-    if diag == 0.0 {
-        return Err(Singular);
+    // Each row's exchange, then its elimination.
+    #[tactic(auto, using(loops::proofs::For::turns), unfolding(crate::specs::Solve::forward_all_of))]
+    fn forward_all(self, work: &mut [f64], ipiv: &[usize])
+        requires n_bound { (self.a + self.n * self.n ≤ length work.old) × (self.n ≤ length ipiv.now) }
+        requires by_index { (k : ℕ) → k < self.n → get_or ipiv.now k 0 < self.n }
+        ensures { work.new ≡ forward_all_of self.n self.a ipiv.now self.b work.old }
+    {
+        for (k, pivot) in ipiv[..self.n].iter().enumerate() {
+            work.swap(self.b + k, self.b + *pivot);
+            let bk = work[self.b + k];
+            self.less(work, k, bk, k + 1, self.n);
+        }
     }
-    let bk = work[b + k] / diag;
-    work[b + k] = bk;
-    less(work, n, a, b, k, bk, 0, k);
-    Ok(())
+
+    // Row k divided by its diagonal entry, and the rows above it less their multiples. Where the diagonal is zero
+    // nothing has changed.
+    #[tactic(auto, unfolding(crate::specs::Solve::backward_of))]
+    fn backward_step(self, work: &mut [f64], k: usize) -> Result<(), Singular>
+        requires { (k < self.n) × (self.a + self.n * self.n ≤ length work.old) }
+        ensures { let next = backward_at self.n self.a self.b k (record { work = work.old; ok = true }) in
+            (work.new ≡ next.work) × (result ≡ outcome_of next.ok) }
+    {
+        let diag = work[self.a + (k + k * self.n)];
+        if diag == 0.0 {
+            return Err(Singular);
+        }
+        let bk = work[self.b + k] / diag;
+        work[self.b + k] = bk;
+        self.less(work, k, bk, 0, k);
+        Ok(())
+    }
 }
 
 // The right side replaced by the solution, from the last row up, or as far as it went at a zero diagonal. Both lie in
@@ -182,9 +193,10 @@ pub fn dense_lu_solve(
     ensures { (work.new ≡ (solve_of n a ipiv.now b work.old).work)
         × (result ≡ outcome_of (solve_of n a ipiv.now b work.old).ok) }
 {
-    forward_all(work, n, a, ipiv, b);
+    let s = System { n, a, b };
+    s.forward_all(work, ipiv);
     for k in (0..n).rev() {
-        backward_step(work, n, a, b, k)?;
+        s.backward_step(work, k)?;
     }
     Ok(())
 }

@@ -2,8 +2,9 @@
 use mathlib.Core.Path.{◌≡◌}
 use Rattle.loops.specs.For.{for}
 use Rattle.dense.specs.Solve.{forward_step_of, forward_all_of}
-use Rattle.dense.proofs.forward_all.Given as goal
+use Rattle.dense.proofs.System.forward_all.Given as goal
 
 abbrev pub invariant-loop-k : goal.invariant-loop-k
 invariant-loop-k l =
-    for l.k l.n (forward_step_of l.n l.a l.ipiv l.b) l.work ≡ forward_all_of l.n l.a l.ipiv l.b l.initial.work
+    let s = l.self in
+    for l.k l.k-end (forward_step_of s.n s.a l.ipiv s.b) l.work ≡ forward_all_of s.n s.a l.ipiv s.b l.initial.work

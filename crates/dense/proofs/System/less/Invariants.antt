@@ -2,8 +2,9 @@
 use mathlib.Core.Path.{◌≡◌}
 use Rattle.loops.specs.For.{for}
 use Rattle.dense.specs.Solve.{less_at, less_of}
-use Rattle.dense.proofs.less.Given as goal
+use Rattle.dense.proofs.System.less.Given as goal
 
 abbrev pub invariant-loop-i : goal.invariant-loop-i
 invariant-loop-i l =
-    for l.i l.hi (less_at l.n l.a l.b l.k l.bk) l.work ≡ less_of l.n l.a l.b l.k l.bk l.lo l.hi l.initial.work
+    let s = l.self in
+    for l.i l.hi (less_at s.n s.a s.b l.k l.bk) l.work ≡ less_of s.n s.a s.b l.k l.bk l.lo l.hi l.initial.work
