@@ -1,9 +1,9 @@
 -- What callers need of the definitions: a factoring and a solve keep every length, a factoring leaves every pivot
 -- below n if all were before, and a solve leaves every entry outside the right side. Each follows from one turn
 -- of each loop (`keeps`, `length-for`). What the answers say of the flag: `ok-done`, `ok-singular`,
--- `told`, `singular`.
+-- `told`, `singular`. What attributes of functions name: `exchanges`, `eliminations`.
 -- Assumes nothing.
-use mathlib.Core.Path.{◌≡◌, refl, ◌∙◌}
+use mathlib.Core.Path.{◌≡◌, refl, sym, ◌∙◌}
 use mathlib.Core.List.{List, [], ◌∷◌}
 use mathlib.Core.Bool.{Bool, true, false}
 use mathlib.Core.Logic.{◌⊎◌, ⊎_elim}
@@ -11,11 +11,14 @@ use Prim.Native.Nat.{ℕ, zero, suc, ◌+◌, ◌-◌, ◌<◌, ◌≤◌}
 use native.Mathlib.Omega.{arith}
 use lib.Dec.{eqb}
 use lib.ListN.{length, get_or, set, length-set}
-use lib.Seq.{get_or-set_other}
+use lib.Seq.{get_or-set_other, length-take-le, get_or-take}
 use lib.Ieee as Ieee
 use lib.Ieee.{Float, nan}
 use Rattle.std.specs.Prelude.{Result, Ok, Err, IsErr, is_ok}
+use Rattle.std.specs.List.{swap}
+use Rattle.std.proofs.lemmas.List.{set-get_or}
 use Rattle.std.proofs.lemmas.List.Edits.{swap_is}
+use Rattle.std.proofs.lemmas.Bool.Decides.{eqb_tells}
 use borrow.Author.Tests.{ne_eqb}
 use Rattle.loops.proofs.For.{keeps, onward, ended}
 use Rattle.loops.proofs.Stores.{length-for}
@@ -25,7 +28,7 @@ use Rattle.numbers.specs.Sign.{abs_of}
 use Rattle.dense.specs.declared.Pivot.{Pivot}
 use Rattle.dense.specs.Factor.{entry, pick_row, pivot_of, swap_at, swap_of, exchange_of, scale_at, scale_of}
 use Rattle.dense.specs.Factor.{column_at, column_of, eliminate_of, Factors, step_of, factor_of}
-use Rattle.dense.specs.Solve.{entry_at, less_at, less_of, forward_step_of, forward_all_of, backward_of}
+use Rattle.dense.specs.Solve.{swap_entries_of, entry_at, less_at, less_of, forward_step_of, forward_all_of, backward_of}
 use Rattle.dense.specs.Solve.{Solution, backward_step_of, solve_of, outcome_of}
 use Rattle.dense.specs.declared.Singular.{Singular}
 
@@ -186,5 +189,25 @@ module _ (n a : ℕ) (ipiv : List ℕ) (b : ℕ) (work : List Float) where
       solve-keeps n a ipiv b (λ p. j ≡ p → ⊥) (λ s. get_or s j nan ≡ get_or work j nan)
       (λ p x s q e. get_or-set_other s p j x nan q ∙ e) other (λ k h. other (get_or ipiv k 0) (below k h)) work refl
 
--- a loop that exchanges entries of two rows, for a function's attribute
+-- an entry that changes places with itself stays
+swapped : (k p : ℕ) (work : List Float) → k < length work → p < length work
+    → swap_entries_of k p work ≡ swap work k p
+swapped k p work low high =
+    let two = swap_is work k p nan low high in
+    ⊎_elim
+    (λ e. let same : swap work k k ≡ work = sym (swap_is work k k nan low low) ∙ simp (set-get_or work k nan) in
+    rw (e.0, e.1) (sym same))
+    (λ e. rw e.0 two)
+    (eqb_tells p k)
+
+-- a row's exchange and elimination, with std's `swap`
+pub forward-step : (n a b k : ℕ) (ipiv : List ℕ) (work : List Float) → b + k < length work
+    → b + get_or ipiv k 0 < length work → let w = swap work (b + k) (b + get_or ipiv k 0) in
+    forward_step_of n a ipiv b k work ≡ less_of n a b k (get_or w (b + k) nan) (k + 1) n w
+unfolding forward_step_of
+forward-step n a b k ipiv work low high = rw (swapped (b + k) (b + get_or ipiv k 0) work low high) refl
+
+-- for a function's attribute: a loop that exchanges entries of two rows, and one that exchanges two and eliminates
 pub ruleset exchanges = (onward, ended, swap_is, ne_eqb)
+
+pub ruleset eliminations = (onward, ended, forward-step, get_or-take, length-take-le)

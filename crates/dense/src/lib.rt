@@ -3,8 +3,8 @@
 // The solve works on one slice that has the right side at b and the matrix at a.
 // Loops by index: `column` and `less` read one part of the slice that they write another of (by `split_at_mut` both
 // prove, with two lines and three ranges more, and the factoring takes 1 to 4 percent more instructions), and the
-// others hand on, or answer, the row or column that they are at. A struct of a and n would hold a `&mut` whose name
-// each contract had to keep.
+// others hand on, or answer, the row or column that they are at. A struct of the factoring's a and n would hold a
+// `&mut` whose name each contract had to keep.
 #![tactic(auto)]
 
 ghost use Rattle.std.specs.Prelude.{◌≡◌, true, ℕ, ◌+◌, ◌*◌, ◌<◌, ◌≤◌, length, get_or};
@@ -146,7 +146,7 @@ impl System {
     }
 
     // Each row's exchange, then its elimination.
-    #[tactic(auto, using(loops::proofs::For::turns), unfolding(crate::specs::Solve::forward_all_of))]
+    #[tactic(auto, using(crate::proofs::Laws::eliminations), unfolding(crate::specs::Solve::forward_all_of))]
     fn forward_all(self, work: &mut [f64], ipiv: &[usize])
         requires n_bound { (self.a + self.n * self.n ≤ length work.old) × (self.n ≤ length ipiv.now) }
         requires by_index { (k : ℕ) → k < self.n → get_or ipiv.now k 0 < self.n }
