@@ -2,8 +2,7 @@
 // the verdict on it: converged, a further derivative, a retry with a new Jacobian, no convergence.
 // Three loops count a state's index: each writes two parts of the work, and however the slice is split first, one of
 // the two would still be written by index.
-// That each pivot is below n stays a clause (`by_index`): the pivots are a lent slice, and crate dense says why n, a
-// matrix and pivots are no struct.
+// That each pivot is below n stays a clause (`by_index`): the head of crate dense says why.
 // Settings, record and work stay parameters, with a clause on each one's range: the head of crate history says why.
 #![tactic(auto)]
 

@@ -205,7 +205,7 @@ pub fn fnorm_dense(n: usize, a: &[f64], w: &[f64]) -> Norm
 }
 
 // The weights rtol·|y| + atol of the n numbers at the start of work, written at `at`.
-#[tactic(auto, using(loops::proofs::For::turns), unfolding(crate::specs::Weights::ewset_of))]
+#[tactic(auto, using(loops::proofs::Split::right_turns), unfolding(crate::specs::Weights::ewset_of))]
 pub fn ewset(rtol: &[f64], atol: &[f64], work: &mut [f64], n: usize, at: usize)
     requires list1or_n { List1OrN rtol.now (n - 1) }
     requires list1or_n_2 { List1OrN atol.now (n - 1) }
@@ -220,7 +220,7 @@ pub fn ewset(rtol: &[f64], atol: &[f64], work: &mut [f64], n: usize, at: usize)
 }
 
 // The weights after a modified reply, max(|y|, 2^-52), written at `at`.
-#[tactic(auto, using(loops::proofs::For::turns), unfolding(crate::specs::Weights::ewset_like_of))]
+#[tactic(auto, using(loops::proofs::Split::right_turns), unfolding(crate::specs::Weights::ewset_like_of))]
 pub fn ewset_scalar_like(work: &mut [f64], n: usize, at: usize)
     requires { (n ≤ at) × (at + n ≤ length work.old) }
     ensures { work.new ≡ ewset_like_of n at work.old }
