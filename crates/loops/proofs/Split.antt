@@ -2,7 +2,7 @@
 -- there is to store in s. The list may be cut in two, as `split_at_mut` cuts a slice, with the part in one side.
 --     part_turns    the list is whole
 --     left_turns    the part is of the left side; `beyond` reads the right one
---     right_turns   it is of the right side, or begins it; the left one is read, whole or lent from a place on (`ahead`)
+--     right_turns   it is of the right side, or begins it; the left one is read, whole or from a place on (`ahead`)
 -- Each set is for an attribute: with it a check proves a turn without an answer. Where a law has x ≡ y, x is what the
 -- turn of the whole stores, and y what the code does. Assumes nothing.
 use mathlib.Core.Path.{◌≡◌, refl, sym, ◌∙◌}
