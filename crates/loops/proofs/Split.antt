@@ -50,17 +50,14 @@ module _ {A : Type 0} (left right s : List A) (first m j p : ℕ) (place : p ≡
   inner : p - length left ≡ first + j
   inner = omega arith
 
-  pub right-set : (x : A) → set (left ++ put_part first m right s) p x ≡ left ++ put_part first m right (set s j x)
-  right-set x =
-      rw (
-        set-append_right left (put_part first m right s) (length left) p x refl (omega arith),
-        part-set right s first m j (p - length left) inner room h x x refl,
-      )
-      refl
-
   pub right-stored : (x y : A) → x ≡ y
       → set (left ++ put_part first m right s) p x ≡ left ++ put_part first m right (set s j y)
-  right-stored x y e = right-set x ∙ rw e refl
+  right-stored x y e =
+      rw (
+        set-append_right left (put_part first m right s) (length left) p x refl (omega arith),
+        part-set right s first m j (p - length left) inner room h x y e,
+      )
+      refl
 
 pub front-stored : {A : Type 0} (left s rest : List A) (j p : ℕ) → p ≡ length left + j → j < length s
     → (x y : A) → x ≡ y → set (left ++ (s ++ rest)) p x ≡ left ++ (set s j y ++ rest)
