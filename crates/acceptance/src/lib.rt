@@ -136,6 +136,7 @@ pub fn close(g: &Problem, c: Common, order: usize, work: &mut [f64]) -> Result<(
     let n = g.settings.n;
     let r = 1.0 / coefficients::tesco(c.table, order, 1);
     history::scale(&mut work[common::ACOR * n..common::Y * n], r);
+    #[tactic(auto, using(common::proofs::Lists::one_or_n))]
     vectors::ewset(g.rtol, g.atol, work, n, common::EWT * n);
     vectors::invert_weights(&mut work[common::EWT * n..common::SAVF * n])
 }

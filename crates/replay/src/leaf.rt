@@ -210,6 +210,7 @@ fn length_of(heads: &[u64], k: usize, limit: usize) -> usize
 }
 
 // The list becomes what is stored from `at` on.
+#[tactic(auto, using(loops::proofs::For::turns), unfolding(crate::specs::Leaf::leaf_list))]
 fn get<T: Word>(stored: &[u64], at: usize, list: &mut [T])
     requires { at + length list.old ≤ 1000000 }
     ensures { list.new ≡ leaf_list T.read stored.now at list.old }

@@ -77,6 +77,7 @@ pub fn first_derivative(g: &Problem, c: Common, f: &[f64], work: &mut [f64]) -> 
     between_steps::take_first(f, work);
     let w = common::EWT * n;
     let we = common::SAVF * n;
+    #[tactic(auto, using(common::proofs::Lists::one_or_n))]
     vectors::ewset(g.rtol, g.atol, work, n, w);
     match vectors::invert_weights(&mut work[w..we]) {
         Ok(()) => {

@@ -7,6 +7,5 @@ use Rattle.replay.proofs.leaf.get.Given as goal
 
 abbrev pub invariant-loop-i : goal.invariant-loop-i
 invariant-loop-i g l =
-    (length l.list ≡ length l.initial.list)
-    × (for l.i (length l.initial.list) (stored_at g.T.Word.read l.stored l.at) l.list
-    ≡ leaf_list g.T.Word.read l.stored l.at l.initial.list)
+    for l.i (length l.initial.list) (stored_at g.T.Word.read l.stored l.at) l.list
+    ≡ leaf_list g.T.Word.read l.stored l.at l.initial.list
