@@ -53,6 +53,7 @@ fn repredict(s: Settings, c: Common, rh: f64, work: &mut [f64]) -> Common
         (repredict_of s c rh work.old) }
 {
     let d = history::stoda_adjust_step_size(s, c, rh, work);
+    #[tactic(auto, using(history::proofs::Laws::in_range), unfolding(history::specs::Steps::adjust_of))]
     history::stoda_get_predicted_values(s, d, work)
 }
 
@@ -151,7 +152,7 @@ fn missed(s: Settings, c: Common, dsm: f64, work: &mut [f64]) -> Attempted
 }
 
 // The error is above 1.
-#[tactic(auto, unfolding(crate::specs::Attempt::failed_of))]
+#[tactic(auto, unfolding(crate::specs::Attempt::failed_of, crate::specs::Attempt::overshot_of))]
 pub fn error_failure(s: Settings, c: Common, dsm: f64, work: &mut [f64]) -> Attempted
     requires step_in_range { StepInRange s c }
     requires kflag_bound { (c.kflag ≤ 9) × (c.rejected < 2 ^ 63) }
@@ -164,6 +165,7 @@ pub fn error_failure(s: Settings, c: Common, dsm: f64, work: &mut [f64]) -> Atte
         kflag: c.kflag + 1,
         ..retract(s, c, work)
     };
+    #[tactic(auto, using(history::proofs::Laws::in_range), unfolding(crate::specs::Attempt::retracted_of))]
     missed(s, d, dsm, work)
 }
 
@@ -186,5 +188,6 @@ pub fn restep(s: Settings, c: Common, work: &mut [f64]) -> Common
     } else {
         Common { nq: 1, ..d }.stoda_reset(s)
     };
+    #[tactic(auto, using(history::proofs::Laws::in_range), unfolding(common::specs::Rules::reset_of))]
     history::stoda_get_predicted_values(s, e, work)
 }

@@ -133,3 +133,6 @@ in-range-predicted s c p = same-range _ refl refl refl refl p
 pub in-range-adjust : (s : Settings) (c : Common) (rh : Float) → StepInRange s c → StepInRange s (adjust_of c rh)
 unfolding adjust_of
 in-range-adjust s c rh p = same-range _ refl refl refl refl p
+
+-- for a function's attribute: the range of a record that a step's function is given
+pub ruleset in_range = (same-range, own-range)
