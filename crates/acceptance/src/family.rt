@@ -151,9 +151,11 @@ fn to_adams(s: Settings, c: Common, dsm: f64, work: &[f64]) -> Change
         return Change::Gap;
     }
     let AdamsProposal { error, proposal: p } = adams_proposal(s, c, dsm, work);
+    #[tactic(auto, unfolding(crate::specs::Family::adams_proposal_of))]
     let rh1 = within_stability(p.rh, c.pdnorm * numbers::abs(c.h), p.order);
     let rh2 = size(1.2, 1.2e-6, dsm, c.nq + 1);
     if rh1 * 5.0 >= 5.0 * rh2 {
+        #[tactic(auto, unfolding(crate::specs::Family::adams_proposal_of))]
         let dm1 = root::root(numbers::max(rh1, 0.001), p.order + 1).value * error;
         if dm1 > 1000.0 * 2.220446049250313e-16 * c.pnorm {
             return Change::To(Proposal {

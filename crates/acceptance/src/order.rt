@@ -141,6 +141,7 @@ fn settle(s: Settings, c: Common, p: Proposal, branch: Branch, work: &mut [f64])
     } else {
         Common { nq: p.order, ..c }.stoda_reset(s)
     };
+    #[tactic(auto, using(history::proofs::Laws::in_range), unfolding(common::specs::Rules::reset_of))]
     Chosen {
         branch,
         common: history::stoda_adjust_step_size(s, d, rh, work),

@@ -82,6 +82,7 @@ pub fn no_convergence(s: Settings, c: Common, work: &mut [f64]) -> Attempted
         ..d
     };
     let rh = numbers::max(0.25, history::least(e));
+    #[tactic(auto, using(history::proofs::Laws::in_range), unfolding(crate::specs::Attempt::retracted_of))]
     Attempted {
         next: Next::Pass,
         common: repredict(s, e, rh, work),

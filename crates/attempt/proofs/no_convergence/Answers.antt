@@ -2,17 +2,12 @@
 -- Assumes nothing.
 use native.Mathlib.Omega.{arith}
 use Rattle.std.proofs.lemmas.Grind.{common_steps}
-use Rattle.history.proofs.Laws.{same-range}
 use Rattle.attempt.specs.Attempt.{retracted_of, unconverged_of, quartered_of, no_convergence_at, no_convergence_of}
 use Rattle.attempt.proofs.no_convergence.Goals as goal
 
 pub returns-then-is_tiny : goal.returns-then-is_tiny
 unfolding no_convergence_of no_convergence_at unconverged_of retracted_of
 returns-then-is_tiny c = grind (arith, common_steps)
-
-pub repredict-requires-clause-step_in_range : goal.repredict-requires-clause-step_in_range
-unfolding retracted_of
-repredict-requires-clause-step_in_range c = grind (arith, same-range)
 
 pub returns : goal.returns
 unfolding no_convergence_of no_convergence_at unconverged_of retracted_of quartered_of
