@@ -1,4 +1,5 @@
--- What the proofs pass on: a change of family goes to an order from 1 to the one in force (`change-within`).
+-- What the proofs pass on: a change of family goes to an order from 1 to the one in force (`change-within`; `change_order`
+-- for a function's attribute).
 -- Assumes nothing.
 use mathlib.Core.Path.{◌≡◌, refl}
 use mathlib.Core.Bool.{Bool, true, false, cond}
@@ -73,3 +74,7 @@ module _ (s : Settings) (c : Common) (dsm : Float) (work : List Float) (one : 1 
   pub change-within : order_within c.nq (change_of s c dsm work)
   unfolding change_of
   change-within = change-in-within c.meth
+
+  pub change_order : (to : Proposal) → change_of s c dsm work ≡ To to → (1 ≤ to.order) × (to.order ≤ c.nq)
+  unfolding order_within
+  change_order to e = rw e at change-within

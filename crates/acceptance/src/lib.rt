@@ -101,6 +101,7 @@ fn test_family(s: Settings, c: Common, dsm: f64, work: &mut [f64]) -> Chosen
             branch: Branch::CoefficientGap,
             common: c,
         },
+        #[tactic(auto, using(crate::proofs::ChangeOrder::change_order))]
         Change::To(to) => Chosen {
             branch: Branch::FamilyChanged,
             common: family::change_family(s, c, to, work),

@@ -105,6 +105,7 @@ fn error_test(g: &Problem, c: Common, del: f64, work: &mut [f64]) -> Turn
 {
     let dsm = attempt::error(g.settings, c, del, work);
     if dsm > 1.0 {
+        #[tactic(auto, using(attempt::proofs::Laws::failed))]
         attempted(
             attempt::error_failure(g.settings, c, dsm, work),
             g.settings.n,
@@ -122,6 +123,7 @@ fn pass_failed(s: Settings, c: Common, work: &mut [f64]) -> Turn
     ensures { (p : List ℕ) → run_state result work.new p
         ≡ pass_failed_of s (state c work.old p) }
 {
+    #[tactic(auto, using(attempt::proofs::Laws::unconverged))]
     attempted(attempt::no_convergence(s, c, work), s.n, work)
 }
 
@@ -307,5 +309,6 @@ pub fn restep_reply(s: Settings, c: Common, f: &[f64], work: &mut [f64]) -> Turn
 {
     history::store(work, common::SAVF * s.n, f);
     let d = attempt::restep(s, c, work);
+    #[tactic(auto, using(attempt::proofs::Laws::restepped))]
     questions::open_pass(d, s.n, work)
 }
