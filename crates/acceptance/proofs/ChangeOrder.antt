@@ -1,5 +1,5 @@
--- What the proofs pass on: a change of family goes to an order from 1 to the one in force (`change-within`; `change_order`
--- for a function's attribute).
+-- What the proofs pass on: a change of family goes to an order from 1 to the one in force (`change-within`, and
+-- `change_order` for an attribute).
 -- Assumes nothing.
 use mathlib.Core.Path.{◌≡◌, refl}
 use mathlib.Core.Bool.{Bool, true, false, cond}

@@ -88,6 +88,7 @@ fn accepted(g: &Problem, c: Common, dsm: f64, work: &mut [f64]) -> Turn
         ≡ accepted_of (given_by g.now) (state c work.old p) dsm }
 {
     let chosen = acceptance::accept(g.settings, c, dsm, work);
+    #[tactic(auto, using(crate::proofs::PassInside::accepted))]
     match chosen.branch {
         Branch::CoefficientGap => questions::finish(chosen.common, Status::CoefficientGap),
         // every other branch ends the step
@@ -128,7 +129,7 @@ fn pass_failed(s: Settings, c: Common, work: &mut [f64]) -> Turn
 }
 
 // One iteration, and what its verdict leads to.
-#[tactic(auto, using(crate::proofs::PassInside::inside_judged))]
+#[tactic(auto, unfolding(crate::specs::Pass::iterate_of, crate::specs::Pass::concluded_at))]
 fn iterate(g: &Problem, c: Common, work: &mut [f64], ipiv: &[usize]) -> Turn
     requires inside { Inside g.now.settings c }
     requires lent { Lent g.now.settings.n work.old ipiv.now }
@@ -141,6 +142,7 @@ fn iterate(g: &Problem, c: Common, work: &mut [f64], ipiv: &[usize]) -> Turn
     let pnorm = history::norm_at(work, n, 0).value;
     let verdict = corrector::judge(g.settings, c, x, pnorm);
     let d = verdict.common;
+    #[tactic(auto, using(crate::proofs::PassInside::inside_judged))]
     match verdict.pass {
         // an iteration that is refused does not converge
         Pass::Converged => error_test(g, d, x.unwrap_or(0.0), work),
@@ -162,6 +164,7 @@ fn iterations(g: &Problem, c: Common, work: &mut [f64], ipiv: &[usize]) -> Turn
     let a = common::ACOR * n;
     let e = common::Y * n;
     let d = corrector::open_iterations(c, &mut work[a..e]);
+    #[tactic(auto, unfolding(corrector::specs::Iterate::open_of))]
     iterate(g, d, work, ipiv)
 }
 
@@ -176,6 +179,7 @@ fn matrix_done(g: &Problem, c: Common, work: &mut [f64], ipiv: &mut [usize]) -> 
         (state c work.old ipiv.old) }
 {
     let f = jacobian::finish_jacobian(g.settings, c, work, ipiv);
+    #[tactic(auto, using(crate::proofs::PassInside::factored))]
     match f.outcome {
         Ok(()) => iterations(g, f.common, work, ipiv),
         Err(_) => pass_failed(g.settings, f.common, work),
@@ -209,13 +213,14 @@ fn ask_jacobian(s: Settings, c: Common, work: &mut [f64]) -> Turn
     let d = jacobian::begin_jacobian(c);
     if c.meth.is_bdf() && s.supplied {
         Turn {
-            question: Question::Jacobian(At { time: c.tn }),
+            question: Question::Jacobian(At { time: d.tn }),
             phase: Phase::JacobianAsked,
             common: d,
         }
     } else {
         let n = s.n;
         history::copy_part(work, n, common::Y_FD * n, common::Y * n);
+        #[tactic(auto, unfolding(jacobian::specs::Jacobian::begin_of))]
         ask_column(s, d, 0, work)
     }
 }

@@ -167,6 +167,7 @@ fn begin_step(s: Settings, c: Common, work: &mut [f64]) -> Turn
     requires n_in_bounds { matrix_at s.n ≤ length work.old }
     ensures { (p : List ℕ) → run_state result work.new p ≡ began_of s (state c work.old p) }
 {
+    #[tactic(auto, using(crate::proofs::Counts::first_counts))]
     open_pass(between_steps::first_prediction(s, c, work), s.n, work)
 }
 
