@@ -1,5 +1,5 @@
 // The family test of an accepted step, as in `stoda`, with the sizes that it shares with the order choice, and the
-// change of family.
+// change of family. Settings, record and the error dsm stay apart: the head of lib.rt says why.
 ghost use Rattle.std.specs.Prelude.{◌≡◌, ◌≤◌, length};
 ghost use Rattle.common.specs.Limits.{max_states};
 ghost use Rattle.common.specs.Layout.{matrix_at};

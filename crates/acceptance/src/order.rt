@@ -1,6 +1,7 @@
 // The order choice of an accepted step, as in `stoda`: the factors that three orders allow, and the one that is taken.
 // set_raised counts an index: it writes a part that stands between the two that it reads, so the slice would have to be
 // split twice first.
+// Settings, record and the error dsm stay apart: the head of lib.rt says why.
 ghost use Rattle.std.specs.Prelude.{◌≡◌, ◌+◌, ◌*◌, ◌≤◌, length};
 ghost use Rattle.common.specs.Limits.{max_states};
 ghost use Rattle.common.specs.Layout.{matrix_at, acor_at};

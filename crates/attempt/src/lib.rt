@@ -1,6 +1,7 @@
 // A step's attempts that are not accepted, as in `stoda`: no convergence, the error test, its failure, and what
 // follows the derivative of the third to ninth failure.
 // Settings, record and work stay parameters, with a clause on each one's range: the head of crate history says why.
+// The record and the error dsm stay two: the head of crate acceptance says why.
 #![tactic(auto)]
 
 ghost use Rattle.std.specs.Prelude.{◌≡◌, ◌^◌, ◌≤◌, ◌<◌, length};
@@ -9,7 +10,7 @@ ghost use Rattle.common.specs.State.{Moved};
 ghost use Rattle.common.specs.Ranges.{StepInRange};
 ghost use Rattle.history.specs.Columns.{retract_columns_of};
 ghost use Rattle.attempt.specs.Attempt.{Attempt, retracted_of, repredict_of, no_convergence_of, error_of, shrunk_of};
-ghost use Rattle.attempt.specs.Attempt.{missed_of, failed_of, restep_of};
+ghost use Rattle.attempt.specs.Attempt.{tenth_of, missed_of, failed_of, restep_of};
 
 use common::{Common, Settings};
 
@@ -120,6 +121,21 @@ fn shrunk(c: Common, dsm: f64) -> f64
     numbers::max(rh, history::least(c))
 }
 
+// A tenth of the step; y is what the derivative is wanted at.
+#[tactic(auto, unfolding(crate::specs::Attempt::tenth_of))]
+fn tenth(s: Settings, c: Common, work: &mut [f64]) -> Common
+    requires step_in_range { StepInRange s c }
+    requires n_in_bounds { matrix_at s.n ≤ length work.old }
+    ensures { ◌≡◌ {A = Moved} (record { common = result; work = work.new })
+        (tenth_of s c work.old) }
+{
+    history::copy_part(work, s.n, common::Y * s.n, 0);
+    Common {
+        h: c.h * numbers::max(0.1, history::least(c)),
+        ..c
+    }
+}
+
 // An error failure, retracted: too small at the smallest step or at the tenth failure, from the third on a tenth of
 // the step and a derivative anew.
 #[tactic(auto, unfolding(crate::specs::Attempt::missed_of, crate::specs::Attempt::missed_at))]
@@ -142,13 +158,9 @@ fn missed(s: Settings, c: Common, dsm: f64, work: &mut [f64]) -> Attempted
             common: repredict(s, c, rh, work),
         };
     }
-    history::copy_part(work, s.n, common::Y * s.n, 0);
     Attempted {
         next: Next::Restep,
-        common: Common {
-            h: c.h * numbers::max(0.1, history::least(c)),
-            ..c
-        },
+        common: tenth(s, c, work),
     }
 }
 

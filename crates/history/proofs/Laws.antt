@@ -1,6 +1,5 @@
 -- What callers need of the definitions: each keeps the length of the list, predict and retract leave every number
--- from nqnyh on, and a prediction, a rescale and another order keep what a step's functions ask of the record
--- (`StepInRange`).
+-- from nqnyh on, and a prediction and another order keep what a step's functions ask of the record (`StepInRange`).
 -- Assumes nothing.
 use mathlib.Core.Path.{◌≡◌, refl, ◌∙◌}
 use mathlib.Core.List.{List}
@@ -25,7 +24,7 @@ use Rattle.history.specs.Columns.{times_of, Rescaled, rescale_at}
 use Rattle.history.specs.Columns.{rescale_columns_of, add_scaled_at, add_scaled_of, correct_at, correct_columns_of}
 use Rattle.history.specs.Columns.{copy_at, copy_of, slope_at, slope_of, fill_of, scale_part_of}
 use Rattle.common.specs.Ranges.{StepInRange}
-use Rattle.history.specs.Steps.{adjust_of, predicted_of}
+use Rattle.history.specs.Steps.{predicted_of}
 
 -- the passes of predict and retract, which differ in op
 module _ (op : Float → Float → Float) (n nqnyh : ℕ) where
@@ -129,10 +128,6 @@ reset-range q one most p = own-range _ p one most refl refl refl
 pub in-range-predicted : (s : Settings) (c : Common) → StepInRange s c → StepInRange s (predicted_of s c)
 unfolding predicted_of
 in-range-predicted s c p = same-range _ refl refl refl refl p
-
-pub in-range-adjust : (s : Settings) (c : Common) (rh : Float) → StepInRange s c → StepInRange s (adjust_of c rh)
-unfolding adjust_of
-in-range-adjust s c rh p = same-range _ refl refl refl refl p
 
 -- for a function's attribute: the range of a record that a step's function is given
 pub ruleset in_range = (same-range, own-range)

@@ -1,6 +1,7 @@
 // The run as a machine that asks: from a record, a phase and a reply to the next question.
 // `resume` hands each reply to the function of its phase.
 // Settings, record and work stay parameters, with a clause on each one's range: the head of crate history says why.
+// Kind, numbers and time of a reply stay three: the calls have them so, and each is read by itself.
 #![tactic(auto)]
 
 ghost use Rattle.std.specs.Prelude.{List, ◌≡◌, ℕ, ◌≤◌, Float};

@@ -51,4 +51,5 @@ lent-factored s c work ipiv p = record {
 
 -- for an attribute at each
 pub ruleset factored = (inside-factored, length-finished, length-finished-ipiv, finished-below)
+
 pub ruleset accepted = (accepted-in-range, accept-keeps)

@@ -1,5 +1,6 @@
 // A reply: what it is refused for, and what an accepted one leaves. Nothing is written before the last refusal is past.
 // Settings, record and work stay parameters, with a clause on each one's range: the head of crate history says why.
+// Kind, numbers and time of a reply stay three: the calls have them so, and each is read by itself.
 #![tactic(auto)]
 
 ghost use Rattle.std.specs.Prelude.{◌≡◌, Bool, true, ℕ, ◌+◌, ◌*◌, ◌≤◌, ◌<◌, length, IfOk};
@@ -10,7 +11,7 @@ ghost use Rattle.session.specs.Session.{in_range_of, stored_counts, decode_of};
 ghost use Rattle.answers.specs.Called.{Called};
 ghost use Rattle.refusals.specs.Refusal.{entry_of};
 ghost use Rattle.replies.specs.Replies.{kind_of, kind_in, reply_refusal_of, Sized, shown_of, question_of};
-ghost use Rattle.replies.specs.Replies.{TurnWritten, turn_written_of, accepted_reply_of};
+ghost use Rattle.replies.specs.Replies.{is_unasked, TurnWritten, turn_written_of, accepted_reply_of};
 
 use answers::Reply;
 use between_steps::{Answer, Kind};
@@ -66,7 +67,8 @@ pub fn checked(
     known(kind).ok_or(Refusal::Unasked)
 }
 
-// The n numbers at `at` of the work, first in the question.
+// The n numbers at `at` of the work, first in the question: n and at name a part of the work, cut here once for three
+// callers.
 fn show(n: usize, at: usize, work: &[f64], question: &mut [f64])
     requires { (at + n ≤ length work.now) × (n ≤ length question.old) }
     ensures { question.new ≡ shown_of n at work.now question.old }
@@ -94,6 +96,13 @@ fn write_question(s: Settings, c: Common, phase: Phase, work: &[f64], question: 
     }
 }
 
+// Whether the reply was not what was asked.
+fn is_unasked(question: Question) -> bool
+    ensures { result ≡ is_unasked question }
+{
+    matches!(question, Question::Unasked)
+}
+
 // The turn is kept in the session and its question written, unless the reply was not what was asked.
 #[tactic(auto, unfolding(crate::specs::Replies::turn_written_of, session::specs::Session::encode_of))]
 fn write_turn(
@@ -110,7 +119,7 @@ fn write_turn(
         (record { reply = result; session = bytes.new; question = question.new })
         (turn_written_of s turn work.now bytes.old question.old) }
 {
-    if matches!(turn.question, Question::Unasked) {
+    if is_unasked(turn.question) {
         return Reply::from(turn.question);
     }
     let x = Session {
