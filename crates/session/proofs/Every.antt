@@ -1,26 +1,37 @@
 -- A test of every index below an end, `every p e`.
---     every-parts, lost-for    the test in two runs, and the first of them failed
+--     every_halves             the test in two runs
 --     run-of-four              what a run of four tests
 --     every-at, every-all      every index passes, if and only if the test does
---     all-run, all-fours       what `all` says of a range, one by one and by fours
+--     all_range, all-fours     what `all` says of a range, and of one by fours
 -- Assumes nothing.
-use mathlib.Core.Path.{◌≡◌, refl, sym, ◌∙◌}
+use mathlib.Core.Path.{◌≡◌, refl, sym, ap, ◌∙◌}
 use mathlib.Core.Bool.{Bool, true, false, ◌&&◌}
+use mathlib.Core.List.{List}
 use mathlib.Core.Logic.{⊎_elim}
 use Prim.Native.Nat.{ℕ, zero, suc, ◌+◌, ◌*◌, ◌-◌, ◌≤◌, ◌<◌}
 use native.Mathlib.Omega.{arith}
 use native.Mathlib.Nat.{add_assoc, eq-or-lt_of_le}
-use Rattle.std.specs.List.{list_all, range_with_len}
+use denote.Param.Members.{Mut}
+use Rattle.std.specs.Prelude.{Option}
+use Rattle.std.specs.Iterator.{YieldsThen}
+use Rattle.std.specs.List.{list_all, range_with_len, FoldsTo}
+use Rattle.std.specs.Fn.{Called}
+use Rattle.std.specs.Option.{MatchOption}
+use Rattle.std.proofs.lemmas.Iterator.{YieldsList}
+use Rattle.std.proofs.lemmas.Iterator.Search.{all_from_yields_List}
 use Rattle.loops.specs.For.{for, times}
-use Rattle.loops.proofs.For.{turn, done, stays, keeps}
+use Rattle.loops.proofs.For.{turn, done, stays-times, keeps}
+use Rattle.loops.proofs.Test.{both}
 use Rattle.session.specs.Session.{every, and_at}
 
 none : (i k : ℕ) → i ≤ k → k < i + 0 → ⊥
 none i k a b = omega arith
 
 module _ (p : ℕ → Bool) where
-  pub lost-for : (i e : ℕ) → for i e (and_at p) false ≡ false
-  lost-for i e = stays (and_at p) i e false (λ k. refl)
+  -- a run after a test
+  after : (ok : Bool) (n i : ℕ) → times (and_at p) n i ok ≡ ok && times (and_at p) n i true
+  after true n i = refl
+  after false n i = stays-times (and_at p) false (λ k. refl) n i
 
   -- a run of n indices first, then the others
   parts : (n i e : ℕ) (ok : Bool) → i + n ≤ e
@@ -33,11 +44,11 @@ module _ (p : ℕ → Bool) where
       rw (s, turn (and_at p) i e ok (omega arith), turn (and_at p) i (i + 1 + n) ok (omega arith))
       (parts n (i + 1) e (ok && p i) (omega arith))
 
-  pub every-parts : (n e : ℕ) → n ≤ e → every p e ≡ for n e (and_at p) (for 0 n (and_at p) true)
+  pub every_halves : (n e : ℕ) → n ≤ e → every p e ≡ for 0 n (and_at p) true && for n e (and_at p) true
   unfolding every
-  every-parts n e h =
+  every_halves n e h =
       let z : 0 + n ≡ n = omega arith in
-      rw z at (parts n 0 e true (omega arith))
+      rw z at (parts n 0 e true (omega arith)) ∙ after (for 0 n (and_at p) true) (e - n) n
 
   pub run-of-four : (i : ℕ) → for i (i + 4) (and_at p) true ≡ (p i && p (i + 1) && p (i + 2) && p (i + 3))
   unfolding times
@@ -45,24 +56,14 @@ module _ (p : ℕ → Bool) where
       let four : i + 4 - i ≡ 4 = omega arith in
       simp (four, add_assoc)
 
-  -- a test that failed stays so
-  lost : (n i : ℕ) → times (and_at p) n i false ≡ false
-  unfolding times
-  lost zero i = refl
-  lost (suc n) i = lost n (i + 1)
-
-  first : (n i : ℕ) (b : Bool) → b ≡ p i → times (and_at p) n (i + 1) b ≡ true → p i ≡ true
-  first n i true e q = sym e
-  first n i false e q = sym e ∙ sym (lost n (i + 1)) ∙ q
-
   each : (n i k : ℕ) → times (and_at p) n i true ≡ true → i ≤ k → k < i + n → p k ≡ true
   unfolding times
   each zero i k q a b = absurd (none i k a b)
   each (suc n) i k q a b =
-      let t = first n i (p i) refl q in
+      let t = both (p i) (times (and_at p) n (i + 1) true) (sym (after (p i) n (i + 1)) ∙ q) in
       ⊎_elim
-      (λ (e : i ≡ k). rw e at t)
-      (λ (l : i < k). each n (i + 1) k (rw t at q) (omega arith) (omega arith))
+      (λ (e : i ≡ k). rw e at t.0)
+      (λ (l : i < k). each n (i + 1) k t.1 (omega arith) (omega arith))
       (eq-or-lt_of_le a)
 
   pub every-at : (e : ℕ) → every p e ≡ true → (k : ℕ) → k < e → p k ≡ true
@@ -78,30 +79,37 @@ module _ (p : ℕ → Bool) where
 -- ---- `all` over a range
 
 module _ (p : ℕ → Bool) where
-  -- one test or one run of them, then the others
-  all-next : (t : Bool) (i e : ℕ) (rest : Bool) → rest ≡ for i e (and_at p) true
-      → (t && rest) ≡ for i e (and_at p) t
-  all-next true i e rest h = h
-  all-next false i e rest h = sym (lost-for p i e)
+  all-run : (n i : ℕ) → list_all p (range_with_len i n) ≡ times (and_at p) n i true
+  unfolding times
+  all-run zero i = refl
+  all-run (suc n) i = ap (λ (rest : Bool). p i && rest) (all-run n (i + 1)) ∙ sym (after p (p i) n (i + 1))
 
-  pub all-run : (n i : ℕ) → list_all p (range_with_len i n) ≡ for i (i + n) (and_at p) true
-  all-run zero i = sym (done (and_at p) i (i + 0) true (omega arith))
-  all-run (suc n) i =
-      let s : i + suc n ≡ i + 1 + n = omega arith in
-      rw (s, turn (and_at p) i (i + 1 + n) true (omega arith))
-      (all-next (p i) (i + 1) (i + 1 + n) (list_all p (range_with_len (i + 1) n)) (all-run n (i + 1)))
+  -- each number of the range is tested
+  pub all_range : {S F : Type 0} {steps : S → Option ℕ → S → Type 0} {g : Mut F (ℕ × Unit {0}) Bool} (s u : S) (f : F)
+      → (r : Bool) (a e : ℕ)
+      → (xs : List ℕ) × (o : Option ℕ) × (j : F) × YieldsThen steps s xs o u
+      × FoldsTo (λ h x q. Called g h (x, tt) true q) f xs j
+      × MatchOption o (r ≡ true) (λ x. (r ≡ false) × ((h : F) × Called g j (x, tt) false h))
+      → YieldsList steps (λ x. x) s (range_with_len a (e - a))
+      → ((x : ℕ) (b : Bool) (q : F) → Called g f (x, tt) b q → (q ≡ f) × (b ≡ p x)) → r ≡ for a e (and_at p) true
+  all_range s u f r a e ran range each = all_from_yields_List p u f r ran range each ∙ all-run (e - a) a
 
   abbrev pub four : ℕ → Bool
   four k = for (4 * k) (4 * k + 4) (and_at p) true
 
+  fours : (n k : ℕ) (ok : Bool) → for k (k + n) (and_at four) ok ≡ for (4 * k) (4 * (k + n)) (and_at p) ok
+  fours zero k ok =
+      done (and_at four) k (k + 0) ok (omega arith) ∙ sym (done (and_at p) (4 * k) (4 * (k + 0)) ok (omega arith))
+  fours (suc n) k ok =
+      let s : k + 1 + n ≡ k + suc n = omega arith in
+      let m : 4 * (k + 1) ≡ 4 * k + 4 = omega arith in
+      turn (and_at four) k (k + suc n) ok (omega arith) ∙ rw (m, s) at (fours n (k + 1) (ok && four k))
+      ∙ ap (for (4 * k + 4) (4 * (k + suc n)) (and_at p)) (sym (after p ok (4 * k + 4 - 4 * k) (4 * k)))
+      ∙ sym (parts p 4 (4 * k) (4 * (k + suc n)) ok (omega arith))
+
   -- by fours
-  pub all-fours : (n k : ℕ) → list_all four (range_with_len k n) ≡ for (4 * k) (4 * (k + n)) (and_at p) true
-  all-fours zero k = sym (done (and_at p) (4 * k) (4 * (k + 0)) true (omega arith))
-  all-fours (suc n) k =
-      let s : 4 * (k + suc n) ≡ 4 * (k + 1 + n) = omega arith in
-      let m : 4 * k + 4 ≡ 4 * (k + 1) = omega arith in
-      let rest : list_all four (range_with_len (k + 1) n) ≡ for (4 * k + 4) (4 * (k + 1 + n)) (and_at p) true =
-      rw m (all-fours n (k + 1))
-      in
-      rw (s, parts p 4 (4 * k) (4 * (k + 1 + n)) true (omega arith))
-      (all-next (four k) (4 * k + 4) (4 * (k + 1 + n)) (list_all four (range_with_len (k + 1) n)) rest)
+  pub all-fours : (n : ℕ) → for 0 n (and_at four) true ≡ for 0 (n * 4) (and_at p) true
+  all-fours n =
+      let z : 0 + n ≡ n = omega arith in
+      let m : 4 * n ≡ n * 4 = omega arith in
+      rw (z, m) at (fours n 0 true)

@@ -59,6 +59,7 @@ pub fn decode(u: &[usize; common::COUNT_WORDS], bytes: &[u8]) -> Session
 }
 
 // The tolerance lists, written to their slots; slots beyond a list's end become 0.
+#[tactic(auto, using(crate::proofs::Steps::floats_row), unfolding(crate::specs::Session::put_tolerances_of))]
 pub fn put_tolerances(rtol: &[f64], atol: &[f64], bytes: &mut [u8])
     requires { session_length ≤ length bytes.old }
     ensures { bytes.new

@@ -27,6 +27,7 @@ fn run(
 }
 
 // Whether each of all counts is. Two runs, each short enough to be unrolled, so that the tables become constants.
+#[tactic(auto, using(crate::proofs::Steps::words_halves))]
 fn words(u: &[usize; common::COUNT_WORDS]) -> bool
     ensures { result ≡ every (word_in_range u.now) count_words }
 {
