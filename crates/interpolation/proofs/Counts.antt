@@ -1,11 +1,12 @@
 -- What the reading of a header means.
 --     count-is, is-count    `whole_count_of x limit` is `Some k` exactly if k is at most the limit and x is k's float
+--     count_within          its limit alone
 --     count-not, not-count  it is `None` exactly if x equals no count up to the limit
 --     header-reads, reads-header    a header is read exactly if condition 15 does not hold; these are its sizes
 -- The first count found is the only one, since the float of a count has its value and x has one value.
 -- Assumes nothing.
 use mathlib.Core.Path.{◌≡◌, refl, sym, ap, ◌∙◌}
-use mathlib.Core.Bool.{Bool, true, false, cond, ◌&&◌}
+use mathlib.Core.Bool.{Bool, true, false, cond}
 use mathlib.Core.List.{List}
 use Prim.Native.Nat.{ℕ, ◌+◌, ◌*◌, ◌^◌, ◌≤◌, ◌<◌}
 use native.Mathlib.Nat.{lt_of_le_of_lt, mul-one, mul_right_comm, eq_of_mul-eq-mul_right}
@@ -20,6 +21,7 @@ use lib.Ieee.Fits.{down_pos}
 use borrow.Author.Count.{below_none, below_more}
 use borrow.Author.Tests.{eq-eqb, eqb-true, ltb-false, le-ltb}
 use Rattle.std.specs.Prelude.{Option, Some, None}
+use Rattle.std.proofs.lemmas.Bool.{and_parts, false≢true}
 use Rattle.loops.proofs.For.{reaches}
 use Rattle.numbers.specs.Float.{whole}
 use Rattle.common.specs.Limits.{max_states}
@@ -50,6 +52,9 @@ module _ (x : Float) (limit : ℕ) where
   pub count-is : (k : ℕ) → whole_count_of x limit ≡ Some k → (k ≤ limit) × (Ieee.eq x (whole k) ≡ true)
   count-is k e = let p = rw e at tried in (omega arith, p.1)
 
+  pub count_within : (k : ℕ) → whole_count_of x limit ≡ Some k → k ≤ limit
+  count_within k e = (count-is k e).0
+
   pub count-not : whole_count_of x limit ≡ None → (k : ℕ) → k ≤ limit → Ieee.eq x (whole k) ≡ false
   count-not e k h = let p = rw e at tried in p k (omega arith)
 
@@ -59,25 +64,18 @@ Value nan k = ⊥
 Value (inf s) k = ⊥
 Value (fin s m e) k = m * up e ≡ k * down e
 
-first-true : (a b : Bool) → a && b ≡ true → a ≡ true
-first-true true b q = refl
-first-true false b q = q
-
-never : false ≡ true → ⊥
-never q = let z : ◌≡◌ {A = ℕ} 0 1 = cc in omega arith
-
 value_of : (x y : Float) (k : ℕ) → HasValue y false k 1 → Ieee.eq x y ≡ true → Value x k
 unfolding Ieee.eq
-value_of nan y k v q = never q
-value_of (inf s) nan k v q = never q
+value_of nan y k v q = absurd (false≢true q)
+value_of (inf s) nan k v q = absurd (false≢true q)
 value_of (inf s) (inf t) k v q = absurd v
-value_of (inf s) (fin t n d) k v q = never q
+value_of (inf s) (fin t n d) k v q = absurd (false≢true q)
 value_of (fin s m e) nan k v q = absurd v
 value_of (fin s m e) (inf t) k v q = absurd v
 value_of (fin s m e) (fin t n d) k v q =
     let a = m * up e * down d in
     let b = n * up d * down e in
-    let level : a ≡ b = eqb-true a b (first-true (eqb a b) _ q) in
+    let level : a ≡ b = eqb-true a b (and_parts (eqb a b) _ q).0 in
     let one : n * up d ≡ k * down d = sym (mul-one (n * up d)) ∙ v.1 in
     eq_of_mul-eq-mul_right (down d) (down_pos d) (m * up e) (k * down e)
     (level ∙ ap (λ (a : ℕ). a * down e) one ∙ mul_right_comm k (down d) (down e))
@@ -112,14 +110,14 @@ is-count x limit k l h q = go (whole_count_of x limit) (tried x limit)
 
     go : (s : Option ℕ) → Tried x (limit + 1) s → s ≡ Some k
     go (Some j) p = ap Some (one_value x j k (value j (omega arith) p.1) (value k h q))
-    go None p = absurd (never (sym (p k (omega arith)) ∙ q))
+    go None p = absurd (false≢true (sym (p k (omega arith)) ∙ q))
 
 pub not-count : (x : Float) (limit : ℕ) → ((k : ℕ) → k ≤ limit → Ieee.eq x (whole k) ≡ false)
     → whole_count_of x limit ≡ None
 not-count x limit h = go (whole_count_of x limit) (tried x limit)
   where
     go : (s : Option ℕ) → Tried x (limit + 1) s → s ≡ None
-    go (Some j) p = absurd (never (sym (h j (omega (arith, p.0))) ∙ p.1))
+    go (Some j) p = absurd (false≢true (sym (h j (omega (arith, p.0))) ∙ p.1))
     go None p = refl
 
 module _ (cont : List Float) where

@@ -1,6 +1,7 @@
 pub mod Copies
 pub mod Laws
 pub mod Counts
+pub mod Steps
 pub mod Published
 pub mod Roundtrip
 pub mod Examples

@@ -2,7 +2,7 @@
 // Settings, record and work stay parameters, with a clause on each one's range: the head of crate history says why.
 #![tactic(auto)]
 
-ghost use Rattle.std.specs.Prelude.{◌≡◌, ◌+◌, ◌*◌, ◌≤◌, ◌<◌, length};
+ghost use Rattle.std.specs.Prelude.{◌≡◌, ◌+◌, ◌*◌, ◌≤◌, ◌<◌, length, IfSome};
 ghost use Rattle.common.specs.Limits.{max_states};
 ghost use Rattle.common.specs.Layout.{ewt_at, header_length, question_length};
 ghost use Rattle.interpolation.specs.Snapshot.{header_of, snapshot_of};
@@ -78,8 +78,10 @@ fn whole_count(x: f64, limit: u32) -> Option<usize>
 }
 
 // At least 6 numbers, n whole and 0 to 64, nq whole and 0 to 12.
+#[tactic(auto, using(crate::proofs::Steps::headers), unfolding(crate::specs::Header::read_header_of))]
 fn read_header(cont: &[f64]) -> Option<Sizes>
-    ensures { result ≡ read_header_of cont.now }
+    ensures value { result ≡ read_header_of cont.now }
+    ensures sizes { IfSome result (λ z. (6 ≤ length cont.now) × (z.n ≤ max_states) × (z.nq ≤ 12)) }
 {
     if cont.len() < common::HEADER {
         return None;
@@ -124,6 +126,7 @@ fn evaluate(xi: f64, yi: &mut [f64], cont: &[f64], z: Sizes)
 
 // The state at time xi from a snapshot. A refusal leaves the output unchanged.
 // A snapshot as long as the output is copied to it.
+#[tactic(auto, using(crate::proofs::Steps::poses), unfolding(crate::specs::Evaluate::interpolate_sized_of))]
 pub fn interpolate(xi: f64, yi: &mut [f64], cont: &[f64]) -> Result<(), Unusable>
     ensures { ◌≡◌ {A = Interpolated} (record { number = number_of result; output = yi.new })
         (interpolate_of xi cont.now yi.old) }
@@ -132,7 +135,9 @@ pub fn interpolate(xi: f64, yi: &mut [f64], cont: &[f64]) -> Result<(), Unusable
         yi.copy_from_slice(cont);
         return Ok(());
     }
-    let z = read_header(cont).ok_or(Unusable::Header)?;
+    let Some(z) = read_header(cont) else {
+        return Err(Unusable::Header);
+    };
     if yi.len() != z.n {
         return Err(Unusable::Length);
     }
