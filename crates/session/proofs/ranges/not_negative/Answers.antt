@@ -10,5 +10,5 @@ pub returns : goal.returns
 unfolding not_negative every
 returns c =
     let a = c.args in
-    all_range (not_negative_at a.bytes.now a.at) _ _ _ _ 0 a.k c.all.ensures.ran (YieldsList-from_range 0 a.k _ refl refl)
-    (λ x b q k. search (rules, tests))
+    all_range (not_negative_at a.bytes.now a.at) _ _ _ _ 0 a.k c.all.ensures.ran
+    (YieldsList-from_range 0 a.k _ refl refl) (λ x b q k. search (rules, tests))
