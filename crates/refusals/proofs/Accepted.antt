@@ -5,14 +5,15 @@
 -- Assumes nothing.
 use mathlib.Core.Bool.{Bool, true, false, cond, not}
 use mathlib.Core.List.{List, [], ◌∷◌}
-use mathlib.Core.Path.{◌≡◌, refl, sym}
-use mathlib.Core.Logic.{◌⊎◌, inl, inr, ◌≢◌}
+use mathlib.Core.Path.{◌≡◌, refl}
+use mathlib.Core.Logic.{◌⊎◌, inl, inr, ⊎_elim, ◌≢◌}
 use Prim.Native.Nat.{ℕ, zero, suc, ◌+◌, ◌≤◌, ◌<◌}
 use native.Mathlib.Omega.{arith}
 use borrow.Author.Tests.{eqb-true, eqb-false}
 use lib.Dec.{eqb}
 use lib.Ieee.{Float}
-use Rattle.loops.proofs.Test.{differs}
+pub use Rattle.std.proofs.lemmas.Bool.{not-false}
+use Rattle.std.proofs.lemmas.Bool.{cases_eq, false_from_ne_true}
 use Rattle.numbers.specs.Float.{◌⊖◌}
 use Rattle.numbers.specs.Sign.{signum_of, refused}
 use Rattle.common.specs.Layout.{work_length, question_length}
@@ -25,7 +26,7 @@ use Rattle.refusals.specs.Start.{is_negative, start_refusal_of}
 use Rattle.refusals.specs.Rows.{Row, NoneHolds}
 use Rattle.refusals.specs.Table.{NotOneOrN, WrongList, WrongSlice, LargeSetting, BelowZero, tolerance_rows}
 use Rattle.refusals.specs.Table.{step_row, start_rows}
-use Rattle.refusals.proofs.Decides.{Decides, decided, equal}
+use Rattle.refusals.proofs.Decides.{Decides}
 use Rattle.refusals.proofs.FirstStep.{step-decides}
 use Rattle.refusals.proofs.Rows.{holds-none}
 use Rattle.refusals.proofs.Table.{below, first-row, numbered-rows}
@@ -79,32 +80,19 @@ pub else-none : (a b : Entry) → (or_else a b).number ≡ 0 → (a.number ≡ 0
 unfolding or_else
 else-none a b q = else-at a b (eqb a.number 0) refl q
 
-pub not-false : (b : Bool) → not b ≡ false → b ≡ true
-not-false true p = refl
-not-false false p = differs (sym p)
-
 pub same : (a b : ℕ) → not (eqb a b) ≡ false → a ≡ b
 same a b p = eqb-true a b (not-false (eqb a b) p)
 
 -- ---- where a condition fails
 
 not-decided : {P : Type 0} (t : Bool) → Decides t P → (P → ⊥) → t ≡ false
-not-decided true d n = absurd (n (d.0 refl))
-not-decided false d n = refl
+not-decided t d n = false_from_ne_true t (λ e. n (d.0 e))
 
 is-equal : (a b : ℕ) → (a ≢ b → ⊥) → a ≡ b
-is-equal a b n = by (decided (eqb a b) (equal a b))
-  where
-    by : (a ≡ b) ⊎ (a ≢ b) → a ≡ b
-    by (inl e) = e
-    by (inr e) = absurd (n e)
+is-equal a b n = ⊎_elim (λ e. e) (λ e. absurd (n e)) (cases_eq a b)
 
 one-or-n : (len n : ℕ) → (NotOneOrN len n → ⊥) → (len ≡ 1) ⊎ (len ≡ n)
-one-or-n len n h = by (decided (eqb len 1) (equal len 1))
-  where
-    by : (len ≡ 1) ⊎ (len ≢ 1) → (len ≡ 1) ⊎ (len ≡ n)
-    by (inl e) = inl e
-    by (inr e) = inr (is-equal len n (λ d. h (e, d)))
+one-or-n len n h = ⊎_elim inl (λ e. inr (is-equal len n (λ d. h (e, d)))) (cases_eq len 1)
 
 sizes-hold : (l : Lengths) → (max_states < l.n → ⊥) → (WrongList l → ⊥) → (WrongSlice l → ⊥) → Sizes l
 sizes-hold l one two three = record {
@@ -173,11 +161,10 @@ accepted x0 xend o l rtol atol q =
           not-decided _ (below rtol i) (neither-below rtol atol step l.n 0 i t (omega arith) (omega arith)).0;
       absolute = λ i m.
           not-decided _ (below atol i) (neither-below rtol atol step l.n 0 i t (omega arith) (omega arith)).1;
-      step = by (decided (eqb o.has_first_step 0) (equal o.has_first_step 0))
-          (none_after rtol atol step l.n 0 t).0;
+      step =
+          ⊎_elim inl
+          (λ e.
+          inr (not-decided _ (step-decides o.first_step (xend ⊖ x0))
+          (λ h. (none_after rtol atol step l.n 0 t).0 (e, h))))
+          (cases_eq o.has_first_step 0);
     }
-  where
-    by : (o.has_first_step ≡ 0) ⊎ (o.has_first_step ≢ 0) → ((step_row x0 xend o).holds → ⊥)
-        → (o.has_first_step ≡ 0) ⊎ (refused o.first_step (signum_of (xend ⊖ x0)) ≡ false)
-    by (inl e) n = inl e
-    by (inr e) n = inr (not-decided _ (step-decides o.first_step (xend ⊖ x0)) (λ h. n (e, h)))

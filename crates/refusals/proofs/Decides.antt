@@ -1,5 +1,5 @@
 -- A test that decides a proposition, and what decides its negation, a disjunction and a conjunction.
--- Assumes nothing.
+-- The second half of the library's `Decides` is `P → t ≡ true`; this one is used where t is false. Assumes nothing.
 use mathlib.Core.Bool.{Bool, true, false, not, ◌||◌}
 use mathlib.Core.Logic.{◌⊎◌, inl, inr}
 use mathlib.Core.Path.{◌≡◌, refl, sym}
@@ -11,11 +11,6 @@ use Rattle.loops.proofs.Test.{differs}
 
 abbrev pub Decides : Bool → Type 0 → Type 0
 Decides t P = (t ≡ true → P) × (t ≡ false → P → ⊥)
-
--- by the two cases
-pub decided : {P : Type 0} (t : Bool) → Decides t P → P ⊎ (P → ⊥)
-decided true d = inl (d.0 refl)
-decided false d = inr (d.1 refl)
 
 pub equal : (a b : ℕ) → Decides (eqb a b) (a ≡ b)
 equal a b = (eqb-true a b, eqb-false a b)
@@ -34,9 +29,3 @@ either {P} {Q} false t d f = (λ e. inr (f.0 e), none)
     none : t ≡ false → P ⊎ Q → ⊥
     none e (inl p) = d.1 refl p
     none e (inr q) = f.1 e q
-
--- not one or the other: neither
-pub neither : {P Q : Type 0} (s t : Bool) → Decides s P → Decides t Q → Decides (not (s || t)) ((P → ⊥) × (Q → ⊥))
-neither true t d f = (λ e. differs e, λ e n. n.0 (d.0 refl))
-neither false true d f = (λ e. differs e, λ e n. n.1 (f.0 refl))
-neither false false d f = (λ e. (d.1 refl, f.1 refl), λ e n. differs (sym e))

@@ -5,3 +5,4 @@ pub mod Rows
 pub mod Sections
 pub mod Table
 pub mod Accepted
+pub mod Steps

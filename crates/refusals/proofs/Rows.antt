@@ -9,16 +9,13 @@ use mathlib.Core.Bool.{Bool, true, false, ◌||◌}
 use mathlib.Core.List.{List, [], ◌∷◌, ◌++◌}
 use mathlib.Core.Logic.{◌⊎◌, inl, inr, ◌≢◌}
 use mathlib.Core.Path.{◌≡◌, refl, sym, ap, ◌∙◌}
-use Prim.Native.Nat.{ℕ, suc, ◌≤◌, ◌<◌}
+use Prim.Native.Nat.{ℕ, ◌≤◌, ◌<◌}
 use native.Mathlib.Omega.{arith}
 use borrow.Author.Tests.{ne_eqb}
 use lib.Dec.{eqb}
 use Rattle.refusals.specs.Refusal.{Entry, none, also_of, or_else}
 use Rattle.refusals.specs.Rows.{Row, row, ExactlyFirst, NoneHolds}
 use Rattle.refusals.proofs.Decides.{Decides}
-
-pub positive : (k : ℕ) → suc k ≢ 0
-positive k e = omega arith
 
 -- ---- the first row that holds
 

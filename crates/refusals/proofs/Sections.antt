@@ -2,11 +2,12 @@
 -- Assumes nothing.
 use mathlib.Core.Bool.{Bool, true, false, cond, not, ◌||◌}
 use mathlib.Core.List.{List, [], ◌∷◌}
-use mathlib.Core.Logic.{inl, inr, ◌≢◌}
+use mathlib.Core.Logic.{inl, inr, ⊎_elim, ◌≢◌}
 use mathlib.Core.Path.{◌≡◌, refl, ap, ◌∙◌}
 use Prim.Native.Nat.{ℕ, suc, ◌+◌, ◌<◌}
 use lib.Dec.{eqb, ltb}
 use lib.Ieee.{Float}
+use Rattle.std.proofs.Math.Nat.{suc-ne-zero}
 use Rattle.loops.specs.For.{times}
 use Rattle.loops.proofs.For.{stays-times}
 use Rattle.numbers.specs.Float.{zero_f}
@@ -20,14 +21,16 @@ use Rattle.refusals.specs.Start.{is_list, length_refusal, size_refusal, large_re
 use Rattle.refusals.specs.Start.{tolerance_at}
 use Rattle.refusals.specs.Rows.{Row, row}
 use Rattle.refusals.specs.Table.{NotOneOrN, WrongList, WrongSlice, LargeSetting, BelowZero, tolerance_rows}
-use Rattle.refusals.proofs.Decides.{Decides, equal, smaller, denied, either, neither}
-use Rattle.refusals.proofs.Rows.{positive, IsFirst, first-also, also-same}
+use Rattle.refusals.proofs.Decides.{Decides, equal, smaller, denied, either}
+use Rattle.refusals.proofs.Rows.{IsFirst, first-also, also-same}
 
 -- ---- lengths and settings
 
 module _ (l : Lengths) where
   listed : (len : ℕ) → Decides (not (is_list len l.n)) (NotOneOrN len l.n)
-  listed len = neither (eqb len 1) (eqb len l.n) (equal len 1) (equal len l.n)
+  listed len =
+      let d = denied (is_list len l.n) (either (eqb len 1) (eqb len l.n) (equal len 1) (equal len l.n)) in
+      (λ e. (λ q. d.0 e (inl q), λ q. d.0 e (inr q)), λ e h. d.1 e (λ q. ⊎_elim h.0 h.1 q))
 
   abbrev lists : Bool
   lists = not (is_list l.rtol l.n) || not (is_list l.atol l.n)
@@ -40,8 +43,8 @@ module _ (l : Lengths) where
   lists-are : length_refusal l l.n ≡ also_of (also_of none lists 2) slices 3
   unfolding length_refusal in_order
   lists-are =
-      also-same _ _ _ 3 (positive 2) ∙ also-same _ _ _ 3 (positive 2) ∙ also-same _ _ _ 3 (positive 2)
-      ∙ ap (λ (r : Entry). also_of r slices 3) (also-same none _ _ 2 (positive 1))
+      also-same _ _ _ 3 (suc-ne-zero 2) ∙ also-same _ _ _ 3 (suc-ne-zero 2) ∙ also-same _ _ _ 3 (suc-ne-zero 2)
+      ∙ ap (λ (r : Entry). also_of r slices 3) (also-same none _ _ 2 (suc-ne-zero 1))
 
   abbrev unequal : (a b : ℕ) → Decides (not (eqb a b)) (a ≢ b)
   unequal a b = denied (eqb a b) (equal a b)
@@ -65,7 +68,7 @@ module _ (l : Lengths) where
           inr (
             d.1 refl,
             rw lists-are
-                (first-also (row 2 (WrongList l) ∷ []) _ slices 3 (positive 1, tt)
+                (first-also (row 2 (WrongList l) ∷ []) _ slices 3 (suc-ne-zero 1, tt)
                 (first-also [] none lists 2 tt refl two) three),
           )
 
@@ -78,8 +81,8 @@ module _ (o : Options) where
   pub large_is : large_refusal o ≡ also_of none large 4
   unfolding large_refusal in_order
   large_is =
-      also-same _ _ _ 4 (positive 3) ∙ also-same _ _ _ 4 (positive 3) ∙ also-same _ _ _ 4 (positive 3)
-      ∙ also-same _ _ _ 4 (positive 3) ∙ also-same none _ _ 4 (positive 3)
+      also-same _ _ _ 4 (suc-ne-zero 3) ∙ also-same _ _ _ 4 (suc-ne-zero 3) ∙ also-same _ _ _ 4 (suc-ne-zero 3)
+      ∙ also-same _ _ _ 4 (suc-ne-zero 3) ∙ also-same none _ _ 4 (suc-ne-zero 3)
 
   pub four : Decides large (LargeSetting o)
   four =
@@ -90,7 +93,7 @@ module _ (o : Options) where
       (eqb o.maxcor 0) 6) (eqb o.mxordn 0 || eqb o.mxords 0) 7) (not (eqb o.banded 0)) 8
   unfolding limit_refusal in_order
   limits-are =
-      ap (λ (r : Entry). also_of r (not (eqb o.banded 0)) 8) (also-same _ _ _ 7 (positive 6))
+      ap (λ (r : Entry). also_of r (not (eqb o.banded 0)) 8) (also-same _ _ _ 7 (suc-ne-zero 6))
       ∙ ap (λ (r : Entry). also_of (also_of (also_of (also_of r (eqb o.max_steps 0) 5) (eqb o.maxcor 0) 6)
       (eqb o.mxordn 0 || eqb o.mxords 0) 7) (not (eqb o.banded 0)) 8) large_is
 

@@ -13,6 +13,7 @@ use lib.Dec.{eqb, ltb, lit<, lit≤}
 use lib.ListN.{length, get_or}
 use lib.Ieee as Ieee
 use lib.Ieee.{Float, nan}
+use Rattle.std.proofs.Math.Nat.{suc-ne-zero}
 use Rattle.loops.proofs.Test.{differs}
 use Rattle.loops.specs.For.{times}
 use Rattle.numbers.specs.Float.{◌⊖◌, zero_f}
@@ -28,7 +29,7 @@ use Rattle.refusals.specs.Table.{LargeSetting, BelowZero, tolerance_rows}
 use Rattle.refusals.specs.Table.{step_row, start_rows}
 use Rattle.refusals.proofs.Decides.{Decides, equal, smaller, denied, either}
 use Rattle.refusals.proofs.FirstStep.{step-decides}
-use Rattle.refusals.proofs.Rows.{positive, IsFirst, Numbered, first-also, first_else, Each}
+use Rattle.refusals.proofs.Rows.{IsFirst, Numbered, first-also, first_else, Each}
 use Rattle.refusals.proofs.Rows.{of-first, numbered, After, exactly}
 use Rattle.refusals.proofs.Sections.{size_rows, first-sizes, large, four, limits-are, tolerances-by}
 
@@ -54,10 +55,10 @@ module _ (o : Options) where
   first-limits =
       rw (limits-are o)
       (first-also (r4 ∷ r5 ∷ r6 ∷ r7 ∷ []) _ _ 8
-      (positive 3, (positive 4, (positive 5, (positive 6, tt))))
-      (first-also (r4 ∷ r5 ∷ r6 ∷ []) _ _ 7 (positive 3, (positive 4, (positive 5, tt)))
-      (first-also (r4 ∷ r5 ∷ []) _ _ 6 (positive 3, (positive 4, tt))
-      (first-also (r4 ∷ []) _ _ 5 (positive 3, tt) (first-also [] none (large o) 4 tt refl (four o)) (equal _ _))
+      (suc-ne-zero 3, (suc-ne-zero 4, (suc-ne-zero 5, (suc-ne-zero 6, tt))))
+      (first-also (r4 ∷ r5 ∷ r6 ∷ []) _ _ 7 (suc-ne-zero 3, (suc-ne-zero 4, (suc-ne-zero 5, tt)))
+      (first-also (r4 ∷ r5 ∷ []) _ _ 6 (suc-ne-zero 3, (suc-ne-zero 4, tt))
+      (first-also (r4 ∷ []) _ _ 5 (suc-ne-zero 3, tt) (first-also [] none (large o) 4 tt refl (four o)) (equal _ _))
       (equal _ _))
       (either _ _ (equal _ _) (equal _ _)))
       (denied (eqb o.banded 0) (equal o.banded 0)))
@@ -110,9 +111,9 @@ first-row x0 xend o l rtol atol =
     let rest = or_else tolerances (step_refusal x0 xend o) in
     rw z
     (first_else (size_rows l) (limit_rows o ++ last) (size_refusal l) (or_else (limit_refusal o) rest)
-    (positive 0, (positive 1, (positive 2, tt))) (first-sizes l)
+    (suc-ne-zero 0, (suc-ne-zero 1, (suc-ne-zero 2, tt))) (first-sizes l)
     (first_else (limit_rows o) last (limit_refusal o) rest
-    (positive 3, (positive 4, (positive 5, (positive 6, (positive 7, tt))))) (first-limits o)
+    (suc-ne-zero 3, (suc-ne-zero 4, (suc-ne-zero 5, (suc-ne-zero 6, (suc-ne-zero 7, tt))))) (first-limits o)
     (first-tolerances rtol atol step (step_refusal x0 xend o) (first_step x0 xend o) l.n 0)))
 
 -- ---- where none of the tolerances is below 0

@@ -239,6 +239,7 @@ pub fn is_negative(list: &[f64], i: usize) -> bool
 }
 
 // 9 and 10: the first index at which a tolerance is below 0. By index: each list is 1 or n long.
+#[tactic(auto, using(crate::proofs::Steps::tolerated), unfolding(crate::specs::Refusal::or_else))]
 fn tolerances(n: usize, rtol: &[f64], atol: &[f64]) -> Result<(), Refusal>
     ensures { entry_of result ≡ tolerance_refusal n rtol.now atol.now }
 {
