@@ -10,7 +10,8 @@ use Prim.Native.Nat.{ℕ, ◌≤◌}
 use native.Mathlib.Omega.{arith}
 use lib.Dec.{eqb, lit<}
 use lib.Ieee.{Float}
-use Rattle.loops.proofs.Test.{differs, both}
+use Rattle.std.proofs.lemmas.Bool.{and_parts}
+use Rattle.loops.proofs.Test.{differs}
 use Rattle.numbers.specs.Float.{zero_f}
 use Rattle.between_steps.specs.declared.Answer.{Answer}
 use Rattle.questions.specs.declared.Question.{Question}
@@ -201,8 +202,8 @@ module _ (g : Given) (a : Start) (run : Runs g a) where
       stands-left r rs ih t m.left x zs (rw e at m.at) (inr (is_sized n r, ap (λ (y : Called). y.reply) q)) h
       (i ∙ ap not e)
   stands_by r rs ih t l x zs m h i (taken e w) =
-      stands_on r rs ih t l x zs (both (is_kind r.kind) (asks n t (fed_as r)) (both (is_sized n r) _ e).1).1 w h
-      (i ∙ ap not e)
+      let known = (and_parts (is_kind r.kind) (asks n t (fed_as r)) (and_parts (is_sized n r) _ e).1).1 in
+      stands_on r rs ih t l x zs known w h (i ∙ ap not e)
 
   stands-all : (rs : List ReplyCall) → TimesF64 rs → Stands rs
   unfolding last_by steps_by

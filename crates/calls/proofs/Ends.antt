@@ -8,7 +8,8 @@ use Prim.Native.Nat.{ℕ}
 use native.Mathlib.Omega.{arith}
 use Rattle.std.proofs.Math.Bool.{or-true}
 use Rattle.std.proofs.lemmas.List.{length-map}
-use Rattle.loops.proofs.Test.{differs, both}
+use Rattle.std.proofs.lemmas.Bool.{and_parts}
+use Rattle.loops.proofs.Test.{differs}
 use Rattle.numbers.specs.Float.{zero_f}
 use Rattle.questions.specs.declared.Question.TheVariants as Question
 use Rattle.questions.specs.Turns.{RunState}
@@ -94,7 +95,7 @@ module _ (g : Given) (a : Start) (run : Runs g a) where
       → wants n x.reply.number r ≡ true → is_sized n r ≡ true → (asks n t (fed_as r) ≡ true) × Went g a run t l x r
   wanted t l x r f at k w s =
       let h = wants-asks n r t x k w in
-      ((both (is_kind r.kind) (asks n t (fed_as r)) h).1, by (call g a run t l x r f at) (rw (s, h)))
+      ((and_parts (is_kind r.kind) (asks n t (fed_as r)) h).1, by (call g a run t l x r f at) (rw (s, h)))
     where
       by : Outcome g a run t l x r → is_fitting g a run t r ≡ true → Went g a run t l x r
       by (refused e q) h = differs (sym e ∙ h)

@@ -11,7 +11,8 @@ use native.Mathlib.Omega.{arith}
 use lib.Ieee.{Float}
 use lib.ListN.{length, take, drop, length-append}
 use lib.Seq.{take_at, length-take-le}
-use Rattle.loops.proofs.Test.{differs, both}
+use Rattle.std.proofs.lemmas.Bool.{and_parts}
+use Rattle.loops.proofs.Test.{differs}
 use Rattle.loops.specs.Part.{part, put_part}
 use Rattle.loops.proofs.Part.{length_part}
 use Rattle.numbers.specs.Float.{zero_f}
@@ -156,7 +157,7 @@ module _ (g : Given) (a : Start) (run : Runs g a) (one : g.s.n ≡ 1) where
   acts l x (gives f) q long h e =
       goes l x (reply_with 1 (f ∷ []) zero_f q) (fits-is-f64 _ (literal 0)) h (sized 1 (f ∷ []) zero_f q long) refl e
   acts l x continues q long h e =
-      let w = both (is_reported l.question) _ e in
+      let w = and_parts (is_reported l.question) _ e in
       let v = l.question in
       let c = l.st.c in
       let state = y g.s.n l.st.w in
@@ -175,5 +176,5 @@ module _ (g : Given) (a : Start) (run : Runs g a) (one : g.s.n ≡ 1) where
   unfolding allowed hosted hosted_by
   hosts q long [] i l x h e = h
   hosts q long (v ∷ vs) i l x h e =
-      let w = both (is_fine g l v) (allowed g (acted g l v) vs) e in
+      let w = and_parts (is_fine g l v) (allowed g (acted g l v) vs) e in
       hosts q long vs (i + 1) (acted g l v) (acted_by x v (q i)) (acts l x v (q i) (long i) h w.0) w.1

@@ -14,7 +14,8 @@ use lib.Dec.{eqb, ltb, lit<}
 use lib.Ieee.{Float}
 use lib.ListN.{length}
 use borrow.Author.Tests.{eqb-true, eqb-false, lt-leb}
-use Rattle.loops.proofs.Test.{differs, both, one_of, chosen}
+use Rattle.std.proofs.lemmas.Bool.{and_parts, or_cases}
+use Rattle.loops.proofs.Test.{differs, chosen}
 use Rattle.numbers.specs.Float.{zero_f}
 use Rattle.common.specs.Limits.{max_states}
 use Rattle.common.specs.SessionWords.{count_words, session_length}
@@ -79,7 +80,7 @@ is_refusing k = eqb k 3 || (eqb k 13 || eqb k 14)
 
 pub refusing : (k : ℕ) → is_refusing k ≡ true → (k ≡ 3) ⊎ ((k ≡ 13) ⊎ (k ≡ 14))
 refusing k e =
-    ⊎_map (eqb-true k 3) (λ f. ⊎_map (eqb-true k 13) (eqb-true k 14) (one_of _ _ f)) (one_of (eqb k 3) _ e)
+    ⊎_map (eqb-true k 3) (λ f. ⊎_map (eqb-true k 13) (eqb-true k 14) (or_cases _ _ f)) (or_cases (eqb k 3) _ e)
 
 -- ---- what is asked
 
@@ -326,7 +327,7 @@ module _ (kind : ℕ) (numbers : List Float) (time : Float) (b : Buffers) where
       by (takes n e) = e
 
   pub is-now : NoneHolds (reply_rows kind numbers b) → is_now ≡ true
-  is-now h = (both (is_kind kind) is_now (decided-true _ asked-now h.1.1.1.1.1.0)).1
+  is-now h = (and_parts (is_kind kind) is_now (decided-true _ asked-now h.1.1.1.1.1.0)).1
 
   pub went : NoneHolds (reply_rows kind numbers b)
       → (reply_of kind numbers time b).reply ≡ question_reply (turned (kind_of kind) numbers time b).question

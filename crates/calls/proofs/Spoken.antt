@@ -12,7 +12,8 @@ use lib.Dec.{eqb, leb, lit<}
 use lib.Ieee.{Float}
 use lib.ListN.{length}
 use borrow.Author.Tests.{eqb-true, eqb-false, leb-true, le-leb}
-use Rattle.loops.proofs.Test.{differs, both}
+use Rattle.std.proofs.lemmas.Bool.{and_parts}
+use Rattle.loops.proofs.Test.{differs}
 use Rattle.questions.specs.declared.Question.{Question}
 use Rattle.between_steps.specs.declared.Status.{Status}
 use Rattle.questions.specs.Turns.{RunState}
@@ -105,10 +106,10 @@ module _ (n : ℕ) where
     Asks what = Asked what n r.kind len
 
     asks-derivative : eqb r.kind 1 && eqb len n ≡ true → Asks derivative
-    asks-derivative h = let e = both _ _ h in (eqb-true r.kind 1 e.0, eqb-true len n e.1)
+    asks-derivative h = let e = and_parts _ _ h in (eqb-true r.kind 1 e.0, eqb-true len n e.1)
 
     asks-jacobian : eqb r.kind 2 && eqb len (n * n) ≡ true → Asks jacobian
-    asks-jacobian h = let e = both _ _ h in (eqb-true r.kind 2 e.0, eqb-true len (n * n) e.1)
+    asks-jacobian h = let e = and_parts _ _ h in (eqb-true r.kind 2 e.0, eqb-true len (n * n) e.1)
 
     three-to-five : (k : ℕ) → 3 ≤ k → k ≤ 5 → (k ≡ 3) ⊎ ((k ≡ 4) ⊎ (k ≡ 5))
     three-to-five k a b = by (eqb k 3) refl (eqb k 4) refl
@@ -123,8 +124,8 @@ module _ (n : ℕ) where
 
     asks-answer : (leb 3 r.kind && leb r.kind 5) && eqb len n ≡ true → Asks answer
     asks-answer h =
-        let e = both (leb 3 r.kind && leb r.kind 5) (eqb len n) h in
-        let f = both (leb 3 r.kind) (leb r.kind 5) e.0 in
+        let e = and_parts (leb 3 r.kind && leb r.kind 5) (eqb len n) h in
+        let f = and_parts (leb 3 r.kind) (leb r.kind 5) e.0 in
         (three-to-five r.kind (leb-true 3 r.kind f.0) (leb-true r.kind 5 f.1), eqb-true len n e.1)
 
     wants-status : (s : Status) → wants n (status_number s) r ≡ true → ⊥

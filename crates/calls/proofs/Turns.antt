@@ -14,10 +14,11 @@ use lib.Ieee as Ieee
 use lib.Ieee.{Float}
 use lib.ListN.{length}
 use borrow.Author.Tests.{eqb-true, leb-true}
-use Rattle.loops.proofs.Test.{differs, one_of}
+use Rattle.loops.proofs.Test.{differs}
 use Rattle.numbers.specs.Float.{one_f}
 use Rattle.numbers.specs.Sign.{refused}
 use Rattle.std.specs.Prelude.{Result, Ok, Err}
+use Rattle.std.proofs.lemmas.Bool.{or_cases}
 use Rattle.vectors.specs.declared.NotPositive.{NotPositive}
 use Rattle.common.specs.declared.Settings.{Settings}
 use Rattle.common.specs.declared.Common.{Common}
@@ -82,7 +83,7 @@ module _ (s : Settings) (before : Phase) (kind : Kind) where
   poor-at : (poor : Bool) (c : Common) (work : List Float) (x : State) → poor_of s c ≡ poor
       → Good (attempted_of s.n x (no_convergence_at s poor c work))
   unfolding no_convergence_at attempted_at finished_of
-  poor-at true c work x e = record { agrees = refl; means = (refl, refl, why (one_of _ _ e)) }
+  poor-at true c work x e = record { agrees = refl; means = (refl, refl, why (or_cases _ _ e)) }
     where
       why : (tiny_of c ≡ true) ⊎ (eqb c.ncf (mxncf_of s) ≡ true) → (tiny_of c ≡ true) ⊎ (c.ncf ≡ mxncf_of s)
       why (inl t) = inl t

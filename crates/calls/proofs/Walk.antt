@@ -13,7 +13,7 @@ use native.Mathlib.Omega.{arith}
 use lib.Ieee.{Float}
 use lib.ListN.{length, replicate, length-replicate}
 use borrow.Author.Tests.{eqb-true}
-use Rattle.loops.proofs.Test.{both}
+use Rattle.std.proofs.lemmas.Bool.{and_parts}
 use Rattle.loops.proofs.Part.{part-put}
 use Rattle.numbers.specs.Float.{zero_f}
 use Rattle.between_steps.specs.declared.Kind.{Kind}
@@ -199,7 +199,7 @@ module _ (g : Given) (a : Start) (run : Runs g a) where
         refused (rw (s, e))
         (answered-is ∙ reply-unasked g a run l x.lent.session at.keeps r s off ∙ rw (lent_is, s))
     call_at true true s e =
-        let h = both (is_kind r.kind) (asks n t (fed_as r)) e in
+        let h = and_parts (is_kind r.kind) (asks n t (fed_as r)) e in
         taken (rw (s, e)) (went s h.0 h.1)
 
     pub call : Outcome t l x r

@@ -10,7 +10,7 @@ use lib.Ieee.{Float}
 use borrow.Author.Tests.{leb-true, ltb-true, eqb-true}
 use Rattle.common.specs.Limits.{max_states}
 use Rattle.common.specs.Layout.{ewt_at, matrix_at}
-use Rattle.loops.proofs.Test.{both}
+use Rattle.std.proofs.lemmas.Bool.{and_parts}
 use Rattle.common.specs.declared.Settings.{Settings}
 use Rattle.common.specs.declared.Common.{Common}
 use Rattle.common.specs.Ranges.{StepInRange}
@@ -20,8 +20,8 @@ columns-fit : (n nq nqnyh len : ℕ) → are_columns n nq nqnyh len ≡ true
     → (nq ≤ 12) × (nq * n ≤ nqnyh) × (nqnyh + n ≤ len)
 unfolding are_columns
 columns-fit n nq nqnyh len h =
-    let p = both (leb nq 12) _ (both (leb n max_states) _ h).1 in
-    let q = both (leb (nq * n) nqnyh) (leb (nqnyh + n) len) p.1 in
+    let p = and_parts (leb nq 12) _ (and_parts (leb n max_states) _ h).1 in
+    let q = and_parts (leb (nq * n) nqnyh) (leb (nqnyh + n) len) p.1 in
     (leb-true nq 12 p.0, leb-true (nq * n) nqnyh q.0, leb-true (nqnyh + n) len q.1)
 
 pub record Usable (fs : List Float) (cs : List ℕ) (work : ℕ) : Type 0 where
@@ -33,18 +33,18 @@ pub record Usable (fs : List Float) (cs : List ℕ) (work : ℕ) : Type 0 where
 usable : (fs : List Float) (cs : List ℕ) (work : ℕ) → is_usable fs cs work ≡ true → Usable fs cs work
 unfolding is_usable lent_settings lent_common are_limits in_range
 usable fs cs work h =
-    let p = both (eqb (length fs) 11) _ h in
-    let q = both (eqb (length cs) 14) _ p.1 in
-    let r = both (are_limits (get_or cs 1 0) (get_or cs 2 0) (get_or cs 3 0) (get_or cs 11 0)) _ q.1 in
-    let l1 = both (leb (get_or cs 1 0) 1000000) _ r.0 in
-    let l2 = both (leb (get_or cs 2 0) 1000000) _ l1.1 in
-    let l3 = both (leb (get_or cs 3 0) 1000000) _ l2.1 in
+    let p = and_parts (eqb (length fs) 11) _ h in
+    let q = and_parts (eqb (length cs) 14) _ p.1 in
+    let r = and_parts (are_limits (get_or cs 1 0) (get_or cs 2 0) (get_or cs 3 0) (get_or cs 11 0)) _ q.1 in
+    let l1 = and_parts (leb (get_or cs 1 0) 1000000) _ r.0 in
+    let l2 = and_parts (leb (get_or cs 2 0) 1000000) _ l1.1 in
+    let l3 = and_parts (leb (get_or cs 3 0) 1000000) _ l2.1 in
     let n = get_or cs 0 0 in
-    let r1 = both (leb 1 n) _ r.1 in
-    let r2 = both (leb n max_states) _ r1.1 in
-    let r3 = both (leb 1 (get_or cs 5 0)) _ r2.1 in
-    let r4 = both (leb (get_or cs 10 0) 2) _ r3.1 in
-    let r5 = both (leb (matrix_at n) work) _ r4.1 in
+    let r1 = and_parts (leb 1 n) _ r.1 in
+    let r2 = and_parts (leb n max_states) _ r1.1 in
+    let r3 = and_parts (leb 1 (get_or cs 5 0)) _ r2.1 in
+    let r4 = and_parts (leb (get_or cs 10 0) 2) _ r3.1 in
+    let r5 = and_parts (leb (matrix_at n) work) _ r4.1 in
     let k = columns-fit n (get_or cs 5 0) (get_or cs 7 0) (ewt_at n) r5.1 in
     record {
       lists = (eqb-true (length fs) 11 p.0, eqb-true (length cs) 14 q.0);

@@ -19,9 +19,9 @@ use Rattle.std.specs.Fn.{Called}
 use Rattle.std.specs.Option.{MatchOption}
 use Rattle.std.proofs.lemmas.Iterator.{YieldsList}
 use Rattle.std.proofs.lemmas.Iterator.Search.{all_from_yields_List}
+use Rattle.std.proofs.lemmas.Bool.{and_parts}
 use Rattle.loops.specs.For.{for, times}
 use Rattle.loops.proofs.For.{turn, done, stays-times, keeps}
-use Rattle.loops.proofs.Test.{both}
 use Rattle.session.specs.Session.{every, and_at}
 
 none : (i k : ℕ) → i ≤ k → k < i + 0 → ⊥
@@ -60,7 +60,7 @@ module _ (p : ℕ → Bool) where
   unfolding times
   each zero i k q a b = absurd (none i k a b)
   each (suc n) i k q a b =
-      let t = both (p i) (times (and_at p) n (i + 1) true) (sym (after (p i) n (i + 1)) ∙ q) in
+      let t = and_parts (p i) (times (and_at p) n (i + 1) true) (sym (after (p i) n (i + 1)) ∙ q) in
       ⊎_elim
       (λ (e : i ≡ k). rw e at t.0)
       (λ (l : i < k). each n (i + 1) k t.1 (omega arith) (omega arith))

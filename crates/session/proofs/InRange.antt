@@ -12,7 +12,7 @@ use lib.ListN.{length}
 use lib.Ieee as Ieee
 use lib.Ieee.{Float}
 use borrow.Author.Tests.{ltb-true, not-true}
-use Rattle.loops.proofs.Test.{both}
+use Rattle.std.proofs.lemmas.Bool.{and_parts}
 use Rattle.numbers.specs.Float.{zero_f}
 use Rattle.common.specs.Limits.{max_states}
 use Rattle.common.specs.SessionWords.{count_words, rtol_at, atol_at}
@@ -71,9 +71,9 @@ module _ (b : List ℕ) where
     pub holds : in_range_of b pivots ≡ true → InRange b pivots
     unfolding tolerances_in_range pivots_below
     holds q =
-        let p = both (fields u && tolerances u) (pivots_below pivots (n_word b)) (sym test-is ∙ q) in
-        let t = both (fields u) (tolerances u) p.0 in
-        let signs = both (not_negative b rtol_at (nrtol_word b)) (not_negative b atol_at (natol_word b)) t.1 in
+        let p = and_parts (fields u && tolerances u) (pivots_below pivots (n_word b)) (sym test-is ∙ q) in
+        let t = and_parts (fields u) (tolerances u) p.0 in
+        let signs = and_parts (not_negative b rtol_at (nrtol_word b)) (not_negative b atol_at (natol_word b)) t.1 in
         let r = related u (settings_of u f) (common_of u f) t.0 in
         record {
           words = word-ranges b (words-pass u (settings_of u f) (common_of u f) t.0);

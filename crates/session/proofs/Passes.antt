@@ -12,7 +12,7 @@ use lib.ListN.{length, get_or}
 use lib.Ieee as Ieee
 use lib.Ieee.{Float, nan, binary64, of_bits}
 use borrow.Author.Tests.{lt-ltb}
-use Rattle.loops.proofs.Test.{both}
+use Rattle.std.proofs.lemmas.Bool.{and_parts}
 use Rattle.numbers.specs.Float.{zero_f}
 use Rattle.common.specs.declared.Settings.{Settings}
 use Rattle.questions.specs.declared.Session.{Session}
@@ -106,7 +106,7 @@ module _ (x : Session) (b : List ℕ) (room : session_length ≤ length b) where
   pub tolerances-kept : (s : Settings) → tolerances_in_range b s ≡ true → tolerances_in_range (encode_of x b) s ≡ true
   unfolding tolerances_in_range
   tolerances-kept s h =
-      let p = both (not_negative b rtol_at s.nrtol) (not_negative b atol_at s.natol) h in
+      let p = and_parts (not_negative b rtol_at s.nrtol) (not_negative b atol_at s.natol) h in
       let kept = encoded-other x b room in
       rw (same-signs b (encode_of x b) rtol_at s.nrtol (λ i l. kept (rtol_at + i) (omega arith)) p.0)
       (same-signs b (encode_of x b) atol_at s.natol (λ i l. kept (atol_at + i) (omega arith)) p.1)

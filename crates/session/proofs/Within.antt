@@ -13,7 +13,7 @@ use native.Mathlib.Omega.{arith}
 use lib.Dec.{eqb, ltb, leb}
 use lib.ListN.{length, get_or}
 use borrow.Author.Tests.{ltb-true, leb-true, eqb-true, lt-ltb, le-leb, eq-eqb}
-use Rattle.loops.proofs.Test.{both, one_of}
+use Rattle.std.proofs.lemmas.Bool.{and_parts, or_cases}
 use Rattle.common.specs.declared.Settings.{Settings}
 use Rattle.common.specs.declared.Common.{Common}
 use Rattle.common.specs.Limits.{mxncf_of}
@@ -29,7 +29,7 @@ module _ (u : List ℕ) (q : every (word_in_range u) count_words ≡ true) where
   in-range : (i : ℕ) → i < count_words
       → (leb (get_or lowest i 0) (get_or u i 0) ≡ true) × (leb (get_or u i 0) (get_or highest i 0) ≡ true)
   in-range i h =
-      both (leb (get_or lowest i 0) (get_or u i 0)) (leb (get_or u i 0) (get_or highest i 0))
+      and_parts (leb (get_or lowest i 0) (get_or u i 0)) (leb (get_or u i 0) (get_or highest i 0))
       (every-at (word_in_range u) count_words q i h)
 
   pub low : (i : ℕ) → i < count_words → get_or lowest i 0 ≤ get_or u i 0
@@ -56,7 +56,7 @@ upto p = (omega arith, p)
 -- ---- what fields say of each other
 
 one-or-n : (n k : ℕ) → one_or_n n k ≡ true → OneOrN n k
-one-or-n n k e = ⊎_elim (λ t. inl (eqb-true k 1 t)) (λ t. inr (eqb-true k n t)) (one_of (eqb k 1) (eqb k n) e)
+one-or-n n k e = ⊎_elim (λ t. inl (eqb-true k 1 t)) (λ t. inr (eqb-true k n t)) (or_cases (eqb k 1) (eqb k n) e)
 
 is-one-or-n : (n k : ℕ) → OneOrN n k → one_or_n n k ≡ true
 is-one-or-n n k (inl e) = rw (eq-eqb k 1 e)
@@ -88,9 +88,9 @@ module _ (u : List ℕ) (s : Settings) (c : Common) where
       let l = lists_in_range s in
       let o = orders_in_range s c in
       let k = counters_in_range s c in
-      let a = both (w && l && o) k q in
-      let b = both (w && l) o a.0 in
-      let d = both w l b.0 in
+      let a = and_parts (w && l && o) k q in
+      let b = and_parts (w && l) o a.0 in
+      let d = and_parts w l b.0 in
       (d.0, d.1, b.1, a.1)
 
   pub words-pass : fields_in_range u s c ≡ true → every (word_in_range u) count_words ≡ true
@@ -100,12 +100,12 @@ module _ (u : List ℕ) (s : Settings) (c : Common) where
   unfolding lists_in_range orders_in_range counters_in_range
   related q =
       let t = tests q in
-      let l = both (one_or_n s.n s.nrtol) (one_or_n s.n s.natol) t.1 in
-      let o3 = both _ (leb c.nqnyh (12 * s.n)) t.2 in
-      let o2 = both _ (leb (c.nq * s.n) c.nqnyh) o3.0 in
-      let o1 = both (ltb c.nq c.lmax) (eqb (c.nqnyh % s.n) 0) o2.0 in
-      let k2 = both _ (ltb c.column s.n) t.3 in
-      let k1 = both (ltb c.ncf (mxncf_of s)) (ltb c.m s.maxcor) k2.0 in
+      let l = and_parts (one_or_n s.n s.nrtol) (one_or_n s.n s.natol) t.1 in
+      let o3 = and_parts _ (leb c.nqnyh (12 * s.n)) t.2 in
+      let o2 = and_parts _ (leb (c.nq * s.n) c.nqnyh) o3.0 in
+      let o1 = and_parts (ltb c.nq c.lmax) (eqb (c.nqnyh % s.n) 0) o2.0 in
+      let k2 = and_parts _ (ltb c.column s.n) t.3 in
+      let k1 = and_parts (ltb c.ncf (mxncf_of s)) (ltb c.m s.maxcor) k2.0 in
       record {
         nrtol = one-or-n _ _ l.0;
         natol = one-or-n _ _ l.1;
