@@ -25,19 +25,10 @@ def place(f):
     return f"f[{f.word - len(COUNTS)}]" if f.is_float else f"u[{f.word}]"
 
 
-def table(name, end):
-    rows = lines((f"{CODE.get(f.bounds[end], f.bounds[end])}, // {f.name}" for f in COUNTS), "    ")
-    return f"const {name}: {COUNT_ARRAY} = [\n{rows}];\n"
-
-
-def accessor(name):
-    return f"""#[tactic(auto, unfolding(crate::specs::Fields::{name}))]
-pub fn {name}() -> {COUNT_ARRAY}
-    ensures {{ result ≡ {name} }}
-{{
-    {name.upper()}
-}}
-"""
+def table():
+    bound = lambda f, end: CODE.get(f.bounds[end], f.bounds[end])
+    rows = [f"Range {{ low: {bound(f, 0)}, high: {bound(f, 1)} }}, // {f.name}" for f in COUNTS]
+    return f"const RANGES: [Range; common::COUNT_WORDS] = [\n{lines(rows, '    ')}];\n"
 
 
 def source():
@@ -47,7 +38,7 @@ def source():
     record = sorted(RECORD, key=lambda f: not f.is_float)
     return f"""// A session's fields as words and back, and the ranges of 13 that one word says.
 // {FROM}
-ghost use Rattle.std.specs.Prelude.{{◌≡◌}};
+ghost use Rattle.std.specs.Prelude.{{◌≡◌, map}};
 ghost use Rattle.session.specs.Fields.{{counts_of, floats_of, settings_of, floats_alone_of, common_of, session_of}};
 ghost use Rattle.session.specs.Fields.{{lowest, highest}};
 
@@ -55,13 +46,23 @@ use crate::states::{{family, phase}};
 use common::{{Common, MethodFamily, Settings}};
 use questions::Session;
 
-// The least value of each count. A table is answered whole, to be bound once: an index into the constant writes all of
-// it anew.
-{table("LOWEST", 0)}
-// The greatest value of each count.
-{table("HIGHEST", 1)}
-{accessor("lowest")}
-{accessor("highest")}
+// The least and the greatest value of a count.
+#[derive(Clone, Copy)]
+pub struct Range {{
+    pub low: usize,
+    pub high: usize,
+}}
+
+// Those of each count. The table is answered whole, to be bound once: an index into the constant writes all of it anew.
+#[rattlefmt::skip]
+{table()}
+#[tactic(auto, unfolding(crate::specs::Fields::lowest, crate::specs::Fields::highest))]
+pub fn ranges() -> [Range; common::COUNT_WORDS]
+    ensures {{ (map (λ r. r.low) result ≡ lowest) × (map (λ r. r.high) result ≡ highest) }}
+{{
+    RANGES
+}}
+
 // The counts of a session, flags and states among them.
 pub fn counts(x: Session) -> {COUNT_ARRAY}
     ensures {{ result ≡ counts_of x }}

@@ -1,6 +1,6 @@
 // A session's fields as words and back, and the ranges of 13 that one word says.
 // Made by tools/record.py from the structs of crates/common/src/lib.rt.
-ghost use Rattle.std.specs.Prelude.{◌≡◌};
+ghost use Rattle.std.specs.Prelude.{◌≡◌, map};
 ghost use Rattle.session.specs.Fields.{counts_of, floats_of, settings_of, floats_alone_of, common_of, session_of};
 ghost use Rattle.session.specs.Fields.{lowest, highest};
 
@@ -8,95 +8,57 @@ use crate::states::{family, phase};
 use common::{Common, MethodFamily, Settings};
 use questions::Session;
 
-// The least value of each count. A table is answered whole, to be bound once: an index into the constant writes all of
-// it anew.
-const LOWEST: [usize; common::COUNT_WORDS] = [
-    0, // phase
-    1, // n
-    1, // maxsteps
-    1, // mxordn
-    1, // mxords
-    1, // maxcor
-    0, // msbp
-    0, // mxncf
-    0, // supplied
-    0, // given
-    0, // nrtol
-    0, // natol
-    1, // meth
-    1, // nq
-    2, // lmax
-    0, // nqnyh
-    1, // ialth
-    20, // icount
-    0, // table
-    0, // nslp
-    0, // nst
-    0, // nfe
-    0, // nje
-    0, // nlu
-    0, // rejected
-    0, // total
-    0, // count
-    0, // kflag
-    0, // ncf
-    0, // m
-    0, // column
-    0, // due
-    0, // jcur
-    0, // setup
-];
-
-// The greatest value of each count.
-const HIGHEST: [usize; common::COUNT_WORDS] = [
-    10, // phase
-    common::MAX_STATES, // n
-    1000000, // maxsteps
-    1000000, // mxordn
-    1000000, // mxords
-    1000000, // maxcor
-    1000000, // msbp
-    1000000, // mxncf
-    1, // supplied
-    1, // given
-    18446744073709551615, // nrtol
-    18446744073709551615, // natol
-    2, // meth
-    12, // nq
-    13, // lmax
-    18446744073709551615, // nqnyh
-    18446744073709551615, // ialth
-    1000020, // icount
-    1, // table
-    4611686018427387903, // nslp
-    4611686018427387903, // nst
-    4611686018427387903, // nfe
-    4611686018427387903, // nje
-    4611686018427387903, // nlu
-    4611686018427387903, // rejected
-    4611686018427387903, // total
-    4611686018427387903, // count
-    9, // kflag
-    18446744073709551615, // ncf
-    18446744073709551615, // m
-    18446744073709551615, // column
-    1, // due
-    1, // jcur
-    1, // setup
-];
-
-#[tactic(auto, unfolding(crate::specs::Fields::lowest))]
-pub fn lowest() -> [usize; common::COUNT_WORDS]
-    ensures { result ≡ lowest }
-{
-    LOWEST
+// The least and the greatest value of a count.
+#[derive(Clone, Copy)]
+pub struct Range {
+    pub low: usize,
+    pub high: usize,
 }
 
-#[tactic(auto, unfolding(crate::specs::Fields::highest))]
-pub fn highest() -> [usize; common::COUNT_WORDS]
-    ensures { result ≡ highest }
+// Those of each count. The table is answered whole, to be bound once: an index into the constant writes all of it anew.
+#[rattlefmt::skip]
+const RANGES: [Range; common::COUNT_WORDS] = [
+    Range { low: 0, high: 10 }, // phase
+    Range { low: 1, high: common::MAX_STATES }, // n
+    Range { low: 1, high: 1000000 }, // maxsteps
+    Range { low: 1, high: 1000000 }, // mxordn
+    Range { low: 1, high: 1000000 }, // mxords
+    Range { low: 1, high: 1000000 }, // maxcor
+    Range { low: 0, high: 1000000 }, // msbp
+    Range { low: 0, high: 1000000 }, // mxncf
+    Range { low: 0, high: 1 }, // supplied
+    Range { low: 0, high: 1 }, // given
+    Range { low: 0, high: 18446744073709551615 }, // nrtol
+    Range { low: 0, high: 18446744073709551615 }, // natol
+    Range { low: 1, high: 2 }, // meth
+    Range { low: 1, high: 12 }, // nq
+    Range { low: 2, high: 13 }, // lmax
+    Range { low: 0, high: 18446744073709551615 }, // nqnyh
+    Range { low: 1, high: 18446744073709551615 }, // ialth
+    Range { low: 20, high: 1000020 }, // icount
+    Range { low: 0, high: 1 }, // table
+    Range { low: 0, high: 4611686018427387903 }, // nslp
+    Range { low: 0, high: 4611686018427387903 }, // nst
+    Range { low: 0, high: 4611686018427387903 }, // nfe
+    Range { low: 0, high: 4611686018427387903 }, // nje
+    Range { low: 0, high: 4611686018427387903 }, // nlu
+    Range { low: 0, high: 4611686018427387903 }, // rejected
+    Range { low: 0, high: 4611686018427387903 }, // total
+    Range { low: 0, high: 4611686018427387903 }, // count
+    Range { low: 0, high: 9 }, // kflag
+    Range { low: 0, high: 18446744073709551615 }, // ncf
+    Range { low: 0, high: 18446744073709551615 }, // m
+    Range { low: 0, high: 18446744073709551615 }, // column
+    Range { low: 0, high: 1 }, // due
+    Range { low: 0, high: 1 }, // jcur
+    Range { low: 0, high: 1 }, // setup
+];
+
+#[tactic(auto, unfolding(crate::specs::Fields::lowest, crate::specs::Fields::highest))]
+pub fn ranges() -> [Range; common::COUNT_WORDS]
+    ensures { (map (λ r. r.low) result ≡ lowest) × (map (λ r. r.high) result ≡ highest) }
 {
-    HIGHEST
+    RANGES
 }
 
 // The counts of a session, flags and states among them.

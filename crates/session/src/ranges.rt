@@ -1,5 +1,5 @@
 // The ranges of 13: each word by itself, fields against each other, tolerances, pivots.
-ghost use Rattle.std.specs.Prelude.{◌≡◌, Bool, true, ◌+◌, ◌*◌, ◌≤◌, ◌<◌, [], length};
+ghost use Rattle.std.specs.Prelude.{◌≡◌, Bool, true, ◌+◌, ◌*◌, ◌≤◌, ◌<◌, [], length, map};
 ghost use Rattle.loops.specs.For.{for};
 ghost use Rattle.common.specs.Limits.{max_states};
 ghost use Rattle.common.specs.SessionWords.{count_words, session_length};
@@ -8,6 +8,7 @@ ghost use Rattle.session.specs.Session.{every, and_at, word_in_range, lists_in_r
 ghost use Rattle.session.specs.Session.{counters_in_range, fields_in_range};
 ghost use Rattle.session.specs.Session.{not_negative, tolerances_in_range, pivot_below, pivots_below};
 
+use crate::fields::Range;
 use common::{Common, Settings};
 
 const HALF: usize = common::COUNT_WORDS / 2;
@@ -15,15 +16,15 @@ const HALF: usize = common::COUNT_WORDS / 2;
 // Whether each count from a to e is between its least and its greatest value.
 fn run(
     u: &[usize; common::COUNT_WORDS],
-    low: &[usize; common::COUNT_WORDS],
-    high: &[usize; common::COUNT_WORDS],
+    r: &[Range; common::COUNT_WORDS],
     a: usize,
     e: usize,
 ) -> bool
-    requires { (low.now ≡ lowest) × (high.now ≡ highest) × (a ≤ e) × (e ≤ count_words) }
+    requires { (map (λ x. x.low) r.now ≡ lowest) × (map (λ x. x.high) r.now ≡ highest)
+        × (a ≤ e) × (e ≤ count_words) }
     ensures { result ≡ for a e (and_at (word_in_range u.now)) true }
 {
-    (a..e).all(|i| low[i] <= u[i] && u[i] <= high[i])
+    (a..e).all(|i| r[i].low <= u[i] && u[i] <= r[i].high)
 }
 
 // Whether each of all counts is. Two runs, each short enough to be unrolled, so that the tables become constants.
@@ -31,9 +32,8 @@ fn run(
 fn words(u: &[usize; common::COUNT_WORDS]) -> bool
     ensures { result ≡ every (word_in_range u.now) count_words }
 {
-    let low = crate::fields::lowest();
-    let high = crate::fields::highest();
-    run(u, &low, &high, 0, HALF) && run(u, &low, &high, HALF, common::COUNT_WORDS)
+    let r = crate::fields::ranges();
+    run(u, &r, 0, HALF) && run(u, &r, HALF, common::COUNT_WORDS)
 }
 
 // The lengths of the tolerance lists.
