@@ -37,6 +37,7 @@ fn known(kind: usize) -> Option<Kind>
 // The kind of a reply with a session of the right length, or 3, 13, 14. A stored n that is no number of states gives
 // 13 before the lengths that need it; a finished session is judged by its n and phase alone.
 // Counts, record and bytes are one session's: a struct of the three would only carry the two clauses that tie them.
+#[tactic(auto, unfolding(crate::specs::Replies::reply_refusal_of))]
 pub fn checked(
     kind: usize,
     u: &[usize; common::COUNT_WORDS],

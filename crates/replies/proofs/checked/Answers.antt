@@ -4,10 +4,6 @@ use Rattle.refusals.specs.Refusal.{also_of, or_else}
 use Rattle.replies.specs.Replies.{lengths_refusal, stored_refusal, reply_refusal_of}
 use Rattle.replies.proofs.checked.Goals as goal
 
-pub returns-then-n-eq0-clause-refused : goal.returns-then-n-eq0-clause-refused
-unfolding reply_refusal_of lengths_refusal stored_refusal also_of or_else
-returns-then-n-eq0-clause-refused c = search rules
-
 pub returns-then-not-are_lent-clause-refused : goal.returns-then-not-are_lent-clause-refused
 unfolding reply_refusal_of lengths_refusal stored_refusal also_of or_else
 returns-then-not-are_lent-clause-refused c = search rules
