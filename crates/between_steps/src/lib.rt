@@ -1,6 +1,7 @@
 // What the run does between two steps, shared by the machine and the step rules: what a host may say and how a run
 // may end, the way to a step's first prediction, the first step's size, a state that the host gives.
 // Settings, record and work stay parameters, with a clause on each one's range: the head of crate history says why.
+// take_first and take_state go by the length of what they take, so n is no parameter of theirs.
 #![tactic(auto)]
 
 ghost use Rattle.std.specs.Prelude.{◌≡◌, ◌≤◌, length};

@@ -190,7 +190,8 @@ impl Settings {
     }
 }
 
-// What needs the settings too is passed them.
+// What needs the settings too is passed them. Bounds on one count or order stay clauses: the head of crate history says
+// why.
 impl Common {
     #[tactic(auto, unfolding(crate::specs::Rules::first_call_init_of))]
     pub fn stoda_first_call_init(self, s: Settings) -> Common

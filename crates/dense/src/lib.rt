@@ -5,7 +5,8 @@
 // prove, with two lines and three ranges more, and the factoring takes 1 to 4 percent more instructions), and the
 // others hand on, or answer, the row or column that they are at (`find_pivot` by an iterator: 3 to 6 percent more).
 // A struct of a and n would hold a `&mut` whose name each contract had to keep. That each pivot is below n stays a
-// clause, `by_index`: the pivots are a slice that is lent, and a struct of it would be made anew in each caller.
+// clause, `by_index`: the pivots are a slice that is lent, and a struct of it would be made anew in each caller. Bounds
+// on one index stay clauses: the head of crate history says why.
 #![tactic(auto)]
 
 ghost use Rattle.std.specs.Prelude.{◌≡◌, true, ℕ, ◌+◌, ◌*◌, ◌<◌, ◌≤◌, length, get_or};

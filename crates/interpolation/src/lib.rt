@@ -1,5 +1,6 @@
 // The snapshot of a step and its dense output: snapshot_step, and interpolate with its header and evaluation.
-// Settings, record and work stay parameters, with a clause on each one's range: the head of crate history says why.
+// Settings, record and work stay parameters, with a clause on each one's range: the head of crate history says why. So
+// does the question, a lent slice, and a place in it beside it, as the definitions have them.
 #![tactic(auto)]
 
 ghost use Rattle.std.specs.Prelude.{◌≡◌, ◌+◌, ◌*◌, ◌≤◌, ◌<◌, length, IfSome};

@@ -1,5 +1,6 @@
 // The Jacobian of the corrector, `prja` in its parts: the matrix by differences or from the host, its norm and factors.
-// add_identity counts an index, since the diagonal's entries stand n + 1 apart: a `step_by` asks for a measure.
+// add_identity counts an index, since the diagonal's entries stand n + 1 apart: over a `step_by` a proof needs a
+// measure, and the place of each turn all the same.
 // Settings, record and work stay parameters, with a clause on each one's range: the head of crate history says why.
 #![tactic(auto)]
 
