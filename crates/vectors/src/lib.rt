@@ -47,7 +47,7 @@ fn larger(m: f64, x: f64) -> f64
     if m < x { x } else { m }
 }
 
-// |v|·w at index i.
+// |v|·w at index i. A w that is longer than v serves too: a clause says so here and in what norms v.
 fn entry(v: &[f64], w: &[f64], i: usize) -> f64
     requires { (i < length v.now) × (length v.now ≤ length w.now) }
     ensures { result ≡ entry_of v.now w.now i }
