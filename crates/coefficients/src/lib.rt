@@ -1,7 +1,8 @@
 // The coefficients of both families, as `cfode` computes them, and the stability limits SM1.
 // One table of 384 numbers: for each family 12 orders of 13 numbers (elco) and 12 of 3 (tesco). Unset ones are 0.
 // A table is a number, 0 none yet, 1 Adams, 2 BDF: `MethodFamily` stands in common, above. Table and order stay two
-// parameters, and their bounds clauses: each caller has them as two fields of a larger record.
+// parameters, and their bounds clauses: the table is the record's, the order often another number (the order in force,
+// mxordn), so a struct of both would be made for each call.
 #![tactic(auto)]
 
 ghost use Rattle.std.specs.Prelude.{◌≡◌, ◌+◌, ◌-◌, ◌*◌, ◌≤◌, ◌<◌, cond, eqb, get_or};

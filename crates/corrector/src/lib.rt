@@ -1,7 +1,7 @@
 // One corrector iteration of each family: what becomes of the correction and of y, and the size of the correction; and
 // the verdict on it: converged, a further derivative, a retry with a new Jacobian, no convergence.
-// Three loops count a state's index: each writes two parts of the work, and however the slice is split first, one of
-// the two would still be written by index.
+// Three loops count a state's index: each writes two parts of the work. After a split one of them is still written by
+// index, and of what `iter_mut().zip(..)` wrote a proof knows the length alone.
 // That each pivot is below n stays a clause (`by_index`): the head of crate dense says why.
 // Settings, record and work stay parameters, with a clause on each one's range: the head of crate history says why.
 #![tactic(auto)]

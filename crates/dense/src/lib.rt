@@ -43,7 +43,8 @@ fn find_pivot(a: &[f64], n: usize, k: usize) -> Pivot
     pivot
 }
 
-// Rows k and p change places, if they are two.
+// Rows k and p change places, if they are two. By index: of what `chunks_exact_mut` leaves a proof knows the length
+// alone.
 #[tactic(auto, using(crate::proofs::Laws::exchanges), unfolding(crate::specs::Factor::swap_of))]
 fn exchange(a: &mut [f64], n: usize, k: usize, p: usize)
     requires { (k < n) × (p < n) × (n * n ≤ length a.old) }

@@ -4,6 +4,7 @@
 // the `&mut` no contract is an equation for what work becomes: it is a relation that keeps the reference's name too.
 // Settings and Common stay two values: a rule makes the record anew, so a struct of both would be taken apart in each.
 // A bound on one count, order or index stays a clause: a type for it would be unwrapped wherever it is reckoned with.
+// A place in the work stays a number: parts that are read and written lie in one slice, and contracts speak of it all.
 // sweep and copy_part count an index: the part that they read and the part that they write may overlap.
 // passes and correct_columns hand on the number of the pass or column that they are at.
 #![tactic(auto)]

@@ -1,6 +1,6 @@
 // The snapshot of a step and its dense output: snapshot_step, and interpolate with its header and evaluation.
 // Settings, record and work stay parameters, with a clause on each one's range: the head of crate history says why. So
-// does the question, a lent slice, and a place in it beside it, as the definitions have them.
+// does the question, with a place: of a part that is cut out a lemma would have to say what the whole becomes.
 #![tactic(auto)]
 
 ghost use Rattle.std.specs.Prelude.{◌≡◌, ◌+◌, ◌*◌, ◌≤◌, ◌<◌, length, IfSome};
@@ -109,7 +109,8 @@ fn horner(yi: &mut [f64], column: &[f64], s: f64)
     }
 }
 
-// The polynomial of the columns at s = (xi - tn) / h, by Horner's rule from the last column down.
+// The polynomial of the columns at s = (xi - tn) / h, by Horner's rule from the last column down. By number, since n may
+// be 0, where `chunks_exact` would panic.
 fn evaluate(xi: f64, yi: &mut [f64], cont: &[f64], z: Sizes)
     requires { (z.n ≤ max_states) × (z.nq ≤ 12) × (length yi.old ≡ z.n)
         × (6 + (z.nq + 1) * z.n ≤ length cont.now) }

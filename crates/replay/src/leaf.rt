@@ -1,6 +1,7 @@
 // A stored call of a leaf, made again: one of the functions of probe on the lists a, b and m that are
-// lent to it, and whether it answers and leaves what the reference did. A place stands beside the stored words, as in
-// replay_runs. a, b and m stay three: probe's functions read or write other ones of them each. The bounds on a call's
+// lent to it, and whether it answers and leaves what the reference did. A place stands beside the stored words: a
+// part cut out for each list would be cut anew at each call, and a struct of both made anew for each of the six lists.
+// a, b and m stay three: probe's functions read or write other ones of them each. The bounds on a call's
 // place and on the lengths stay clauses: the definitions make a `Call` of any eleven numbers.
 ghost use Rattle.std.specs.Prelude.{◌≡◌, ◌+◌, ◌*◌, ◌≤◌, length, get_or};
 ghost use Rattle.replay.specs.Leaf.{LeafAfter, leaf_norms, leaf_first_step, leaf_lists, leaf_records, leaf_of};

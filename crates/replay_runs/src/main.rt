@@ -90,7 +90,7 @@ fn reply_size(kind: usize, n: usize) -> usize
 }
 
 // What the host lends to each call of a run: the parts that n states have, since the calls ask for the exact lengths.
-// Slices: of an array in the struct no part can be lent behind `&mut self` beside another field.
+// Slices: of an array in the struct the check refuses a part that is lent behind `&mut self` beside another field.
 #[derive(Drop)]
 struct Lent<'a> {
     n: usize,

@@ -6,13 +6,12 @@ ghost use Rattle.replay_runs.specs.Words.{are_stored_three, are_stored_floats, m
 // As many as a reply can have: those of a Jacobian.
 const MOST_NUMBERS: usize = common::MAX_STATES * common::MAX_STATES;
 
-// Where reading stands among the words, at most at their end. Each method reads so many words behind. It is the whole
-// slice with a number, since the definitions count from the slice's beginning.
+// Where reading stands among the words. Each method reads so many words behind. It is the whole slice with a number,
+// since the definitions count from the slice's beginning.
 #[derive(Clone, Copy)]
 pub struct Place<'a> {
     pub words: &'a [u64],
     pub at: usize,
-    ghost within: { at ≤ length words.now },
 }
 
 impl<'a> Place<'a> {
@@ -20,24 +19,25 @@ impl<'a> Place<'a> {
         Place { words, at: 0 }
     }
 
-    // So many words further, or the end.
-    pub fn after(&self, k: usize) -> Place<'a>
-        requires { k ≤ 10000 }
-    {
+    // So many words further.
+    pub fn after(&self, k: usize) -> Place<'a> {
         Place {
             words: self.words,
-            at: (self.at + k).min(self.words.len()),
+            at: self.at.saturating_add(k),
         }
     }
 
     pub fn is_end(&self) -> bool {
-        self.at == self.words.len()
+        self.at >= self.words.len()
     }
 
     pub fn word(&self, k: usize) -> u64
         ensures { result ≡ word_of self.now.words.now (self.now.at + k) }
     {
-        self.words[self.at..].get(k).copied().unwrap_or(0)
+        self.words
+            .get(self.at.saturating_add(k))
+            .copied()
+            .unwrap_or(0)
     }
 
     pub fn count(&self, k: usize) -> usize

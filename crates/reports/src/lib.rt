@@ -1,5 +1,6 @@
 // The start and the reports: the first step, and what the host's answers and a state that it has modified lead to.
 // Settings, record and work stay parameters, with a clause on each one's range: the head of crate history says why.
+// Answer, y and time of a reply stay three: the head of crate machine says why.
 // That a reply is n long is a clause: the head of crate passes says why.
 #![tactic(auto)]
 

@@ -157,6 +157,7 @@ fn run(rt: &impl Print, options: Options) -> io::Result<()> {
     let mut lent = Lent::new();
     let mut watch = Watch::new();
     let mut r = lent.start(options);
+    // It counts turns, and indexes nothing.
     for _ in 0..100000 {
         let Some(wanted) = Wanted::of(r.number) else {
             break;

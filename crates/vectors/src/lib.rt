@@ -1,8 +1,9 @@
 // Norms and weights: vmnorm, fnorm_dense, ewset, invert_weights, initial_step_size.
 // Loops by index: `row_sum` and `row_sums` go along rows, which are no slices (by the weights' iterator both prove,
-// with a parameter and a clause more), `fnorm_dense` goes by rows, and `vmnorm` to its last entries, as w may be longer
+// with a parameter and a clause more), `fnorm_dense` goes by rows, and `vmnorm` takes w by number, which may be longer
 // than v (by a `zip` it proves and takes 3 to 5 percent more instructions). The weights' functions take work, n and a
-// place, as callers have them. The two tolerance lists stay two parameters here: crate common's `Problem` is above.
+// place: each caller would split the work first, and put the whole together again in its proof. The two tolerance lists
+// stay two parameters here: crate common's `Problem` is above.
 #![tactic(auto)]
 
 ghost use Rattle.std.specs.Prelude.{◌≡◌, false, ◌+◌, ◌-◌, ◌*◌, ◌≤◌, ◌<◌, length};
