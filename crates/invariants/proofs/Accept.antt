@@ -7,11 +7,10 @@ use lib.Dec.{eqb, ltb}
 use lib.Ieee as Ieee
 use lib.Ieee.{Float}
 use Rattle.loops.proofs.Test.{chosen}
-use Rattle.numbers.specs.Float.{zero_f, d1_1}
+use Rattle.numbers.specs.Float.{d1_1}
 use Rattle.common.specs.declared.Settings.{Settings}
 use Rattle.common.specs.declared.Common.{Common}
 use Rattle.common.specs.Record.{is_bdf, with_nq}
-use Rattle.common.specs.Rules.{reset_of}
 use Rattle.history.specs.Columns.{correct_columns_of}
 use Rattle.acceptance.specs.declared.family.Change.{Change}
 use Rattle.acceptance.specs.declared.family.Change.TheVariants.{Stay, Gap, To}
