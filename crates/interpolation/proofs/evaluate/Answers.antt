@@ -1,5 +1,5 @@
 use Prim.Native.Nat.{◌+◌, ◌-◌, ◌*◌}
-use mathlib.Core.Path.{◌≡◌, refl, sym, ap, ◌∙◌}
+use mathlib.Core.Path.{◌≡◌, sym, ap, ◌∙◌}
 use native.Mathlib.Omega.{arith}
 use lib.ListN.{length}
 use Rattle.loops.specs.Part.{part}
@@ -7,11 +7,6 @@ use Rattle.loops.proofs.For.{onward, ended}
 use Rattle.interpolation.specs.Evaluate.{last_column_of, evaluate_of}
 use Rattle.interpolation.proofs.Laws.{copied-column}
 use Rattle.interpolation.proofs.evaluate.Goals as goal
-
-pub loop-j-init : goal.loop-j-init
-loop-j-init c =
-    let first : c.args.z.nq + 1 - c.args.z.nq ≡ 1 = omega arith in
-    rw first refl
 
 pub loop-j-preserved : goal.loop-j-preserved
 loop-j-preserved c =
