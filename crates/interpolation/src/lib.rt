@@ -109,8 +109,8 @@ fn horner(yi: &mut [f64], column: &[f64], s: f64)
     }
 }
 
-// The polynomial of the columns at s = (xi - tn) / h, by Horner's rule from the last column down. By number, since n may
-// be 0, where `chunks_exact` would panic.
+// The polynomial of the columns at s = (xi - tn) / h, by Horner's rule from the last column down. By number, since n
+// may be 0, where `chunks_exact` would panic.
 fn evaluate(xi: f64, yi: &mut [f64], cont: &[f64], z: Sizes)
     requires { (z.n ≤ max_states) × (z.nq ≤ 12) × (length yi.old ≡ z.n)
         × (6 + (z.nq + 1) * z.n ≤ length cont.now) }
