@@ -2,9 +2,10 @@
 // every reply is the stored one. Writes how many answers were compared and how many differ, and then the scope's sums.
 #![tactic(auto)]
 
-ghost use Rattle.std.specs.Prelude.{◌≤◌, length};
+ghost use Rattle.std.specs.Prelude.{◌+◌, ◌≤◌, ◌<◌, ◌≡◌, cond, length};
 ghost use Rattle.common.specs.Layout.{question_length};
 ghost use Rattle.common.specs.Limits.{max_states};
+ghost use Rattle.replay_runs.specs.Answer.{is_stored_answer};
 ghost use Rattle.replay_runs.specs.Words.{most_numbers};
 
 mod answer;
@@ -38,7 +39,9 @@ struct Head<'a> {
 }
 
 impl<'a> Head<'a> {
-    fn read(place: Place<'a>) -> Head<'a> {
+    fn read(place: Place<'a>) -> Head<'a>
+        ensures { (result.place.words.now ≡ place.entry.words.now) × (result.place.at ≡ place.entry.at) }
+    {
         Head {
             place,
             n: place.limited(0, common::MAX_STATES),
@@ -69,7 +72,11 @@ impl<'a> Head<'a> {
     }
 
     // The answer to the start stands behind x0, xend, y0, rtol and atol.
-    fn first_answer(&self) -> Place<'a> {
+    fn first_answer(&self) -> Place<'a>
+        requires { self.now.place.at ≤ 1000000 }
+        ensures { (result.words.now ≡ self.now.place.words.now)
+            × (self.now.place.at < result.at) × (result.at ≤ 1010000) }
+    {
         self.place.after(19 + self.n + self.nrtol + self.natol)
     }
 }
@@ -140,13 +147,52 @@ impl<'a> Lent<'a> {
     }
 
     // Whether this answer is the stored one.
-    fn is_stored(&self, place: &Place, r: Reply) -> bool {
+    fn is_stored(&self, place: &Place, r: Reply) -> bool
+        ensures { result ≡ is_stored_answer place.now.words.now place.now.at self.now.n r self.now.question.now }
+    {
         answer::is_stored(place, self.n, r, self.question)
     }
 }
 
+// Counts the stored answer that stands there, and whether ours differs from it. Behind it a reply stands, or a run.
+fn compared<'a>(place: &Place<'a>, lent: &Lent, r: Reply, found: &mut Found) -> Place<'a>
+    requires { (place.now.at ≤ 1010000) × (found.old.answers ≤ place.now.at) × (found.old.differ ≤ place.now.at) }
+    ensures place { (result.words.now ≡ place.now.words.now)
+        × (place.now.at < result.at) × (result.at ≤ place.now.at + 1000) }
+    ensures counts { (found.new.runs ≡ found.old.runs) × (found.new.answers ≡ found.old.answers + 1)
+        × (found.new.differ ≡ found.old.differ
+        + cond (is_stored_answer place.now.words.now place.now.at lent.now.n r lent.now.question.now) 0 1) }
+{
+    found.answers += 1;
+    if !lent.is_stored(place, r) {
+        found.differ += 1;
+    }
+    place.after(answer::size(place, lent.n))
+}
+
+// Behind the stored reply.
+fn passed<'a>(place: &Place<'a>, n: usize) -> Place<'a>
+    requires { (place.now.at ≤ 1000000) × (n ≤ max_states) }
+    ensures { (result.words.now ≡ place.now.words.now)
+        × (place.now.at < result.at) × (result.at ≤ 1010000) }
+{
+    place.after(2 + reply_size(place.count(0), n))
+}
+
 // The run that stands there, from its start to its last stored answer. The next one stands where the result says.
-fn run<'a>(place: Place<'a>, found: &mut Found) -> Place<'a> {
+fn run<'a>(place: Place<'a>, found: &mut Found) -> Place<'a>
+    requires stored_len_bound { length place.words.now ≤ 1000000 }
+    requires at_bound { (place.at ≤ 1000000) × (found.old.answers ≤ place.at) × (found.old.differ ≤ place.at)
+        × (found.old.runs ≤ 1000000) }
+    ensures place { (result.words.now ≡ place.entry.words.now) × (result.at ≤ 1020000) }
+    ensures runs { found.new.runs ≡ found.old.runs + 1 }
+    ensures counts { (found.new.answers ≤ result.at) × (found.new.differ ≤ result.at) }
+    ensures answered { 0 < length place.entry.words.now → found.old.answers < found.new.answers }
+    ensures moved { found.new.answers + place.entry.at ≤ found.old.answers + result.at }
+    ensures differ { (found.old.differ ≤ found.new.differ)
+        × (found.new.differ + found.old.answers ≤ found.old.differ + found.new.answers) }
+{
+    found.runs += 1;
     let head = Head::read(place);
     let n = head.n;
     let mut work = [0.0; common::WORK_LENGTH];
@@ -164,22 +210,22 @@ fn run<'a>(place: Place<'a>, found: &mut Found) -> Place<'a> {
     let mut place = head.first_answer();
     // Counted by turns: the number indexes nothing.
     for _ in 0..place.words.len() {
-        found.answers = found.answers.saturating_add(1);
-        if !lent.is_stored(&place, r) {
-            found.differ = found.differ.saturating_add(1);
-        }
         let asked = answer::is_asked(&place);
-        place = place.after(answer::size(&place, n));
+        place = compared(&place, &lent, r, found);
         if !asked || place.is_end() {
             break;
         }
         r = lent.reply(&place);
-        place = place.after(2 + reply_size(place.count(0), n));
+        place = passed(&place, n);
     }
     place
 }
 
-fn all(stored: &[u64]) -> Found {
+fn all(stored: &[u64]) -> Found
+    requires { length stored.now ≤ 1000000 }
+    ensures counts { (result.runs ≤ result.answers) × (result.differ ≤ result.answers) × (result.answers ≤ 1020000) }
+    ensures answered { 0 < length stored.now → 0 < result.runs }
+{
     let mut found = Found {
         runs: 0,
         answers: 0,
@@ -192,7 +238,6 @@ fn all(stored: &[u64]) -> Found {
             break;
         }
         place = run(place, &mut found);
-        found.runs = found.runs.saturating_add(1);
     }
     found
 }
@@ -204,10 +249,9 @@ fn whole() -> Found {
 
 fn main(rt: HostRuntime) -> io::Result<()> {
     let found = whole();
-    println!(rt; "runs: {}", found.runs)?;
     println!(rt;
-        "answers: {} compared, {} differ",
-        found.answers, found.differ
+        "runs: {}\nanswers: {} compared, {} differ",
+        found.runs, found.answers, found.differ
     )?;
     sums::lines(&rt)
 }

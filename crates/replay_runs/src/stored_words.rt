@@ -1,5 +1,5 @@
 // The stored words: counts, and floats by their patterns. Behind the end every word is 0.
-ghost use Rattle.std.specs.Prelude.{◌+◌, ◌≤◌, ◌≡◌, length};
+ghost use Rattle.std.specs.Prelude.{◌+◌, ◌≤◌, ◌≡◌, leb, length};
 ghost use Rattle.replay_runs.specs.Words.{word_of, limited_word, float_of, is_stored_count, is_stored_float};
 ghost use Rattle.replay_runs.specs.Words.{are_stored_three, are_stored_floats, most_numbers};
 
@@ -15,19 +15,26 @@ pub struct Place<'a> {
 }
 
 impl<'a> Place<'a> {
-    pub fn first(words: &'a [u64]) -> Place<'a> {
+    pub fn first(words: &'a [u64]) -> Place<'a>
+        ensures { (result.words.now ≡ words.now) × (result.at ≡ 0) }
+    {
         Place { words, at: 0 }
     }
 
     // So many words further.
-    pub fn after(&self, k: usize) -> Place<'a> {
+    pub fn after(&self, k: usize) -> Place<'a>
+        requires { (self.now.at ≤ 1010000) × (k ≤ 10000) }
+        ensures { (result.words.now ≡ self.now.words.now) × (result.at ≡ self.now.at + k) }
+    {
         Place {
             words: self.words,
-            at: self.at.saturating_add(k),
+            at: self.at + k,
         }
     }
 
-    pub fn is_end(&self) -> bool {
+    pub fn is_end(&self) -> bool
+        ensures { result ≡ leb (length self.now.words.now) self.now.at }
+    {
         self.at >= self.words.len()
     }
 
