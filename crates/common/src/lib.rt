@@ -4,7 +4,7 @@
 // The comment behind a field is its line in docs/SESSION.md.
 #![tactic(auto)]
 
-ghost use Rattle.std.specs.Prelude.{◌≡◌, Bool, ◌+◌, ◌*◌, ◌≤◌, ◌<◌};
+ghost use Rattle.std.specs.Prelude.{◌≡◌, Bool, ◌+◌, ◌*◌, ◌≤◌, ◌<◌, length};
 ghost use Rattle.common.specs.Record.{is_bdf};
 ghost use Rattle.common.specs.Layout.{work_length, question_length};
 ghost use Rattle.common.specs.Limits.{max_states, mxordn_of, mxords_of, msbp_of, mxncf_of, maxord_of};
@@ -58,6 +58,17 @@ pub fn question_length(n: usize) -> usize
     ensures { result ≡ question_length n }
 {
     QUESTION * n + HEADER
+}
+
+// A part of what is lent becomes another. By index: std's `copy_from_slice` asks C's memmove of whoever links the
+// static library, and of what `iter_mut().zip(from)` leaves a proof knows the length alone.
+pub fn copy_from(to: &mut [f64], from: &[f64])
+    requires { length to.old ≡ length from.now }
+    ensures { to.new ≡ from.now }
+{
+    for (i, x) in to.iter_mut().enumerate() {
+        *x = from[i];
+    }
 }
 
 // made by tools/record.py: the words of a session

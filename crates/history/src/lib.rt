@@ -34,7 +34,7 @@ pub fn store(work: &mut [f64], at: usize, f: &[f64])
     requires { at + length f.now ≤ length work.old }
     ensures { work.new ≡ stored_of at f.now work.old }
 {
-    work[at..at + f.len()].copy_from_slice(f);
+    common::copy_from(&mut work[at..at + f.len()], f);
 }
 
 // Each number from a to e becomes what f makes of it and the one that stands n further on.
@@ -154,7 +154,7 @@ pub fn set_slope(work: &mut [f64], n: usize, h: f64)
     }
 }
 
-// Each number becomes x: std's own, kept for the two wrong answers in must-fail-more that speak of it.
+// Each number becomes x.
 pub fn fill(v: &mut [f64], x: f64)
     ensures { v.new ≡ replicate (length v.old) x }
 {

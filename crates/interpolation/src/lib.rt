@@ -67,7 +67,7 @@ pub fn snapshot_step(s: Settings, c: Common, work: &[f64], question: &mut [f64])
     put_header(s, c, question, n);
     let columns = (c.nq + 1) * n;
     let at = n + common::HEADER;
-    question[at..at + columns].copy_from_slice(&work[..columns]);
+    common::copy_from(&mut question[at..at + columns], &work[..columns]);
 }
 
 // The count up to `limit` that a float equals; -0.0 equals 0, and no NaN, fraction or infinity equals any.
@@ -119,7 +119,7 @@ fn evaluate(xi: f64, yi: &mut [f64], cont: &[f64], z: Sizes)
     let n = z.n;
     let s = (xi - z.tn) / z.h;
     let last = common::HEADER + z.nq * n;
-    yi.copy_from_slice(&cont[last..last + n]);
+    common::copy_from(yi, &cont[last..last + n]);
     for j in (0..z.nq).rev() {
         let a = common::HEADER + j * n;
         horner(yi, &cont[a..a + n], s);
@@ -134,7 +134,7 @@ pub fn interpolate(xi: f64, yi: &mut [f64], cont: &[f64]) -> Result<(), Unusable
         (interpolate_of xi cont.now yi.old) }
 {
     if cont.len() == yi.len() {
-        yi.copy_from_slice(cont);
+        common::copy_from(yi, cont);
         return Ok(());
     }
     let Some(z) = read_header(cont) else {

@@ -74,7 +74,7 @@ fn show(n: usize, at: usize, work: &[f64], question: &mut [f64])
     requires { (at + n ≤ length work.now) × (n ≤ length question.old) }
     ensures { question.new ≡ shown_of n at work.now question.old }
 {
-    question[..n].copy_from_slice(&work[at..at + n]);
+    common::copy_from(&mut question[..n], &work[at..at + n]);
 }
 
 // y stands first, the snapshot from n on; an end leaves the question as it was.

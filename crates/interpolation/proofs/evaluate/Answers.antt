@@ -23,9 +23,9 @@ unfolding evaluate_of
 returns c =
     let b = c.args.z in
     let size : 6 + b.nq * b.n + b.n - (6 + b.nq * b.n) ≡ b.n = omega arith in
-    let last = rw size at c.copy_from_slice.ensures.after in
+    let last = rw size at c.copy_from.ensures in
     let column = part (6 + b.nq * b.n) b.n c.args.cont.now in
     let whole : last_column_of column c.args.yi.now ≡ column =
-    copied-column column c.args.yi.now (ap length (sym last) ∙ c.copy_from_slice.ensures.len)
+    copied-column column c.args.yi.now (ap length (sym last) ∙ omega (arith, c.copy_from.auto.to))
     in
     rw (whole, ← last) (ended _ _ _ _ _ (omega arith) c.loop-j.invariant)

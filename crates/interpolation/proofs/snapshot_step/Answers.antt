@@ -19,4 +19,4 @@ returns c =
     let size : n + 6 + columns - (n + 6) ≡ columns = omega arith in
     let room : n + 6 + columns ≤ length c.put_header.new.to = omega (arith, q, c.requires.4, c.put_header.auto.to) in
     let all = copies nan (n + 6) columns c.args.work.now c.put_header.new.to (omega (arith, q, c.requires.3)) room in
-    rw (size, c.copy_from_slice.ensures.after, ← c.put_header.ensures) (sym all)
+    rw (size, c.copy_from.ensures, ← c.put_header.ensures) (sym all)
