@@ -26,7 +26,7 @@ use dense::Singular;
 pub fn open_iterations(c: Common, acor: &mut [f64]) -> Common
     ensures { (result ≡ open_of c) × (acor.new ≡ replicate (length acor.old) zero_f) }
 {
-    acor.fill(0.0);
+    history::fill(acor, 0.0);
     Common {
         m: 0,
         rate: 0.0,

@@ -59,7 +59,7 @@ pub fn accept(
         })) }
 {
     let s = start.settings;
-    work.fill(0.0);
+    history::fill(work, 0.0);
     history::store(work, common::Y * s.n, y0);
     pivots.fill(0);
     let c = Common::initial(s, start.x0, start.h, start.hmin, start.hmxi);
