@@ -1,6 +1,7 @@
 -- Which float a pattern is, by the tests that the code makes.
 --     nan_test, no_nan    `x != x` says whether x is a NaN
 --     past-infinity       a pattern above infinity's, its sign left out, is a NaN's
+--     nan_pattern         the pattern of a NaN
 --     nan_literal         `f64::NAN` is a NaN
 -- Assumes nothing.
 use mathlib.Core.Path.{◌≡◌, refl, sym, ◌∙◌}
@@ -36,7 +37,15 @@ past-infinity b h =
     (sym (nan_bits_is binary64 b) ∙ nan_bits_above binary64 b
     ∙ lt-ltb 0x7ff0_0000_0000_0000 (b % 0x8000_0000_0000_0000) h)
 
+-- the pattern that every NaN is written with
+pub nan_pattern : (x : Float) → Ieee.is_nan x ≡ true → 0x7ff8_0000_0000_0000 ≡ Ieee.to_bits binary64 x
+unfolding Ieee.to_bits
+nan_pattern x h = rw (is-nan x h)
+
 -- `f64::NAN`
 pub nan_literal : Ieee.of_bits binary64 0x7ff8_0000_0000_0000 ≡ nan
 unfolding Ieee.of_bits
 nan_literal = refl
+
+-- for a body that tells the patterns of NaNs by a test
+pub ruleset nans_by_test = (past-infinity, nan_literal)

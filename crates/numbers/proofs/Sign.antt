@@ -2,6 +2,7 @@
 --     abs_positive, abs_other   a number above 0 is its own magnitude; any other is subtracted from 0
 --     negative-bits             the sign is set where the pattern is 2^63 or more
 --     copysign_negative, copysign_positive    the magnitude, negated where the other's sign is set
+--     signum_nan, signum_negative, signum_positive    1 with the sign of x, or a NaN
 --     signum_is, negative_is, nan_positive    the library's words for the same, and that a NaN counts as positive
 --     is_positive               what is above 0 and not infinity
 -- Assumes nothing.
@@ -83,6 +84,27 @@ unfolding float_signum signum_of
 signum_is nan = refl
 signum_is (inf s) = refl
 signum_is (fin s m e) = refl
+
+pub signum_nan : (x : Float) → Ieee.is_nan x ≡ true → x ≡ signum_of x
+unfolding Ieee.is_nan signum_of
+signum_nan nan h = refl
+signum_nan (inf s) h = differs h
+signum_nan (fin s m e) h = differs h
+
+pub signum_negative : (x : Float) → negative x ≡ true → Ieee.neg (lit 0x3ff0_0000_0000_0000) ≡ signum_of x
+unfolding negative signum_of Ieee.neg Ieee.of_bits
+signum_negative nan h = differs h
+signum_negative (inf s) h = rw h
+signum_negative (fin s m e) h = rw h
+
+pub signum_positive : (x : Float) → Ieee.is_nan x ≡ false → negative x ≡ false → lit 0x3ff0_0000_0000_0000 ≡ signum_of x
+unfolding Ieee.is_nan negative signum_of Ieee.of_bits
+signum_positive nan g h = differs (sym g)
+signum_positive (inf s) g h = rw h
+signum_positive (fin s m e) g h = rw h
+
+-- for `signum`'s attribute
+pub ruleset signums = (signum_nan, signum_negative, signum_positive)
 
 pub negative_is : (x : Float) → is_sign_negative x ≡ negative x
 unfolding is_sign_negative negative

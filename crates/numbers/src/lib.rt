@@ -79,12 +79,19 @@ pub fn is_sign_negative(x: f64) -> bool
     !x.is_nan() && x.is_sign_negative()
 }
 
-// 1.0 with the sign of x, zeros included, or a NaN.
-#[tactic(auto, using(crate::proofs::Sign::signum_is))]
+// 1.0 with the sign of x, zeros included, or a NaN. By tests: std's goes by `copysign`, which takes twice as many
+// instructions.
+#[tactic(auto, using(crate::proofs::Sign::signums))]
 pub fn signum(x: f64) -> f64
     ensures { result ≡ signum_of x }
 {
-    x.signum()
+    if x.is_nan() {
+        x
+    } else if is_sign_negative(x) {
+        -1.0
+    } else {
+        1.0
+    }
 }
 
 // x with the sign of s, where a NaN counts as positive: std's asks that s is none. An x that is a NaN stays one.
