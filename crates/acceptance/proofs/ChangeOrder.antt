@@ -33,7 +33,7 @@ picked q m true p r e i j h k = (omega arith, omega (arith, ltb-true m q e))
 picked q m false p r e i j h k = (omega arith, omega arith)
 
 module _ (s : Settings) (c : Common) (dsm : Float) (work : List Float) (one : 1 ≤ c.nq) where
-  adams-order : 1 ≤ s.mxordn
+  pub adams-order : 1 ≤ s.mxordn
       → let p = (adams_proposal_of s c dsm work).proposal in (1 ≤ p.order) × (p.order ≤ c.nq)
   unfolding adams_proposal_of
   adams-order limit = smaller c.nq (mxordn_of s) _ refl one (omega arith)

@@ -1,5 +1,6 @@
 -- What the functions inside a reply ask of the record (`Inside`) holds at each of their calls: it is `Within` with one
 -- step under way, and bounds on the counts.
+--     inside-ranges           a stored record that 13 passes is inside
 --     prepared-range          what a step's first prediction asks
 --     within_of, inside-by    of a change: to `Within`, and back from what it keeps
 --     lent_length             the work and the pivots after a change of the work
@@ -12,11 +13,22 @@ use lib.Ieee.{Float}
 use lib.ListN.{length}
 use Rattle.common.specs.declared.Settings.{Settings}
 use Rattle.common.specs.declared.Common.{Common}
-use Rattle.common.specs.Ranges.{Inside, StepInRange, Lent}
+use Rattle.common.specs.Ranges.{Ranges, Inside, StepInRange, Lent}
 use Rattle.common.proofs.Ranges.{wider}
 use Rattle.between_steps.specs.Begin.{prepared_of}
 use Rattle.between_steps.proofs.Within.{core_of, Within, counters-of, range-of}
 use Rattle.between_steps.proofs.Within.{within-prepared}
+
+pub inside-ranges : {s : Settings} {c : Common} → Ranges s c → Inside s c
+inside-ranges p =
+    let k = p.counts in
+    record {
+      settings = p.settings;
+      orders = p.orders;
+      counters = p.counters;
+      steps = (omega (arith, k.nslp), omega (arith, k.nst));
+      counts = (omega (arith, k.nfe), omega (arith, k.count), omega (arith, k.rejected));
+    }
 
 -- nst stays inside a reply until a step is accepted, so icount stays at least 20
 module _ {s : Settings} {c : Common} (p : Inside s c) where

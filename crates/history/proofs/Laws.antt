@@ -24,7 +24,7 @@ use Rattle.history.specs.Columns.{times_of, Rescaled, rescale_at}
 use Rattle.history.specs.Columns.{rescale_columns_of, add_scaled_at, add_scaled_of, correct_at, correct_columns_of}
 use Rattle.history.specs.Columns.{copy_at, copy_of, slope_at, slope_of, fill_of, scale_part_of}
 use Rattle.common.specs.Ranges.{StepInRange}
-use Rattle.history.specs.Steps.{predicted_of}
+use Rattle.history.specs.Steps.{predicted_of, adjust_of}
 
 -- the passes of predict and retract, which differ in op
 module _ (op : Float → Float → Float) (n nqnyh : ℕ) where
@@ -107,6 +107,19 @@ same-range d nq table nqnyh nslp p =
       steps = rw nslp p.steps;
     }
 
+-- a record with a lower order, and otherwise the same places
+pub lower-range : {s : Settings} {c : Common} (d : Common) (q : ℕ)
+    → d.nq ≡ q → d.table ≡ c.table → d.nqnyh ≡ c.nqnyh → d.nslp ≡ c.nslp
+    → 1 ≤ q → q ≤ c.nq → StepInRange s c → StepInRange s d
+lower-range {s} {c} d q nq table nqnyh nslp one below p =
+    record {
+      n = p.n;
+      order = rw nq (one, omega (arith, p.order));
+      table = rw table p.table;
+      used = rw (nq, nqnyh) (omega (arith, mul-le-mul_right s.n below, p.used), p.used.1);
+      steps = rw nslp p.steps;
+    }
+
 -- a record with an order from 1 to 12 whose places are those of that order
 pub own-range : {s : Settings} {c : Common} (d : Common) → StepInRange s c
     → 1 ≤ d.nq → d.nq ≤ 12 → d.table ≡ c.table → d.nqnyh ≡ d.nq * s.n → d.nslp ≡ c.nslp → StepInRange s d
@@ -128,6 +141,10 @@ reset-range q one most p = own-range _ p one most refl refl refl
 pub in-range-predicted : (s : Settings) (c : Common) → StepInRange s c → StepInRange s (predicted_of s c)
 unfolding predicted_of
 in-range-predicted s c p = same-range _ refl refl refl refl p
+
+pub in-range-adjust : (s : Settings) (c : Common) (rh : Float) → StepInRange s c → StepInRange s (adjust_of c rh)
+unfolding adjust_of
+in-range-adjust s c rh p = same-range _ refl refl refl refl p
 
 -- for a function's attribute: the range of a record that a step's function is given
 pub ruleset in_range = (same-range, own-range)

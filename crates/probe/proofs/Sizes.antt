@@ -15,13 +15,13 @@ use Rattle.common.specs.Limits.{max_states}
 use Rattle.probe.specs.Leaves.{is_matrix, is_tolerance_list, is_behind, is_weighed, is_system, are_pivots}
 use Rattle.probe.proofs.Pivots.{pivots-below}
 
-matrix-fits : (n matrix vector : ℕ) → is_matrix n matrix vector ≡ true → (n * n ≤ matrix) × (n ≤ vector)
+pub matrix-fits : (n matrix vector : ℕ) → is_matrix n matrix vector ≡ true → (n * n ≤ matrix) × (n ≤ vector)
 unfolding is_matrix
 matrix-fits n matrix vector h =
     let p = and_parts (leb (n * n) matrix) (leb n vector) (and_parts (leb n max_states) _ h).1 in
     (leb-true (n * n) matrix p.0, leb-true n vector p.1)
 
-list-serves : (n : ℕ) (list : List Float) → is_tolerance_list n (length list) ≡ true → List1OrN list (n - 1)
+pub list-serves : (n : ℕ) (list : List Float) → is_tolerance_list n (length list) ≡ true → List1OrN list (n - 1)
 unfolding is_tolerance_list
 list-serves n list h =
     let p = and_parts (leb 1 n) _ h in
@@ -29,13 +29,13 @@ list-serves n list h =
     ⊎_map (λ e. eqb-true (length list) 1 e) (λ e. omega (arith, eqb-true (length list) n e))
     (or_cases (eqb (length list) 1) (eqb (length list) n) p.1)
 
-behind-fits : (n at len : ℕ) → is_behind n at len ≡ true → (n ≤ at) × (at + n ≤ len)
+pub behind-fits : (n at len : ℕ) → is_behind n at len ≡ true → (n ≤ at) × (at + n ≤ len)
 unfolding is_behind
 behind-fits n at len h =
     let p = and_parts (leb n at) (leb (at + n) len) h in
     (leb-true n at p.0, leb-true (at + n) len p.1)
 
-weighed-fits : (n rtol atol at len : ℕ) → is_weighed n rtol atol at len ≡ true
+pub weighed-fits : (n rtol atol at len : ℕ) → is_weighed n rtol atol at len ≡ true
     → (is_tolerance_list n rtol ≡ true) × (is_tolerance_list n atol ≡ true) × (is_behind n at len ≡ true)
 unfolding is_weighed
 weighed-fits n rtol atol at len h =
@@ -43,7 +43,7 @@ weighed-fits n rtol atol at len h =
     let q = and_parts (is_tolerance_list n atol) (is_behind n at len) p.1 in
     (p.0, q.0, q.1)
 
-system-fits : (n a b len pivots : ℕ) → is_system n a b len pivots ≡ true
+pub system-fits : (n a b len pivots : ℕ) → is_system n a b len pivots ≡ true
     → (b + n ≤ a) × (a + n * n ≤ len) × (n ≤ pivots)
 unfolding is_system
 system-fits n a b len pivots h =

@@ -16,7 +16,7 @@ use Rattle.common.specs.declared.Common.{Common}
 use Rattle.common.specs.Ranges.{StepInRange}
 use Rattle.probe.specs.Lent.{lent_settings, lent_common, are_columns, in_range, are_limits, is_usable}
 
-columns-fit : (n nq nqnyh len : ℕ) → are_columns n nq nqnyh len ≡ true
+pub columns-fit : (n nq nqnyh len : ℕ) → are_columns n nq nqnyh len ≡ true
     → (nq ≤ 12) × (nq * n ≤ nqnyh) × (nqnyh + n ≤ len)
 unfolding are_columns
 columns-fit n nq nqnyh len h =
