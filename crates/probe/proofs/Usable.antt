@@ -30,7 +30,7 @@ pub record Usable (fs : List Float) (cs : List ℕ) (work : ℕ) : Type 0 where
   pub long : matrix_at (lent_settings fs cs).n ≤ work
   pub limits : ((lent_settings fs cs).mxordn ≤ 1000000) × ((lent_settings fs cs).mxords ≤ 1000000)
 
-usable : (fs : List Float) (cs : List ℕ) (work : ℕ) → is_usable fs cs work ≡ true → Usable fs cs work
+pub usable : (fs : List Float) (cs : List ℕ) (work : ℕ) → is_usable fs cs work ≡ true → Usable fs cs work
 unfolding is_usable lent_settings lent_common are_limits in_range
 usable fs cs work h =
     let p = and_parts (eqb (length fs) 11) _ h in

@@ -17,7 +17,7 @@ const BDF: usize = 73;
 const JACOBIANS: usize = 19;
 
 // What was seen of a run.
-#[derive(Drop)]
+#[derive(Clone, Copy)]
 pub struct Watch {
     // The reports, how many of them were wrong, the largest count with its cap, and the last one's time.
     pub reports: usize,
