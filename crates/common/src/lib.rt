@@ -62,6 +62,7 @@ pub fn question_length(n: usize) -> usize
 
 // A part of what is lent becomes another. By index: std's `copy_from_slice` asks C's memmove of whoever links the
 // static library, and of what `iter_mut().zip(from)` leaves a proof knows the length alone.
+#[tactic(auto, using(crate::proofs::Copy::copy_turns))]
 pub fn copy_from(to: &mut [f64], from: &[f64])
     requires { length to.old ≡ length from.now }
     ensures { to.new ≡ from.now }
