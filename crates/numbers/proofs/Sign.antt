@@ -3,7 +3,7 @@
 --     negative-bits             the sign is set where the pattern is 2^63 or more
 --     copysign_negative, copysign_positive    the magnitude, negated where the other's sign is set
 --     signum_nan, signum_negative, signum_positive    1 with the sign of x, or a NaN
---     signum_is, negative_is, nan_positive    the library's words for the same, and that a NaN counts as positive
+--     negative_is, nan_positive    the library's word for the sign, and that a NaN counts as positive
 --     is_positive               what is above 0 and not infinity
 -- Assumes nothing.
 use mathlib.Core.Path.{◌≡◌, refl, sym}
@@ -19,7 +19,7 @@ use lib.Ieee.Fits.{up_pos}
 use lib.Ieee.Bits.{to_bits-lt}
 use lib.Ieee.Positive.{positive}
 use borrow.Author.Tests.{lt-ltb, le-leb, lt-leb}
-use Rattle.std.specs.Float.{float_signum, is_sign_negative}
+use Rattle.std.specs.Float.{is_sign_negative}
 use Rattle.loops.proofs.Test.{differs}
 use Rattle.numbers.specs.Float.{lit, zero_f}
 use Rattle.numbers.specs.Sign.{abs_of, negative, signum_of, copysign_of}
@@ -78,12 +78,6 @@ unfolding copysign_of abs_of
 copysign_positive nan y h = refl
 copysign_positive (inf s) y h = rw h
 copysign_positive (fin s m e) y h = rw h
-
-pub signum_is : (x : Float) → float_signum x ≡ signum_of x
-unfolding float_signum signum_of
-signum_is nan = refl
-signum_is (inf s) = refl
-signum_is (fin s m e) = refl
 
 pub signum_nan : (x : Float) → Ieee.is_nan x ≡ true → x ≡ signum_of x
 unfolding Ieee.is_nan signum_of
