@@ -23,12 +23,12 @@ impl<'a> Place<'a> {
 
     // So many words further.
     pub fn after(&self, k: usize) -> Place<'a>
-        requires { (self.now.at ≤ 1010000) × (k ≤ 10000) }
-        ensures { (result.words.now ≡ self.now.words.now) × (result.at ≡ self.now.at + k) }
+        ensures words { result.words.now ≡ self.now.words.now }
+        ensures moved { self.now.at + k ≤ 2000000 → result.at ≡ self.now.at + k }
     {
         Place {
             words: self.words,
-            at: self.at + k,
+            at: self.at.saturating_add(k),
         }
     }
 
