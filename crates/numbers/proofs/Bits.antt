@@ -37,7 +37,7 @@ past-infinity b h =
     (sym (nan_bits_is binary64 b) ∙ nan_bits_above binary64 b
     ∙ lt-ltb 0x7ff0_0000_0000_0000 (b % 0x8000_0000_0000_0000) h)
 
--- the pattern that every NaN is written with
+-- the pattern that every NaN is written with; cited by the wrong answer that gives it another
 pub nan_pattern : (x : Float) → Ieee.is_nan x ≡ true → 0x7ff8_0000_0000_0000 ≡ Ieee.to_bits binary64 x
 unfolding Ieee.to_bits
 nan_pattern x h = rw (is-nan x h)
@@ -47,5 +47,5 @@ pub nan_literal : Ieee.of_bits binary64 0x7ff8_0000_0000_0000 ≡ nan
 unfolding Ieee.of_bits
 nan_literal = refl
 
--- for a body that tells the patterns of NaNs by a test
+-- for the wrong answer of `from_bits` that tells the patterns of NaNs by a test, so that a right test would prove
 pub ruleset nans_by_test = (past-infinity, nan_literal)

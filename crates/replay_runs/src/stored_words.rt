@@ -21,7 +21,7 @@ impl<'a> Place<'a> {
         Place { words, at: 0 }
     }
 
-    // So many words further.
+    // So many words further. `moved` reaches beyond the end of any table here: `run` takes a million words.
     pub fn after(&self, k: usize) -> Place<'a>
         ensures words { result.words.now ≡ self.now.words.now }
         ensures moved { self.now.at + k ≤ 2000000 → result.at ≡ self.now.at + k }
